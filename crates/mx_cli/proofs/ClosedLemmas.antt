@@ -1,8 +1,8 @@
 -- The status of a run that was closed.
 use Rattle.std.proofs.Common.{◌≡◌, ◌∙◌, inl, inr, ℕ, Bool, IfOk, Result, Ok, Err}
 use Rattle.mx_plan.specs.Text.{Text}
-use Rattle.mx_cli.specs.declared.faults.Stop.{Stop}
-use Rattle.mx_cli.specs.declared.faults.Stop.TheVariants as stop
+use Rattle.mx_cli.specs.declared.faults.CommandError.{CommandError}
+use Rattle.mx_cli.specs.declared.faults.CommandError.TheVariants as command_error
 use Rattle.mx_cli.specs.Closed.{Closes, FallsShort, IsRunStatus}
 use Rattle.mx_io.specs.Outputs.{Held}
 
@@ -21,18 +21,18 @@ module _ (takes : Bool) (names : Text × Text) (old new : Held) (status : ℕ) w
   short_not_zero (inl h) zero = not_five status h.0 zero
   short_not_zero (inr h) zero = not_one status h.0 zero
 
-  pub closed_status : (ended : Result ℕ Stop) → IfOk ended (λ own. own ≡ 0) → Closes takes names ended old new status → IsRunStatus status
+  pub closed_status : (ended : Result ℕ CommandError) → IfOk ended (λ own. own ≡ 0) → Closes takes names ended old new status → IsRunStatus status
   closed_status (Ok own) zero (inl h) = inl (h.0 ∙ zero)
   closed_status (Ok own) zero (inr h) = short_status h
-  closed_status (Err (stop.Fault fault)) zero (inl h) = inr (inl h.0)
-  closed_status (Err (stop.Fault fault)) zero (inr h) = short_status h
-  closed_status (Err stop.Writer) zero h = inr (inl h.0)
-  closed_status (Err stop.Memory) zero h = short_status h
+  closed_status (Err (command_error.Fault fault)) zero (inl h) = inr (inl h.0)
+  closed_status (Err (command_error.Fault fault)) zero (inr h) = short_status h
+  closed_status (Err command_error.Writer) zero h = inr (inl h.0)
+  closed_status (Err command_error.Memory) zero h = short_status h
 
   -- a run that is closed with status 0 has done what it had to do
-  pub closed_done : {D : Type 0} (ended : Result ℕ Stop) → IfOk ended (λ _. D) → Closes takes names ended old new status → status ≡ 0 → D
+  pub closed_done : {D : Type 0} (ended : Result ℕ CommandError) → IfOk ended (λ _. D) → Closes takes names ended old new status → status ≡ 0 → D
   closed_done (Ok own) done h zero = done
-  closed_done (Err (stop.Fault fault)) done (inl h) zero = absurd (not_one status h.0 zero)
-  closed_done (Err (stop.Fault fault)) done (inr h) zero = absurd (short_not_zero h zero)
-  closed_done (Err stop.Writer) done h zero = absurd (not_one status h.0 zero)
-  closed_done (Err stop.Memory) done h zero = absurd (short_not_zero h zero)
+  closed_done (Err (command_error.Fault fault)) done (inl h) zero = absurd (not_one status h.0 zero)
+  closed_done (Err (command_error.Fault fault)) done (inr h) zero = absurd (short_not_zero h zero)
+  closed_done (Err command_error.Writer) done h zero = absurd (not_one status h.0 zero)
+  closed_done (Err command_error.Memory) done h zero = absurd (short_not_zero h zero)

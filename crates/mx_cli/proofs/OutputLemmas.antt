@@ -8,7 +8,7 @@ use Rattle.mx_stamps.proofs.Lists.{append_nil}
 use Rattle.mx_plan.specs.Text.{Text}
 use Rattle.mx_io.specs.Outputs.{Held}
 use Rattle.mx_cli.specs.Outputs.{AppendsSome}
-use Rattle.mx_cli.specs.Told.{TellsFault}
+use Rattle.mx_cli.specs.Reports.{ReportsFault}
 
 pub Appends-nil : (a : Held) → Appends a a []
 Appends-nil None = tt
@@ -52,7 +52,7 @@ pub none_some : (a b : Held) (texts : List Text) → Keeps a b → AppendsSome a
 none_some a b texts p = (0, Appends-keeps a a b [] (Appends-nil a) p)
 
 -- a line that was written whole
-pub told_ok : (o : Option Text) (takes : Bool) (a b : Held) → IfSome o (Appends a b) → IfSome o (λ text. TellsFault takes text a b 1)
+pub told_ok : (o : Option Text) (takes : Bool) (a b : Held) → IfSome o (Appends a b) → IfSome o (λ text. ReportsFault takes text a b 1)
 told_ok None takes a b h = tt
 told_ok (Some text) takes a b h = inl (refl, h)
 
@@ -62,13 +62,13 @@ and_right : (t u : Bool) → u ≡ false → (t && u) ≡ false
 and_right true u e = e
 and_right false u e = refl
 
-tells_both : (t u : Bool) (text : Text) (a b : Held) (status : ℕ) → TellsFault u text a b status → TellsFault (t && u) text a b status
+tells_both : (t u : Bool) (text : Text) (a b : Held) (status : ℕ) → ReportsFault u text a b status → ReportsFault (t && u) text a b status
 tells_both t u text a b status (inl h) = inl h
 tells_both t u text a b status (inr (inl h)) = inr (inl h)
 tells_both t u text a b status (inr (inr h)) = inr (inr (h.0, and_right t u h.1, h.2))
 
 -- where another output may have refused too
-pub told_of_both : (o : Option Text) (t u : Bool) (a b : Held) (status : ℕ) → IfSome o (λ text. TellsFault u text a b status) → IfSome o (λ text. TellsFault (t && u) text a b status)
+pub told_of_both : (o : Option Text) (t u : Bool) (a b : Held) (status : ℕ) → IfSome o (λ text. ReportsFault u text a b status) → IfSome o (λ text. ReportsFault (t && u) text a b status)
 told_of_both None t u a b status h = tt
 told_of_both (Some text) t u a b status h = tells_both t u text a b status h
 

@@ -3,26 +3,26 @@ use Rattle.std.proofs.Common.{◌≡◌, ◌∙◌, ◌&&◌, ◌++◌, inl, ℕ
 use Rattle.std.specs.declared.alloc.Global.{Global}
 use Rattle.mx_plan.specs.Text.{Text}
 use Rattle.mx_cli.specs.declared.faults.Named.TheVariants.{Plan}
-use Rattle.mx_cli.specs.declared.faults.Stop.{Stop}
+use Rattle.mx_cli.specs.declared.faults.CommandError.{CommandError}
 use Rattle.mx_cli.specs.declared.planning.PlanAndText.{PlanAndText}
 use Rattle.mx_cli.specs.Asked.{AsksBoth, AsksBy, AsksInTurn}
 use Rattle.mx_cli.specs.Reading.{Fetches, ReadsBoth, is_dash, line_of, plan_told, rest_of, text_told}
 use Rattle.mx_io.specs.Told.{Asks, Telling}
 
 -- one text is both
-one_both : (o : Option Telling) (one : Vec ℕ Global) (result : Result PlanAndText Stop) → IfSome o (λ telling. Fetches Plan telling (Ok one))
+one_both : (o : Option Telling) (one : Vec ℕ Global) (result : Result PlanAndText CommandError) → IfSome o (λ telling. Fetches Plan telling (Ok one))
     → ReadsBoth (Some (line_of (Some one.items))) (Some (rest_of (Some one.items))) result → ReadsBoth (option_map line_of o) (option_map rest_of o) result
 one_both None one (Ok both) fetched h = (tt, tt)
 one_both None one (Err end) fetched h = inl tt
 one_both (Some None) one result fetched h = absurd fetched
 one_both (Some (Some bytes)) one result fetched h = subst (λ (l : List ℕ). ReadsBoth (Some (line_of (Some l))) (Some (rest_of (Some l))) result) fetched h
 
-pub one_read : (o : Option Telling) (one : Vec ℕ Global) (bytes : List ℕ) (result : Result PlanAndText Stop) → IfSome o (λ telling. Fetches Plan telling (Ok one)) → bytes ≡ one.items
+pub one_read : (o : Option Telling) (one : Vec ℕ Global) (bytes : List ℕ) (result : Result PlanAndText CommandError) → IfSome o (λ telling. Fetches Plan telling (Ok one)) → bytes ≡ one.items
     → ReadsBoth (Some (line_of (Some bytes))) (Some (rest_of (Some bytes))) result → ReadsBoth (option_map line_of o) (option_map rest_of o) result
 one_read o one bytes result fetched is h =
     one_both o one result fetched (subst (λ (l : List ℕ). ReadsBoth (Some (line_of (Some l))) (Some (rest_of (Some l))) result) is h)
 
-module _ (told : Text → Option Telling) (names : Text × Text) (result : Result PlanAndText Stop) where
+module _ (told : Text → Option Telling) (names : Text × Text) (result : Result PlanAndText CommandError) where
   -- by whether both names are standard input
   pub dashes_read : (is_dash names.0 && is_dash names.1) ≡ true → ReadsBoth (option_map line_of (told names.0)) (option_map rest_of (told names.0)) result
       → ReadsBoth (plan_told told names) (text_told told names) result
@@ -41,7 +41,7 @@ asks_on (Some x) None c xs ys p q = absurd p
 asks_on (Some x) (Some y) None xs ys p q = absurd q
 asks_on (Some x) (Some y) (Some z) xs ys p q = q ∙ ap (λ l. l ++ ys) p ∙ append_assoc x xs ys
 
-module _ (names : Text × Text) (old new : Option (List Text)) (result : Result PlanAndText Stop) where
+module _ (names : Text × Text) (old new : Option (List Text)) (result : Result PlanAndText CommandError) where
   pub dashes_asked : (is_dash names.0 && is_dash names.1) ≡ true → Asks old new (names.0 ∷ []) → AsksBoth names old new result
   dashes_asked both h = rw both h
 
@@ -49,9 +49,9 @@ module _ (names : Text × Text) (old new : Option (List Text)) (result : Result 
   names_asked other h = rw other h
 
 -- it says nothing of why there is no plan
-asked_so : (b : Bool) (names : Text × Text) (old new : Option (List Text)) (end other : Stop) → AsksBy b names old new (Err end) → AsksBy b names old new (Err other)
+asked_so : (b : Bool) (names : Text × Text) (old new : Option (List Text)) (end other : CommandError) → AsksBy b names old new (Err end) → AsksBy b names old new (Err other)
 asked_so true names old new end other h = h
 asked_so false names old new end other h = h
 
-pub asked_otherwise : (names : Text × Text) (old new : Option (List Text)) (end other : Stop) → AsksBoth names old new (Err end) → AsksBoth names old new (Err other)
+pub asked_otherwise : (names : Text × Text) (old new : Option (List Text)) (end other : CommandError) → AsksBoth names old new (Err end) → AsksBoth names old new (Err other)
 asked_otherwise names old new end other h = asked_so (is_dash names.0 && is_dash names.1) names old new end other h

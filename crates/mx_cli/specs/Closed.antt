@@ -2,16 +2,16 @@
 use Rattle.std.specs.Prelude.{◌≡◌, ◌⊎◌, ℕ, Bool, false, Result, Ok, Err}
 use Rattle.std.specs.Io.KnownBytes.{Appends, Keeps}
 use Rattle.mx_plan.specs.Text.{Text}
-use Rattle.mx_cli.specs.declared.faults.Stop.{Stop}
-use Rattle.mx_cli.specs.declared.faults.Stop.TheVariants as stop
+use Rattle.mx_cli.specs.declared.faults.CommandError.{CommandError}
+use Rattle.mx_cli.specs.declared.faults.CommandError.TheVariants as command_error
 use Rattle.mx_io.specs.Outputs.{Held}
 use Rattle.mx_cli.specs.FaultLines.{fault_line}
-use Rattle.mx_cli.specs.Told.{MayTell}
+use Rattle.mx_cli.specs.Reports.{MayReport}
 
 -- memory ran out, or an output refused, which one that takes all bytes never does
 abbrev pub FallsShort : Bool → Held → Held → ℕ → Type 0
 FallsShort takes_all old new status =
-    ((status ≡ 5) × MayTell old new) ⊎ ((status ≡ 1) × (takes_all ≡ false) × Keeps old new)
+    ((status ≡ 5) × MayReport old new) ⊎ ((status ≡ 1) × (takes_all ≡ false) × Keeps old new)
 
 -- the statuses of a command on a plan: all went well; a fault, or an output that refused; memory
 -- ran out
@@ -25,10 +25,10 @@ PassesOn old new kept_back status =
     (kept_back ≡ false) ⊎ ((status ≡ 1) × Keeps old new) ⊎ (status ≡ 5)
 
 -- a run that ended so is closed: by its own end, unless it falls short
-abbrev pub Closes : Bool → Text × Text → Result ℕ Stop → Held → Held → ℕ → Type 0
+abbrev pub Closes : Bool → Text × Text → Result ℕ CommandError → Held → Held → ℕ → Type 0
 Closes takes_all names (Ok own) old new status =
     ((status ≡ own) × Keeps old new) ⊎ FallsShort takes_all old new status
-Closes takes_all names (Err (stop.Fault fault)) old new status =
+Closes takes_all names (Err (command_error.Fault fault)) old new status =
     ((status ≡ 1) × Appends old new (fault_line names fault)) ⊎ FallsShort takes_all old new status
-Closes takes_all names (Err stop.Writer) old new status = (status ≡ 1) × Keeps old new
-Closes takes_all names (Err stop.Memory) old new status = FallsShort takes_all old new status
+Closes takes_all names (Err command_error.Writer) old new status = (status ≡ 1) × Keeps old new
+Closes takes_all names (Err command_error.Memory) old new status = FallsShort takes_all old new status

@@ -8,7 +8,7 @@ pub mod Words
 pub mod LiveWords
 pub mod FaultLines
 pub mod Outputs
-pub mod Told
+pub mod Reports
 pub mod Reading
 pub mod Asked
 pub mod Naming

@@ -7,8 +7,8 @@ use Rattle.mx_cli.specs.declared.faults.Fault.{Fault}
 use Rattle.mx_cli.specs.declared.faults.Fault.TheVariants.{CannotRead, BadText, NotJson, NoParcel}
 use Rattle.mx_cli.specs.declared.faults.Named.{Named}
 use Rattle.mx_cli.specs.declared.faults.Named.TheVariants.{Plan}
-use Rattle.mx_cli.specs.declared.faults.Stop.{Stop}
-use Rattle.mx_cli.specs.declared.faults.Stop.TheVariants as stop
+use Rattle.mx_cli.specs.declared.faults.CommandError.{CommandError}
+use Rattle.mx_cli.specs.declared.faults.CommandError.TheVariants as command_error
 use Rattle.mx_cli.specs.Reading.{ReadsBoth, plan_told, text_told}
 use Rattle.mx_io.specs.Told.{Telling}
 
@@ -23,18 +23,18 @@ fault_named part (BadText fault) = text_named part fault
 fault_named part (NotJson name) = NotJson name
 fault_named part (NoParcel k) = NoParcel k
 
-abbrev pub stop_named : Named → Stop → Stop
-stop_named part (stop.Fault fault) = stop.Fault (fault_named part fault)
-stop_named part stop.Writer = stop.Writer
-stop_named part stop.Memory = stop.Memory
+abbrev pub error_named : Named → CommandError → CommandError
+error_named part (command_error.Fault fault) = command_error.Fault (fault_named part fault)
+error_named part command_error.Writer = command_error.Writer
+error_named part command_error.Memory = command_error.Memory
 
 -- the end of what was done with a text of this name
-abbrev pub naming : Named → Result ℕ Stop → Result ℕ Stop
+abbrev pub naming : Named → Result ℕ CommandError → Result ℕ CommandError
 naming part (Ok status) = Ok status
-naming part (Err end) = Err (stop_named part end)
+naming part (Err end) = Err (error_named part end)
 
 -- why a plan and the text that comes with it were not read: a plan that is no JSON is named
-abbrev pub IsUnread : (Text → Option Telling) → Text × Text → Stop → Type 0
+abbrev pub IsUnread : (Text → Option Telling) → Text × Text → CommandError → Type 0
 IsUnread told names end =
-    (read : Stop) × ReadsBoth (plan_told told names) (text_told told names) (Err read)
-    × (end ≡ stop_named Plan read)
+    (read : CommandError) × ReadsBoth (plan_told told names) (text_told told names) (Err read)
+    × (end ≡ error_named Plan read)

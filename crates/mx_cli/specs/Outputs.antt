@@ -3,8 +3,8 @@ use Rattle.std.specs.Prelude.{◌≡◌, ℕ, List, Bool, true, false, Result, O
 use Rattle.std.specs.Io.KnownBytes.{Appends}
 use Rattle.std.specs.List.{concat}
 use Rattle.mx_plan.specs.Text.{Text}
-use Rattle.mx_cli.specs.declared.faults.Stop.{Stop}
-use Rattle.mx_cli.specs.declared.faults.Stop.TheVariants as stop
+use Rattle.mx_cli.specs.declared.faults.CommandError.{CommandError}
+use Rattle.mx_cli.specs.declared.faults.CommandError.TheVariants as command_error
 use Rattle.mx_io.specs.Outputs.{Held}
 use Rattle.mx_io.specs.declared.output.OutputFault.{OutputFault}
 use Rattle.mx_io.specs.declared.output.OutputFault.TheVariants as output_fault
@@ -14,20 +14,20 @@ abbrev pub AppendsSome : Held → Held → List Text → Type 0
 AppendsSome old new texts = (n : ℕ) × Appends old new (concat (take n texts))
 
 -- whether an output has refused something, after a run
-abbrev pub refused_after : {T : Type 0} → Result T Stop → Bool → Bool
+abbrev pub refused_after : {T : Type 0} → Result T CommandError → Bool → Bool
 refused_after (Ok t) before = before
-refused_after (Err (stop.Fault fault)) before = before
-refused_after (Err stop.Writer) before = true
-refused_after (Err stop.Memory) before = before
+refused_after (Err (command_error.Fault fault)) before = before
+refused_after (Err command_error.Writer) before = true
+refused_after (Err command_error.Memory) before = before
 
 -- why a run stops at a text that an output did not take
-abbrev pub stop_of : OutputFault → Stop
-stop_of output_fault.Refused = stop.Writer
-stop_of output_fault.Memory = stop.Memory
+abbrev pub error_of : OutputFault → CommandError
+error_of output_fault.Refused = command_error.Writer
+error_of output_fault.Memory = command_error.Memory
 
 -- a run that is not cut short leaves nothing kept back
-abbrev pub IsPassedOn : {T : Type 0} → Result T Stop → Bool → Type 0
+abbrev pub IsPassedOn : {T : Type 0} → Result T CommandError → Bool → Type 0
 IsPassedOn (Ok t) kept_back = kept_back ≡ false
-IsPassedOn (Err (stop.Fault fault)) kept_back = kept_back ≡ false
-IsPassedOn (Err stop.Writer) kept_back = ⊤
-IsPassedOn (Err stop.Memory) kept_back = ⊤
+IsPassedOn (Err (command_error.Fault fault)) kept_back = kept_back ≡ false
+IsPassedOn (Err command_error.Writer) kept_back = ⊤
+IsPassedOn (Err command_error.Memory) kept_back = ⊤

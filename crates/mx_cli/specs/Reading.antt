@@ -13,8 +13,8 @@ use Rattle.mx_cli.specs.declared.faults.Fault.{Fault}
 use Rattle.mx_cli.specs.declared.faults.Fault.TheVariants.{CannotRead, BadText}
 use Rattle.mx_cli.specs.declared.faults.Named.{Named}
 use Rattle.mx_cli.specs.declared.faults.Named.TheVariants.{Plan, Events}
-use Rattle.mx_cli.specs.declared.faults.Stop.{Stop}
-use Rattle.mx_cli.specs.declared.faults.Stop.TheVariants as stop
+use Rattle.mx_cli.specs.declared.faults.CommandError.{CommandError}
+use Rattle.mx_cli.specs.declared.faults.CommandError.TheVariants as command_error
 use Rattle.mx_cli.specs.declared.planning.PlanAndText.{PlanAndText}
 use Rattle.mx_io.specs.Told.{Telling}
 
@@ -41,11 +41,11 @@ text_told told names =
     if is_dash names.0 && is_dash names.1 then option_map rest_of (told names.0) else told names.1
 
 -- the bytes that a source tells of a name
-abbrev pub Fetches : Named → Telling → Result (Vec ℕ Global) Stop → Type 0
+abbrev pub Fetches : Named → Telling → Result (Vec ℕ Global) CommandError → Type 0
 Fetches named (Some bytes) (Ok v) = v.items ≡ bytes
 Fetches named None (Ok v) = ⊥
-Fetches named (Some bytes) (Err fault) = fault ≡ stop.Memory
-Fetches named None (Err fault) = (fault ≡ stop.Fault (CannotRead named)) ⊎ (fault ≡ stop.Memory)
+Fetches named (Some bytes) (Err fault) = fault ≡ command_error.Memory
+Fetches named None (Err fault) = (fault ≡ command_error.Fault (CannotRead named)) ⊎ (fault ≡ command_error.Memory)
 
 -- why a text is refused. That memory ran out is no reason: nothing is refused for it
 abbrev pub fault_of : PlanFault → Option Fault
@@ -59,16 +59,16 @@ pub record IsRead (bytes : List ℕ) (planned : Result Fields PlanFault) : Type 
   pub valid : IfOk planned IsPlan
 
 -- why a run stops at a text that is refused
-abbrev pub refusal_of : PlanFault → Stop
-refusal_of fault = option_map_or stop.Fault (fault_of fault) stop.Memory
+abbrev pub refusal_of : PlanFault → CommandError
+refusal_of fault = option_map_or command_error.Fault (fault_of fault) command_error.Memory
 
 -- a plan was read, or why it was not
-abbrev pub Reads : Telling → Result Fields Stop → Type 0
+abbrev pub Reads : Telling → Result Fields CommandError → Type 0
 Reads None (Ok p) = ⊥
-Reads None (Err end) = (end ≡ stop.Fault (CannotRead Plan)) ⊎ (end ≡ stop.Memory)
+Reads None (Err end) = (end ≡ command_error.Fault (CannotRead Plan)) ⊎ (end ≡ command_error.Memory)
 Reads (Some bytes) (Ok p) = IsRead bytes (Ok p)
 Reads (Some bytes) (Err end) =
-    (end ≡ stop.Memory) ⊎ ((fault : PlanFault) × IsRead bytes (Err fault)
+    (end ≡ command_error.Memory) ⊎ ((fault : PlanFault) × IsRead bytes (Err fault)
     × (end ≡ refusal_of fault))
 
 -- the plan was read, where the source tells of it
@@ -77,7 +77,7 @@ IsPlanOf told p = IfSome told (λ telling. Reads telling (Ok p))
 
 -- a plan was read and the text that comes with it was fetched; or the plan was not read; or it was,
 -- and the text was not fetched
-abbrev pub ReadsBoth : Option Telling → Option Telling → Result PlanAndText Stop → Type 0
+abbrev pub ReadsBoth : Option Telling → Option Telling → Result PlanAndText CommandError → Type 0
 ReadsBoth plan text (Ok both) =
     IsPlanOf plan both.plan × IfSome text (λ telling. telling ≡ Some both.text.items)
 ReadsBoth plan text (Err end) =

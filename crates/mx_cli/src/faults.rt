@@ -25,48 +25,48 @@ pub enum Fault {
 
 /// Why a run ends early.
 #[derive(Clone, Copy, Debug)]
-pub enum Stop {
+pub enum CommandError {
     Fault(Fault),
     /// An output refused a text. Nothing more is printed.
     Writer,
     Memory,
 }
 
-impl From<AllocError> for Stop {
+impl From<AllocError> for CommandError {
     ghost use Rattle.std.specs.Prelude.{◌≡◌};
-    ghost use Rattle.mx_cli.specs.declared.faults.Stop.TheVariants.{Memory};
+    ghost use Rattle.mx_cli.specs.declared.faults.CommandError.TheVariants.{Memory};
 
     ghost from_gives = { λ _ s. s ≡ Memory };
 
-    fn from(_e: AllocError) -> Stop {
-        Stop::Memory
+    fn from(_e: AllocError) -> CommandError {
+        CommandError::Memory
     }
 }
 
-impl From<OutputFault> for Stop {
+impl From<OutputFault> for CommandError {
     ghost use Rattle.std.specs.Prelude.{◌≡◌};
-    ghost use Rattle.mx_cli.specs.Outputs.{stop_of};
+    ghost use Rattle.mx_cli.specs.Outputs.{error_of};
 
-    ghost from_gives = { λ fault s. s ≡ stop_of fault };
+    ghost from_gives = { λ fault s. s ≡ error_of fault };
 
-    fn from(fault: OutputFault) -> Stop {
+    fn from(fault: OutputFault) -> CommandError {
         match fault {
-            OutputFault::Refused => Stop::Writer,
-            OutputFault::Memory => Stop::Memory,
+            OutputFault::Refused => CommandError::Writer,
+            OutputFault::Memory => CommandError::Memory,
         }
     }
 }
 
-impl From<PlanFault> for Stop {
+impl From<PlanFault> for CommandError {
     ghost use Rattle.std.specs.Prelude.{◌≡◌};
     ghost use Rattle.mx_cli.specs.Reading.{refusal_of};
 
     ghost from_gives = { λ fault s. s ≡ refusal_of fault };
 
-    fn from(fault: PlanFault) -> Stop {
+    fn from(fault: PlanFault) -> CommandError {
         match fault {
-            PlanFault::Memory => Stop::Memory,
-            _ => Stop::Fault(Fault::BadText(fault)),
+            PlanFault::Memory => CommandError::Memory,
+            _ => CommandError::Fault(Fault::BadText(fault)),
         }
     }
 }

@@ -21,14 +21,14 @@ mod tips;
 mod words;
 
 pub use fault_lines::FaultLine;
-pub use faults::{Fault, Named, Stop};
+pub use faults::{CommandError, Fault, Named};
 pub use first_line::{are_dashes, split_line};
 pub use forms::{command_in, takes_value};
 pub use line::matches_in;
 pub use live_words::{LiveRequest, parse_live};
-pub use not_json::{fetch_named, naming, stop_named};
+pub use not_json::{error_named, fetch_named, naming};
 pub use planning::{PlanAndText, fetch, fetch_both, fetch_plan, plan_in};
-pub use report::{put_line, refuse, tell, tell_line, tell_memory};
+pub use report::{refuse, report_fault, report_line, report_memory, write_line};
 pub use status::{close, close_with, is_refused};
 pub use table::CommandId;
 pub use words::{

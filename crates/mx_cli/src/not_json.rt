@@ -2,12 +2,12 @@
 
 ghost use Rattle.std.specs.Prelude.{◌≡◌, Bool, Ok, IfErr, IfOk};
 ghost use Rattle.mx_cli.specs.Asked.{AsksBoth};
-ghost use Rattle.mx_cli.specs.Naming.{IsUnread, fault_named, naming, stop_named, text_named};
+ghost use Rattle.mx_cli.specs.Naming.{IsUnread, fault_named, naming, error_named, text_named};
 ghost use Rattle.mx_cli.specs.Outputs.{refused_after};
 ghost use Rattle.mx_cli.specs.Reading.{ReadsBoth, plan_told, text_told};
 ghost use Rattle.mx_cli.specs.Words.{names_of};
 
-use crate::faults::{Fault, Named, Stop};
+use crate::faults::{CommandError, Fault, Named};
 use crate::planning::{PlanAndText, fetch_both};
 use crate::words::Names;
 use mx_io::Source;
@@ -20,7 +20,7 @@ pub fn fetch_named<S: Source>(
     alloc: Global,
     source: &mut S,
     names: &Names<'_>,
-) -> Result<PlanAndText, Stop>
+) -> Result<PlanAndText, CommandError>
     ensures ok { IfOk result (λ both. ReadsBoth (plan_told (S.told source.old) (names_of names.now))
         (text_told (S.told source.old) (names_of names.now)) (Ok both)) }
     ensures err { IfErr result (IsUnread (S.told source.old) (names_of names.now)) }
@@ -29,28 +29,28 @@ pub fn fetch_named<S: Source>(
 {
     match fetch_both(alloc, source, names) {
         Ok(both) => Ok(both),
-        Err(stop) => Err(stop_named(stop, Named::Plan)),
+        Err(error) => Err(error_named(error, Named::Plan)),
     }
 }
 
 /// The end of what was done with a text of this name. One that is no JSON is named.
-pub fn naming(ended: Result<u8, Stop>, part: Named) -> Result<u8, Stop>
+pub fn naming(ended: Result<u8, CommandError>, part: Named) -> Result<u8, CommandError>
     ensures { result ≡ naming part ended }
 {
     match ended {
         Ok(status) => Ok(status),
-        Err(stop) => Err(stop_named(stop, part)),
+        Err(error) => Err(error_named(error, part)),
     }
 }
 
 /// Why what was done with a text of this name stopped. One that is no JSON is named.
-pub fn stop_named(stop: Stop, part: Named) -> Stop
-    ensures { result ≡ stop_named part stop }
+pub fn error_named(error: CommandError, part: Named) -> CommandError
+    ensures { result ≡ error_named part error }
 {
-    match stop {
-        Stop::Fault(fault) => Stop::Fault(fault_named(fault, part)),
-        Stop::Writer => Stop::Writer,
-        Stop::Memory => Stop::Memory,
+    match error {
+        CommandError::Fault(fault) => CommandError::Fault(fault_named(fault, part)),
+        CommandError::Writer => CommandError::Writer,
+        CommandError::Memory => CommandError::Memory,
     }
 }
 

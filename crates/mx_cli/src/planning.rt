@@ -7,7 +7,7 @@ ghost use Rattle.mx_cli.specs.Outputs.{refused_after};
 ghost use Rattle.mx_cli.specs.Reading.{Reads, ReadsBoth, Fetches, line_of, plan_told, rest_of, text_told};
 ghost use Rattle.mx_cli.specs.Words.{names_of};
 
-use crate::faults::{Fault, Named, Stop};
+use crate::faults::{CommandError, Fault, Named};
 use crate::first_line::{are_dashes, split_line};
 use crate::words::Names;
 use mx_io::{Source, SourceFault};
@@ -27,7 +27,7 @@ pub fn fetch<S: Source>(
     source: &mut S,
     name: &str,
     named: Named,
-) -> Result<Vec<u8>, Stop>
+) -> Result<Vec<u8>, CommandError>
     ensures told { IfSome (S.told source.old name.now) (λ telling. Fetches named telling result) }
     ensures asks { Asks (S.asked source.old) (S.asked source.new) (name.now ∷ []) }
     ensures taken { (before : Bool) → refused_after result before ≡ before }
@@ -35,13 +35,17 @@ pub fn fetch<S: Source>(
 {
     match source.bytes(alloc, name) {
         Ok(bytes) => Ok(bytes),
-        Err(SourceFault::Unreadable) => Err(Stop::Fault(Fault::CannotRead(named))),
-        Err(SourceFault::Memory) => Err(Stop::Memory),
+        Err(SourceFault::Unreadable) => Err(CommandError::Fault(Fault::CannotRead(named))),
+        Err(SourceFault::Memory) => Err(CommandError::Memory),
     }
 }
 
 /// The plan of a name, or why there is none. The source's other names stay as they are.
-pub fn fetch_plan<S: Source>(alloc: Global, source: &mut S, name: &str) -> Result<Plan, Stop>
+pub fn fetch_plan<S: Source>(
+    alloc: Global,
+    source: &mut S,
+    name: &str,
+) -> Result<Plan, CommandError>
     ensures told { IfSome (S.told source.old name.now) (λ telling. Reads telling result) }
     ensures asks { Asks (S.asked source.old) (S.asked source.new) (name.now ∷ []) }
     ensures taken { (before : Bool) → refused_after result before ≡ before }
@@ -52,13 +56,13 @@ pub fn fetch_plan<S: Source>(alloc: Global, source: &mut S, name: &str) -> Resul
 }
 
 /// The plan that a text is.
-pub fn plan_in(alloc: Global, text: &[u8]) -> Result<Plan, Stop>
+pub fn plan_in(alloc: Global, text: &[u8]) -> Result<Plan, CommandError>
     ensures read { Reads (Some text.now) result }
     ensures taken { (before : Bool) → refused_after result before ≡ before }
 {
     match read_plan(alloc, text) {
         Ok(plan) => Ok(plan),
-        Err(fault) => Err(Stop::from(fault)),
+        Err(fault) => Err(CommandError::from(fault)),
     }
 }
 
@@ -70,7 +74,7 @@ pub fn fetch_both<S: Source>(
     alloc: Global,
     source: &mut S,
     names: &Names<'_>,
-) -> Result<PlanAndText, Stop>
+) -> Result<PlanAndText, CommandError>
     ensures read { ReadsBoth (plan_told (S.told source.old) (names_of names.now))
         (text_told (S.told source.old) (names_of names.now)) result }
     ensures asks { AsksBoth (names_of names.now) (S.asked source.old) (S.asked source.new) result }
@@ -84,7 +88,11 @@ pub fn fetch_both<S: Source>(
 }
 
 /// The plan and the bytes of one name.
-fn fetch_one<S: Source>(alloc: Global, source: &mut S, name: &str) -> Result<PlanAndText, Stop>
+fn fetch_one<S: Source>(
+    alloc: Global,
+    source: &mut S,
+    name: &str,
+) -> Result<PlanAndText, CommandError>
     ensures read { ReadsBoth (option_map line_of (S.told source.old name.now))
         (option_map rest_of (S.told source.old name.now)) result }
     ensures asks { Asks (S.asked source.old) (S.asked source.new) (name.now ∷ []) }
@@ -95,7 +103,7 @@ fn fetch_one<S: Source>(alloc: Global, source: &mut S, name: &str) -> Result<Pla
 }
 
 /// The plan in the first line of a text, and the bytes that follow it.
-fn both_in(alloc: Global, bytes: &[u8]) -> Result<PlanAndText, Stop>
+fn both_in(alloc: Global, bytes: &[u8]) -> Result<PlanAndText, CommandError>
     ensures read { ReadsBoth (Some (line_of (Some bytes.now)))
         (Some (rest_of (Some bytes.now))) result }
     ensures taken { (before : Bool) → refused_after result before ≡ before }
@@ -111,7 +119,7 @@ fn fetch_two<S: Source>(
     alloc: Global,
     source: &mut S,
     names: &Names<'_>,
-) -> Result<PlanAndText, Stop>
+) -> Result<PlanAndText, CommandError>
     ensures read { ReadsBoth (S.told source.old names.now.plan.now)
         (S.told source.old names.now.events.now) result }
     ensures asks { AsksInTurn (names_of names.now) (S.asked source.old) (S.asked source.new) result }

@@ -6,7 +6,7 @@ ghost use Rattle.clap.specs.Words.{App, HasKind, Text, fault_of, kind_of};
 ghost use Rattle.mx_cli.specs.Words.{names_of};
 ghost use Rattle.mx_io.specs.Outputs.{refused_by};
 ghost use Rattle.mx_cli.specs.FaultLines.{fault_line};
-ghost use Rattle.mx_cli.specs.Told.{Answers, Helps, MayTell, RunsOut, TellsFault, seen};
+ghost use Rattle.mx_cli.specs.Reports.{Answers, Helps, MayReport, RunsOut, ReportsFault, seen};
 
 use crate::fault_lines::FaultLine;
 use crate::faults::Fault;
@@ -27,41 +27,41 @@ pub fn refuse<O: Output, E: Output>(alloc: Global, e: &clap::Error, out: &mut O,
         (seen O.Output E.Output out.old err.old) (seen O.Output E.Output out.new err.new) result }
 {
     match e.kind() {
-        ErrorKind::OutOfMemory => tell_memory(err),
+        ErrorKind::OutOfMemory => report_memory(err),
         ErrorKind::DisplayHelp | ErrorKind::DisplayVersion => show(alloc, e, out, err),
         _ => report_usage(alloc, e, err),
     }
 }
 
 /// Writes the line of a fault, and returns the status.
-pub fn tell<E: Output>(alloc: Global, fault: Fault, names: &Names<'_>, err: &mut E) -> u8
-    ensures { TellsFault (E.takes_all err.old) (fault_line (names_of names.now) fault)
+pub fn report_fault<E: Output>(alloc: Global, fault: Fault, names: &Names<'_>, err: &mut E) -> u8
+    ensures { ReportsFault (E.takes_all err.old) (fault_line (names_of names.now) fault)
         (E.written err.old) (E.written err.new) result }
 {
     let line = FaultLine {
         fault,
         names: *names,
     };
-    tell_line(alloc, line, err)
+    report_line(alloc, line, err)
 }
 
 /// Writes a line of why a run ended, and returns the status.
-pub fn tell_line<E: Output, D: Display + Drop>(alloc: Global, line: D, err: &mut E) -> u8
+pub fn report_line<E: Output, D: Display + Drop>(alloc: Global, line: D, err: &mut E) -> u8
     ensures status { (result ≡ 1) ⊎ (result ≡ 5) }
-    ensures told { IfSome (D.output line) (λ text. TellsFault (E.takes_all err.old) text
+    ensures told { IfSome (D.output line) (λ text. ReportsFault (E.takes_all err.old) text
         (E.written err.old) (E.written err.new) result) }
 {
-    match put_line(alloc, err, line) {
+    match write_line(alloc, err, line) {
         Ok(()) => 1,
         Err(OutputFault::Refused) => 1,
-        Err(OutputFault::Memory) => tell_memory(err),
+        Err(OutputFault::Memory) => report_memory(err),
     }
 }
 
 /// Writes that memory ran out, where that can be written, and returns the status of that.
-pub fn tell_memory<E: Output>(err: &mut E) -> u8
+pub fn report_memory<E: Output>(err: &mut E) -> u8
     ensures status { result ≡ 5 }
-    ensures told { MayTell (E.written err.old) (E.written err.new) }
+    ensures told { MayReport (E.written err.old) (E.written err.new) }
 {
     let _ = err.put("mx: out of memory\n".as_bytes());
     5
@@ -75,17 +75,17 @@ fn show<O: Output, E: Output>(alloc: Global, e: &clap::Error, out: &mut O, err: 
     match put_and_flush(alloc, out, e) {
         Ok(()) => 0,
         Err(OutputFault::Refused) => 1,
-        Err(OutputFault::Memory) => tell_memory(err),
+        Err(OutputFault::Memory) => report_memory(err),
     }
 }
 
 /// Writes what is wrong with the words.
 fn report_usage<E: Output>(alloc: Global, e: &clap::Error, err: &mut E) -> u8
-    ensures { (result ≡ 2) ⊎ ((result ≡ 5) × MayTell (E.written err.old) (E.written err.new)) }
+    ensures { (result ≡ 2) ⊎ ((result ≡ 5) × MayReport (E.written err.old) (E.written err.new)) }
 {
     match write_usage(alloc, e, err) {
         Ok(()) | Err(OutputFault::Refused) => 2,
-        Err(OutputFault::Memory) => tell_memory(err),
+        Err(OutputFault::Memory) => report_memory(err),
     }
 }
 
@@ -108,12 +108,12 @@ fn put_and_flush<O: Output, D: Display + Drop>(
     ensures refused { O.has_refused out.new ≡ refused_by result (O.has_refused out.old) }
     ensures passed { OnOk result (O.keeps_back out.new ≡ false) }
 {
-    put_line(alloc, out, line)?;
+    write_line(alloc, out, line)?;
     out.flush()
 }
 
 /// Writes a text whole, or nothing of it.
-pub fn put_line<O: Output, D: Display + Drop>(
+pub fn write_line<O: Output, D: Display + Drop>(
     alloc: Global,
     out: &mut O,
     line: D,

@@ -4,10 +4,10 @@ ghost use Rattle.std.specs.Prelude.{◌≡◌, ◌⊎◌, ◌↔◌, ◌&&◌, E
 ghost use Rattle.std.specs.Io.KnownBytes.{Keeps};
 ghost use Rattle.mx_cli.specs.Words.{names_of};
 ghost use Rattle.mx_cli.specs.Closed.{Closes, IsRunStatus, PassesOn};
-ghost use Rattle.mx_cli.specs.Told.{TellsFault};
+ghost use Rattle.mx_cli.specs.Reports.{ReportsFault};
 
-use crate::faults::Stop;
-use crate::report::{tell, tell_line, tell_memory};
+use crate::faults::CommandError;
+use crate::report::{report_fault, report_line, report_memory};
 use crate::words::Names;
 use mx_io::{Output, OutputFault};
 use std::alloc::Global;
@@ -18,7 +18,7 @@ use std::fmt::Display;
 /// output that has refused is asked for nothing more.
 pub fn close<O: Output, E: Output>(
     alloc: Global,
-    ended: Result<u8, Stop>,
+    ended: Result<u8, CommandError>,
     names: &Names<'_>,
     out: &mut O,
     err: &mut E,
@@ -35,9 +35,9 @@ pub fn close<O: Output, E: Output>(
         return 1;
     }
     match out.flush() {
-        Ok(()) => tell_end(alloc, ended, names, err),
+        Ok(()) => report_end(alloc, ended, names, err),
         Err(OutputFault::Refused) => 1,
-        Err(OutputFault::Memory) => tell_memory(err),
+        Err(OutputFault::Memory) => report_memory(err),
     }
 }
 
@@ -50,7 +50,7 @@ pub fn close_with<O: Output, E: Output, D: Display + Drop>(
     err: &mut E,
 ) -> u8
     ensures told { IfSome (D.output line) (λ text.
-        TellsFault (O.takes_all out.old && E.takes_all err.old) text
+        ReportsFault (O.takes_all out.old && E.takes_all err.old) text
         (E.written err.old) (E.written err.new) result) }
     ensures status { (result ≡ 1) ⊎ (result ≡ 5) }
     ensures held { Keeps (O.written out.old) (O.written out.new) }
@@ -58,28 +58,33 @@ pub fn close_with<O: Output, E: Output, D: Display + Drop>(
         result }
 {
     match out.flush() {
-        Ok(()) => tell_line(alloc, line, err),
+        Ok(()) => report_line(alloc, line, err),
         Err(OutputFault::Refused) => 1,
-        Err(OutputFault::Memory) => tell_memory(err),
+        Err(OutputFault::Memory) => report_memory(err),
     }
 }
 
 /// Tells why a run ended early, where it did, and returns the status.
-fn tell_end<E: Output>(alloc: Global, ended: Result<u8, Stop>, names: &Names<'_>, err: &mut E) -> u8
+fn report_end<E: Output>(
+    alloc: Global,
+    ended: Result<u8, CommandError>,
+    names: &Names<'_>,
+    err: &mut E,
+) -> u8
     ensures { Closes (E.takes_all err.old) (names_of names.now) ended
         (E.written err.old) (E.written err.new) result }
 {
     match ended {
         Ok(status) => status,
-        Err(Stop::Fault(fault)) => tell(alloc, fault, names, err),
-        Err(Stop::Writer) => 1,
-        Err(Stop::Memory) => tell_memory(err),
+        Err(CommandError::Fault(fault)) => report_fault(alloc, fault, names, err),
+        Err(CommandError::Writer) => 1,
+        Err(CommandError::Memory) => report_memory(err),
     }
 }
 
 /// Whether an output has refused.
-pub fn is_refused(ended: &Result<u8, Stop>) -> bool
-    ensures { IsTrue result ↔ (ended.now ≡ Err Stop.Writer) }
+pub fn is_refused(ended: &Result<u8, CommandError>) -> bool
+    ensures { IsTrue result ↔ (ended.now ≡ Err CommandError.Writer) }
 {
-    matches!(ended, Err(Stop::Writer))
+    matches!(ended, Err(CommandError::Writer))
 }

@@ -6,70 +6,70 @@ use Rattle.std.specs.List.{concat}
 use Rattle.mx_cli.specs.Words.{Request}
 use Rattle.mx_plan.specs.Text.{Text}
 use Rattle.mx_cli.specs.declared.faults.Fault.{Fault}
-use Rattle.mx_cli.specs.declared.faults.Stop.{Stop}
-use Rattle.mx_cli.specs.declared.faults.Stop.TheVariants as stop
+use Rattle.mx_cli.specs.declared.faults.CommandError.{CommandError}
+use Rattle.mx_cli.specs.declared.faults.CommandError.TheVariants as command_error
 use Rattle.mx_io.specs.declared.output.OutputFault.{OutputFault}
 use Rattle.mx_io.specs.declared.output.OutputFault.TheVariants as output_fault
 use Rattle.mx_cli.specs.FaultLines.{fault_line}
 use Rattle.mx_io.specs.Told.{Telling}
 use Rattle.mx_io.specs.Outputs.{Held}
-use Rattle.mx_cli.specs.Outputs.{AppendsSome, IsPassedOn, refused_after, stop_of}
+use Rattle.mx_cli.specs.Outputs.{AppendsSome, IsPassedOn, refused_after, error_of}
 use Rattle.mx_commands.specs.Runs.{Report}
 use Rattle.mx_commands.specs.Jobs.{HoldsOfReport, Job, job_of, names_in}
 use Rattle.mx_cli.specs.Closed.{IsRunStatus}
 use Rattle.mx_commands.specs.Ran.{EndsEarly, FailsAtOnce, Prints, Ran, RanOf, Runs, end_text, status_of}
-use Rattle.mx_cli.specs.Told.{MayTell, RunsOut, Seen, TellsFault}
+use Rattle.mx_cli.specs.Reports.{MayReport, RunsOut, Seen, ReportsFault}
 use Rattle.mx_commands.proofs.JobLemmas.{of_jobs}
 use Rattle.mx_cli.proofs.OutputLemmas.{Appends-keeps, Appends-nil, Keeps-refl, all_some, keeps_on, some_keeps}
 use Rattle.mx_commands.proofs.RunLemmas.{is_false, refused_not_memory}
 
 -- ---- the flush
 
-pub ran_keeps : (t : Bool) (a b c : Held) (r : Report) (res : Result ℕ Stop) → Ran t a b r res → Keeps b c → Ran t a c r res
+pub ran_keeps : (t : Bool) (a b c : Held) (r : Report) (res : Result ℕ CommandError) → Ran t a b r res → Keeps b c → Ran t a c r res
 ran_keeps t a b c r (Ok v) h same = (h.0, Appends-keeps a b c (concat r.texts) h.1 same)
-ran_keeps t a b c r (Err (stop.Fault f)) h same = (h.0, Appends-keeps a b c (concat r.texts) h.1 same)
-ran_keeps t a b c r (Err stop.Writer) h same = (h.0, some_keeps a b c r.texts h.1 same)
-ran_keeps t a b c r (Err stop.Memory) h same = some_keeps a b c r.texts h same
+ran_keeps t a b c r (Err (command_error.Fault f)) h same = (h.0, Appends-keeps a b c (concat r.texts) h.1 same)
+ran_keeps t a b c r (Err command_error.Writer) h same = (h.0, some_keeps a b c r.texts h.1 same)
+ran_keeps t a b c r (Err command_error.Memory) h same = some_keeps a b c r.texts h same
 
-ran_some : (t : Bool) (a b : Held) (r : Report) (res : Result ℕ Stop) → Ran t a b r res → AppendsSome a b r.texts
+ran_some : (t : Bool) (a b : Held) (r : Report) (res : Result ℕ CommandError) → Ran t a b r res → AppendsSome a b r.texts
 ran_some t a b r (Ok v) h = all_some a b r.texts h.1
-ran_some t a b r (Err (stop.Fault f)) h = all_some a b r.texts h.1
-ran_some t a b r (Err stop.Writer) h = h.1
-ran_some t a b r (Err stop.Memory) h = h
+ran_some t a b r (Err (command_error.Fault f)) h = all_some a b r.texts h.1
+ran_some t a b r (Err command_error.Writer) h = h.1
+ran_some t a b r (Err command_error.Memory) h = h
 
-module _ (t : Bool) (a b c : Held) (told : Text → Option Telling) (request : Request) (res : Result ℕ Stop) (ran : RanOf t a b told request res) (same : Keeps b c) where
+module _ (t : Bool) (a b c : Held) (told : Text → Option Telling) (request : Request) (res : Result ℕ CommandError) (ran : RanOf t a b told request res) (same : Keeps b c) where
   -- nothing was kept back, or what was kept back was passed on
   pub flushed : RanOf t a c told request res
   flushed =
       of_jobs (job_of told request) (EndsEarly t res × Keeps a b) (EndsEarly t res × Keeps a c) (λ r. Ran t a b r res) (λ r. Ran t a c r res)
       (λ x. (x.0, keeps_on a b c x.1 same)) (λ r h. ran_keeps t a b c r res h same) ran
 
-  unflushed_early : (u : Bool) (f : OutputFault) → u ≡ t → (u ≡ true → f ≡ output_fault.Memory) → EndsEarly t (Err (stop_of f))
+  unflushed_early : (u : Bool) (f : OutputFault) → u ≡ t → (u ≡ true → f ≡ output_fault.Memory) → EndsEarly t (Err (error_of f))
   unflushed_early u output_fault.Refused is takes = sym is ∙ is_false u (λ e. refused_not_memory (takes e))
   unflushed_early u output_fault.Memory is takes = tt
 
-  unflushed_ran : (u : Bool) (r : Report) (f : OutputFault) → u ≡ t → (u ≡ true → f ≡ output_fault.Memory) → Ran t a b r res → Ran t a c r (Err (stop_of f))
+  unflushed_ran : (u : Bool) (r : Report) (f : OutputFault) → u ≡ t → (u ≡ true → f ≡ output_fault.Memory) → Ran t a b r res → Ran t a c r (Err (error_of f))
   unflushed_ran u r output_fault.Refused is takes h = (sym is ∙ is_false u (λ e. refused_not_memory (takes e)), some_keeps a b c r.texts (ran_some t a b r res h) same)
   unflushed_ran u r output_fault.Memory is takes h = some_keeps a b c r.texts (ran_some t a b r res h) same
 
   -- what was kept back was refused
-  pub unflushed : (u : Bool) (f : OutputFault) → u ≡ t → (u ≡ true → f ≡ output_fault.Memory) → RanOf t a c told request (Err (stop_of f))
+  pub unflushed : (u : Bool) (f : OutputFault) → u ≡ t → (u ≡ true → f ≡ output_fault.Memory) → RanOf t a c told request (Err (error_of f))
   unflushed u f is takes =
-      of_jobs (job_of told request) (EndsEarly t res × Keeps a b) (EndsEarly t (Err (stop_of f)) × Keeps a c) (λ r. Ran t a b r res) (λ r. Ran t a c r (Err (stop_of f)))
+      of_jobs (job_of told request) (EndsEarly t res × Keeps a b) (EndsEarly t (Err (error_of f)) × Keeps a c) (λ r. Ran t a b r res) (λ r. Ran t a c r (Err (error_of f)))
       (λ x. (unflushed_early u f is takes, keeps_on a b c x.1 same)) (λ r h. unflushed_ran u r f is takes h) ran
 
 -- a run that is not refused has refused nothing new
-pub not_refused : (res : Result ℕ Stop) (b : Bool) → (res ≡ Err stop.Writer → ⊥) → refused_after res b ≡ b
+pub not_refused : (res : Result ℕ CommandError) (b : Bool) → (res ≡ Err command_error.Writer → ⊥) → refused_after res b ≡ b
 not_refused (Ok v) b h = refl
-not_refused (Err (stop.Fault f)) b h = refl
-not_refused (Err stop.Writer) b h = absurd (h refl)
-not_refused (Err stop.Memory) b h = refl
+not_refused (Err (command_error.Fault f)) b h = refl
+not_refused (Err command_error.Writer) b h = absurd (h refl)
+not_refused (Err command_error.Memory) b h = refl
 
-pub passed_on : (res : Result ℕ Stop) (kept : Bool) → kept ≡ false → IsPassedOn res kept
+pub passed_on : (res : Result ℕ CommandError) (kept : Bool) → kept ≡ false → IsPassedOn res kept
 passed_on (Ok v) kept h = h
-passed_on (Err (stop.Fault f)) kept h = h
-passed_on (Err stop.Writer) kept h = tt
-passed_on (Err stop.Memory) kept h = tt
+passed_on (Err (command_error.Fault f)) kept h = h
+passed_on (Err command_error.Writer) kept h = tt
+passed_on (Err command_error.Memory) kept h = tt
 
 pub true_not_false : (b : Bool) → IsTrue b → b ≡ false → ⊥
 true_not_false b is other = let h : b ≡ true = is in cc
@@ -85,7 +85,7 @@ and_right false u e = refl
 
 module _ (t u : Bool) (told : Text → Option Telling) (request : Request) (old new : Seen) where
   -- a command from a run
-  runs_from : (res : Result ℕ Stop) (status : ℕ) → (EndsEarly t res × Keeps old.out new.out → FailsAtOnce (t && u) old new status)
+  runs_from : (res : Result ℕ CommandError) (status : ℕ) → (EndsEarly t res × Keeps old.out new.out → FailsAtOnce (t && u) old new status)
       → ((r : Report) → Ran t old.out new.out r res → Prints (t && u) (names_in request) r old new status) → RanOf t old.out new.out told request res → Runs (t && u) told request old new status
   runs_from res status early late h =
       of_jobs (job_of told request) (EndsEarly t res × Keeps old.out new.out) (FailsAtOnce (t && u) old new status) (λ r. Ran t old.out new.out r res)
@@ -100,8 +100,8 @@ module _ (t u : Bool) (told : Text → Option Telling) (request : Request) (old 
     passed = passed;
   })) h
 
-  told_fault : (f : Fault) (status : ℕ) (r : Report) → TellsFault u (fault_line (names_in request) f) old.err new.err status → new.kept_back ≡ false → new.refused ≡ old.refused
-      → Ran t old.out new.out r (Err (stop.Fault f)) → Prints (t && u) (names_in request) r old new status
+  told_fault : (f : Fault) (status : ℕ) (r : Report) → ReportsFault u (fault_line (names_in request) f) old.err new.err status → new.kept_back ≡ false → new.refused ≡ old.refused
+      → Ran t old.out new.out r (Err (command_error.Fault f)) → Prints (t && u) (names_in request) r old new status
   told_fault f status r (inl line) passed taken h = inl (record {
     status_is = line.0 ∙ ap status_of (sym h.0);
     lines = h.1;
@@ -122,27 +122,27 @@ module _ (t u : Bool) (told : Text → Option Telling) (request : Request) (old 
   }))
 
   -- a fault was told, or was to be told
-  pub runs_fault : (f : Fault) (status : ℕ) → TellsFault u (fault_line (names_in request) f) old.err new.err status → new.kept_back ≡ false → new.refused ≡ old.refused
-      → RanOf t old.out new.out told request (Err (stop.Fault f)) → Runs (t && u) told request old new status
-  runs_fault f status line passed taken h = runs_from (Err (stop.Fault f)) status (λ x. absurd x.0) (λ r ran. told_fault f status r line passed taken ran) h
+  pub runs_fault : (f : Fault) (status : ℕ) → ReportsFault u (fault_line (names_in request) f) old.err new.err status → new.kept_back ≡ false → new.refused ≡ old.refused
+      → RanOf t old.out new.out told request (Err (command_error.Fault f)) → Runs (t && u) told request old new status
+  runs_fault f status line passed taken h = runs_from (Err (command_error.Fault f)) status (λ x. absurd x.0) (λ r ran. told_fault f status r line passed taken ran) h
 
   silent : new.err ≡ old.err → Keeps old.err new.err
   silent same = subst (λ (x : Held). Keeps old.err x) (sym same) (Keeps-refl old.err)
 
-  pub runs_refused : new.err ≡ old.err → RanOf t old.out new.out told request (Err stop.Writer) → Runs (t && u) told request old new 1
-  runs_refused same h = runs_from (Err stop.Writer) 1 (λ x. (x.1, inr (refl, and_left t u x.0, silent same))) (λ r ran. inr (inr (record {
+  pub runs_refused : new.err ≡ old.err → RanOf t old.out new.out told request (Err command_error.Writer) → Runs (t && u) told request old new 1
+  runs_refused same h = runs_from (Err command_error.Writer) 1 (λ x. (x.1, inr (refl, and_left t u x.0, silent same))) (λ r ran. inr (inr (record {
     status_is = refl;
     refused = and_left t u ran.0;
     lines = ran.1;
     silent = silent same;
   }))) h
 
-  pub runs_short : (status : ℕ) → status ≡ 5 → MayTell old.err new.err → new.refused ≡ old.refused → RanOf t old.out new.out told request (Err stop.Memory)
+  pub runs_short : (status : ℕ) → status ≡ 5 → MayReport old.err new.err → new.refused ≡ old.refused → RanOf t old.out new.out told request (Err command_error.Memory)
       → Runs (t && u) told request old new status
-  runs_short status is line taken h = runs_from (Err stop.Memory) status (λ x. (x.1, inl (is, line, taken)))
+  runs_short status is line taken h = runs_from (Err command_error.Memory) status (λ x. (x.1, inl (is, line, taken)))
       (λ r ran. inr (inl (record { status_is = is; lines = ran; told = line; taken = taken }))) h
 
-pub told_status : (u : Bool) (line : Text) (c d : Held) (status : ℕ) → TellsFault u line c d status → IsRunStatus status
+pub told_status : (u : Bool) (line : Text) (c d : Held) (status : ℕ) → ReportsFault u line c d status → IsRunStatus status
 told_status u line c d status (inl h) = inr (inl h.0)
 told_status u line c d status (inr (inl h)) = inr (inr h.0)
 told_status u line c d status (inr (inr h)) = inr (inl h.0)

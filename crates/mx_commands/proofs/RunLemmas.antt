@@ -19,8 +19,8 @@ use Rattle.mx_network.specs.declared.faults.StepFault.{StepFault}
 use Rattle.mx_network.specs.declared.faults.StepFault.TheVariants as step_fault
 use Rattle.mx_plan.specs.Text.{Text}
 use Rattle.mx_plan.specs.Fields.{Fields}
-use Rattle.mx_cli.specs.declared.faults.Stop.{Stop}
-use Rattle.mx_cli.specs.declared.faults.Stop.TheVariants as stop
+use Rattle.mx_cli.specs.declared.faults.CommandError.{CommandError}
+use Rattle.mx_cli.specs.declared.faults.CommandError.TheVariants as command_error
 use Rattle.mx_cli.specs.declared.faults.Fault.{Fault}
 use Rattle.mx_cli.specs.declared.faults.Fault.TheVariants.{NoParcel}
 use Rattle.mx_io.specs.declared.output.OutputFault.{OutputFault}
@@ -30,7 +30,7 @@ use Rattle.mx_format.specs.ParcelTexts.{parcel_lines}
 use Rattle.mx_cli.proofs.OutputLemmas.{some_keeps}
 use Rattle.mx_commands.specs.Runs.{Report, at_rest, after_texts, closing_text, whole, ends_with, event_lines, text_of, stepped, run_from, NamesNodes, AllNameNodes}
 use Rattle.mx_io.specs.Outputs.{Held, refused_by}
-use Rattle.mx_cli.specs.Outputs.{AppendsSome, refused_after, stop_of}
+use Rattle.mx_cli.specs.Outputs.{AppendsSome, refused_after, error_of}
 use Rattle.mx_commands.specs.Ran.{Ran, StopsAt}
 
 -- ---- one event
@@ -82,7 +82,7 @@ has_nodes g (event.Restart i) lt le = absurd (omega (arith, lt, le))
 has_nodes g (event.Deliver k) lt le = le
 
 -- an event that stops a run delivers a parcel that was not sent
-pub stops_without : {G : Type 0} (k : ℕ) (wanted : Result G StepFault) → IsFaultOf wanted step_fault.NoParcel → StopsAt k wanted (stop.Fault (NoParcel k))
+pub stops_without : {G : Type 0} (k : ℕ) (wanted : Result G StepFault) → IsFaultOf wanted step_fault.NoParcel → StopsAt k wanted (command_error.Fault (NoParcel k))
 stops_without k wanted (inl memory) = let bad : step_fault.NoParcel ≡ step_fault.Memory = memory.0 in cc
 stops_without k wanted (inr none) = inr (refl, none)
 
@@ -140,12 +140,12 @@ ran_to t a b r done end e h =
 
 -- a run that stops at an event
 pub stopped_at : {H S M : Type 0} (core : Core H S M) (letter : Fields → M → Text) (t : Bool) (a b : Held) (p : Fields) (es : List Event) (r : Report) (k : ℕ) (g : ClusterState S M) (d : Event)
-    (s : Stop) (done : List Text) → k < length es → r ≡ after_texts done (rest core letter p es k g) → Appends a b (concat done)
+    (s : CommandError) (done : List Text) → k < length es → r ≡ after_texts done (rest core letter p es k g) → Appends a b (concat done)
     → StopsAt k (step_of core g (get_or es k d)) s → Ran t a b r (Err s)
 stopped_at core letter t a b p es r k g d s done lt so_far h (inl memory) =
-    subst (λ (x : Stop). Ran t a b r (Err x)) (sym memory) (done_some a b r (rest core letter p es k g) done so_far h)
+    subst (λ (x : CommandError). Ran t a b r (Err x)) (sym memory) (done_some a b r (rest core letter p es k g) done so_far h)
 stopped_at core letter t a b p es r k g d s done lt so_far h (inr none) =
-    subst (λ (x : Stop). Ran t a b r (Err x)) (sym none.0)
+    subst (λ (x : CommandError). Ran t a b r (Err x)) (sym none.0)
     (ran_to t a b r done (Some (NoParcel k)) (so_far ∙ ap (after_texts done) (rest_err core letter p es k g step_fault.NoParcel d lt none.1)) h)
 
 pub is_false : (b : Bool) → (b ≡ true → ⊥) → b ≡ false
@@ -158,7 +158,7 @@ refused_not_memory e = cc
 -- a run that stops at its output
 pub stopped_by : (t u : Bool) (a b c : Held) (r more : Report) (done : List Text) (f : OutputFault)
     → r ≡ after_texts done more → Appends a b (concat done) → Keeps b c → u ≡ t → (u ≡ true → f ≡ output_fault.Memory)
-    → Ran t a c r (Err (stop_of f))
+    → Ran t a c r (Err (error_of f))
 stopped_by t u a b c r more done output_fault.Refused so_far h same is takes =
     (sym is ∙ is_false u (λ e. refused_not_memory (takes e)), some_keeps a b c r.texts (done_some a b r more done so_far h) same)
 stopped_by t u a b c r more done output_fault.Memory so_far h same is takes = some_keeps a b c r.texts (done_some a b r more done so_far h) same
@@ -171,11 +171,11 @@ members_at_rest {H} {S} {M} core p shape n g e count =
 -- ---- refusals
 
 -- a run that stops at what an output answered has refused where that did
-pub refused_on : (f : OutputFault) (b : Bool) → refused_by {T = ⊤} (Err f) b ≡ refused_after {T = ℕ} (Err (stop_of f)) b
+pub refused_on : (f : OutputFault) (b : Bool) → refused_by {T = ⊤} (Err f) b ≡ refused_after {T = ℕ} (Err (error_of f)) b
 refused_on output_fault.Refused b = refl
 refused_on output_fault.Memory b = refl
 
 -- and one that stops at an event has not
-pub stops_taken : {G : Type 0} (k : ℕ) (wanted : Result G StepFault) (s : Stop) (b : Bool) → StopsAt k wanted s → b ≡ refused_after {T = ℕ} (Err s) b
-stops_taken k wanted s b (inl memory) = subst (λ (x : Stop). b ≡ refused_after {T = ℕ} (Err x) b) (sym memory) refl
-stops_taken k wanted s b (inr none) = subst (λ (x : Stop). b ≡ refused_after {T = ℕ} (Err x) b) (sym none.0) refl
+pub stops_taken : {G : Type 0} (k : ℕ) (wanted : Result G StepFault) (s : CommandError) (b : Bool) → StopsAt k wanted s → b ≡ refused_after {T = ℕ} (Err s) b
+stops_taken k wanted s b (inl memory) = subst (λ (x : CommandError). b ≡ refused_after {T = ℕ} (Err x) b) (sym memory) refl
+stops_taken k wanted s b (inr none) = subst (λ (x : CommandError). b ≡ refused_after {T = ℕ} (Err x) b) (sym none.0) refl

@@ -10,13 +10,13 @@ use Rattle.mx_explorer.specs.declared.verdict.Verdict.{Verdict}
 use Rattle.mx_explorer.specs.declared.verdict.Verdict.TheVariants.{Sound, Broken}
 use Rattle.mx_cli.specs.declared.faults.Fault.{Fault}
 use Rattle.mx_cli.specs.declared.faults.Fault.TheVariants.{NoParcel}
-use Rattle.mx_cli.specs.declared.faults.Stop.{Stop}
-use Rattle.mx_cli.specs.declared.faults.Stop.TheVariants as stop
+use Rattle.mx_cli.specs.declared.faults.CommandError.{CommandError}
+use Rattle.mx_cli.specs.declared.faults.CommandError.TheVariants as command_error
 use Rattle.mx_io.specs.Told.{Telling}
 use Rattle.mx_io.specs.Outputs.{Held}
 use Rattle.mx_cli.specs.Outputs.{AppendsSome}
 use Rattle.mx_cli.specs.FaultLines.{fault_line}
-use Rattle.mx_cli.specs.Told.{Seen, MayTell}
+use Rattle.mx_cli.specs.Reports.{Seen, MayReport}
 use Rattle.mx_commands.specs.Runs.{Report}
 use Rattle.mx_commands.specs.Jobs.{Job, HoldsOfReport, job_of, names_in}
 
@@ -42,7 +42,7 @@ pub record PrintsWhole (names : Text × Text) (r : Report) (old new : Seen)
 pub record RunsOut (r : Report) (old new : Seen) (status : ℕ) : Type 0 where
   pub status_is : status ≡ 5
   pub lines : AppendsSome old.out new.out r.texts
-  pub told : MayTell old.err new.err
+  pub told : MayReport old.err new.err
   pub taken : new.refused ≡ old.refused
 
 -- an output refused on the way, which one that takes all bytes never does
@@ -62,7 +62,7 @@ Prints takes_all names r old new status =
 -- decides
 abbrev pub FailsAtOnce : Bool → Seen → Seen → ℕ → Type 0
 FailsAtOnce takes_all old new status = Keeps old.out new.out
-    × (((status ≡ 5) × MayTell old.err new.err × (new.refused ≡ old.refused))
+    × (((status ≡ 5) × MayReport old.err new.err × (new.refused ≡ old.refused))
     ⊎ ((status ≡ 1) × (takes_all ≡ false) × Keeps old.err new.err))
 
 -- what the words ask for, of what a source tells: a run of its report, or memory ran out before
@@ -80,31 +80,31 @@ verdict_status (Broken k clause) = 4
 -- ---- on the way
 
 -- the texts of a report were written, and the run ended as the report does, or earlier
-abbrev pub Ran : Bool → Held → Held → Report → Result ℕ Stop → Type 0
+abbrev pub Ran : Bool → Held → Held → Report → Result ℕ CommandError → Type 0
 Ran takes_all old new r (Ok status) = (r.end ≡ None) × Appends old new (concat r.texts)
-Ran takes_all old new r (Err (stop.Fault fault)) =
+Ran takes_all old new r (Err (command_error.Fault fault)) =
     (r.end ≡ Some fault) × Appends old new (concat r.texts)
-Ran takes_all old new r (Err stop.Writer) = (takes_all ≡ false) × AppendsSome old new r.texts
-Ran takes_all old new r (Err stop.Memory) = AppendsSome old new r.texts
+Ran takes_all old new r (Err command_error.Writer) = (takes_all ≡ false) × AppendsSome old new r.texts
+Ran takes_all old new r (Err command_error.Memory) = AppendsSome old new r.texts
 
 -- a run ended before there was a report
-abbrev pub EndsEarly : Bool → Result ℕ Stop → Type 0
+abbrev pub EndsEarly : Bool → Result ℕ CommandError → Type 0
 EndsEarly takes_all (Ok status) = ⊥
-EndsEarly takes_all (Err (stop.Fault fault)) = ⊥
-EndsEarly takes_all (Err stop.Writer) = takes_all ≡ false
-EndsEarly takes_all (Err stop.Memory) = ⊤
+EndsEarly takes_all (Err (command_error.Fault fault)) = ⊥
+EndsEarly takes_all (Err command_error.Writer) = takes_all ≡ false
+EndsEarly takes_all (Err command_error.Memory) = ⊤
 
 -- the texts of a job's report were written, or the run ended before there was one
-abbrev pub RanOn : Bool → Held → Held → Job → Result ℕ Stop → Type 0
+abbrev pub RanOn : Bool → Held → Held → Job → Result ℕ CommandError → Type 0
 RanOn takes_all old new job result =
     (EndsEarly takes_all result × Keeps old new)
     ⊎ HoldsOfReport job (λ r. Ran takes_all old new r result)
 
-abbrev pub RanOf : Bool → Held → Held → (Text → Option Telling) → Request → Result ℕ Stop → Type 0
+abbrev pub RanOf : Bool → Held → Held → (Text → Option Telling) → Request → Result ℕ CommandError → Type 0
 RanOf takes_all old new told request result =
     IfSome (job_of told request) (λ job. RanOn takes_all old new job result)
 
 -- an event did not happen: there is no such parcel, or memory ran out
-abbrev pub StopsAt : {G : Type 0} → ℕ → Result G StepFault → Stop → Type 0
+abbrev pub StopsAt : {G : Type 0} → ℕ → Result G StepFault → CommandError → Type 0
 StopsAt k wanted end =
-    (end ≡ stop.Memory) ⊎ ((end ≡ stop.Fault (NoParcel k)) × (wanted ≡ Err step_fault.NoParcel))
+    (end ≡ command_error.Memory) ⊎ ((end ≡ command_error.Fault (NoParcel k)) × (wanted ≡ Err step_fault.NoParcel))

@@ -8,7 +8,7 @@ ghost use Rattle.mx_cli.specs.Outputs.{refused_after};
 ghost use Rattle.mx_commands.specs.Runs.{whole};
 ghost use Rattle.mx_commands.specs.Ran.{Ran, RanOf};
 
-use mx_cli::{Stop, fetch_plan};
+use mx_cli::{CommandError, fetch_plan};
 use mx_format::{add_asks, add_plan};
 use mx_io::{Output, Source};
 use mx_plan::Plan;
@@ -20,7 +20,7 @@ pub(crate) fn check<S: Source, O: Output>(
     name: &str,
     source: &mut S,
     out: &mut O,
-) -> Result<u8, Stop>
+) -> Result<u8, CommandError>
     ensures ran { RanOf (O.takes_all out.old) (O.written out.old) (O.written out.new)
         (S.told source.old) (wants.check name.now) result }
     ensures refused { O.has_refused out.new ≡ refused_after result (O.has_refused out.old) }
@@ -37,7 +37,7 @@ pub(crate) fn check_asks<S: Source, O: Output>(
     name: &str,
     source: &mut S,
     out: &mut O,
-) -> Result<u8, Stop>
+) -> Result<u8, CommandError>
     ensures ran { RanOf (O.takes_all out.old) (O.written out.old) (O.written out.new)
         (S.told source.old) (wants.asks name.now) result }
     ensures refused { O.has_refused out.new ≡ refused_after result (O.has_refused out.old) }
@@ -48,7 +48,7 @@ pub(crate) fn check_asks<S: Source, O: Output>(
     print_asks(alloc, &plan, out)
 }
 
-fn check_plan<O: Output>(alloc: Global, plan: &Plan, out: &mut O) -> Result<u8, Stop>
+fn check_plan<O: Output>(alloc: Global, plan: &Plan, out: &mut O) -> Result<u8, CommandError>
     ensures ran { Ran (O.takes_all out.old) (O.written out.old) (O.written out.new)
         (whole (plan_text plan.now)) result }
     ensures refused { O.has_refused out.new ≡ refused_after result (O.has_refused out.old) }
@@ -60,7 +60,7 @@ fn check_plan<O: Output>(alloc: Global, plan: &Plan, out: &mut O) -> Result<u8, 
     print(text.as_bytes(), out)
 }
 
-fn print_asks<O: Output>(alloc: Global, plan: &Plan, out: &mut O) -> Result<u8, Stop>
+fn print_asks<O: Output>(alloc: Global, plan: &Plan, out: &mut O) -> Result<u8, CommandError>
     ensures ran { Ran (O.takes_all out.old) (O.written out.old) (O.written out.new)
         (whole (plan_asks_text plan.now)) result }
     ensures refused { O.has_refused out.new ≡ refused_after result (O.has_refused out.old) }
@@ -74,7 +74,7 @@ fn print_asks<O: Output>(alloc: Global, plan: &Plan, out: &mut O) -> Result<u8, 
 }
 
 /// Prints a text whole, which is all that there is to print.
-pub fn print<O: Output>(text: &[u8], out: &mut O) -> Result<u8, Stop>
+pub fn print<O: Output>(text: &[u8], out: &mut O) -> Result<u8, CommandError>
     ensures ran { Ran (O.takes_all out.old) (O.written out.old) (O.written out.new)
         (whole text.now) result }
     ensures refused { O.has_refused out.new ≡ refused_after result (O.has_refused out.old) }
@@ -83,6 +83,6 @@ pub fn print<O: Output>(text: &[u8], out: &mut O) -> Result<u8, Stop>
 {
     match out.put(text) {
         Ok(()) => Ok(0),
-        Err(fault) => Err(Stop::from(fault)),
+        Err(fault) => Err(CommandError::from(fault)),
     }
 }

@@ -7,12 +7,14 @@ ghost use Rattle.mx_cli.specs.Outputs.{IsPassedOn, refused_after};
 ghost use Rattle.mx_commands.specs.Jobs.{names_in};
 ghost use Rattle.mx_cli.specs.Closed.{IsRunStatus};
 ghost use Rattle.mx_commands.specs.Ran.{RanOf, Runs};
-ghost use Rattle.mx_cli.specs.Told.{Answers, Declines, seen};
+ghost use Rattle.mx_cli.specs.Reports.{Answers, Declines, seen};
 
 use crate::check_plan::{check, check_asks};
 use crate::exploration::explore;
 use crate::replays::replay;
-use mx_cli::{Names, Request, Stop, is_refused, parse, refuse, tell, tell_memory};
+use mx_cli::{
+    CommandError, Names, Request, is_refused, parse, refuse, report_fault, report_memory,
+};
 use mx_io::{Output, Source};
 use std::alloc::Global;
 
@@ -56,9 +58,9 @@ fn run_request<S: Source, O: Output, E: Output>(
 {
     match carry_out_and_flush(alloc, request, source, out) {
         Ok(status) => status,
-        Err(Stop::Fault(fault)) => tell(alloc, fault, &names_in(request), err),
-        Err(Stop::Writer) => 1,
-        Err(Stop::Memory) => tell_memory(err),
+        Err(CommandError::Fault(fault)) => report_fault(alloc, fault, &names_in(request), err),
+        Err(CommandError::Writer) => 1,
+        Err(CommandError::Memory) => report_memory(err),
     }
 }
 
@@ -84,7 +86,7 @@ fn carry_out_and_flush<S: Source, O: Output>(
     request: &Request<'_>,
     source: &mut S,
     out: &mut O,
-) -> Result<u8, Stop>
+) -> Result<u8, CommandError>
     ensures ran { RanOf (O.takes_all out.old) (O.written out.old) (O.written out.new)
         (S.told source.old) (request_of request.now) result }
     ensures refused { O.has_refused out.new ≡ refused_after result (O.has_refused out.old) }
@@ -106,7 +108,7 @@ pub fn carry_out<S: Source, O: Output>(
     request: &Request<'_>,
     source: &mut S,
     out: &mut O,
-) -> Result<u8, Stop>
+) -> Result<u8, CommandError>
     ensures ran { RanOf (O.takes_all out.old) (O.written out.old) (O.written out.new)
         (S.told source.old) (request_of request.now) result }
     ensures refused { O.has_refused out.new ≡ refused_after result (O.has_refused out.old) }

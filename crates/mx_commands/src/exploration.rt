@@ -13,7 +13,7 @@ ghost use Rattle.mx_commands.specs.Ran.{Ran, RanOf, verdict_status};
 use crate::by_shape;
 use crate::check_plan::print;
 use crate::verdicts::{VerdictLine, verdict_status};
-use mx_cli::{Exploration, Stop, fetch_plan};
+use mx_cli::{CommandError, Exploration, fetch_plan};
 use mx_explorer::{Verdict, judge, place, schedule};
 use mx_format::ExploredLine;
 use mx_io::{Output, Source};
@@ -29,7 +29,7 @@ pub(crate) fn explore<S: Source, O: Output>(
     exploration: &Exploration<'_>,
     source: &mut S,
     out: &mut O,
-) -> Result<u8, Stop>
+) -> Result<u8, CommandError>
     ensures ran { RanOf (O.takes_all out.old) (O.written out.old) (O.written out.new)
         (S.told source.old) (wants.explore exploration.now.plan.now exploration.now.seed exploration.now.steps) result }
     ensures refused { O.has_refused out.new ≡ refused_after result (O.has_refused out.old) }
@@ -46,7 +46,7 @@ fn explore_plan<O: Output>(
     seed: u64,
     steps: u64,
     out: &mut O,
-) -> Result<u8, Stop>
+) -> Result<u8, CommandError>
     ensures ran { Ran (O.takes_all out.old) (O.written out.old) (O.written out.new)
         (whole (explored_text plan.now seed steps)) result }
     ensures refused { O.has_refused out.new ≡ refused_after result (O.has_refused out.old) }
@@ -58,7 +58,7 @@ fn explore_plan<O: Output>(
     let verdict = add_summary_of(alloc, plan, events.as_slice(), &mut text)?;
     match print(text.as_bytes(), out) {
         Ok(_) => Ok(verdict_status(verdict)),
-        Err(stop) => Err(stop),
+        Err(error) => Err(error),
     }
 }
 

@@ -11,7 +11,7 @@ ghost use Rattle.mx_commands.specs.Runs.{AllNameNodes};
 
 use crate::by_shape;
 use crate::runs::run;
-use mx_cli::{Names, Stop, fetch_both};
+use mx_cli::{CommandError, Names, fetch_both};
 use mx_io::{Output, Source};
 use mx_network::Event;
 use mx_plan::{Plan, read_events};
@@ -23,7 +23,7 @@ pub(crate) fn replay<S: Source, O: Output>(
     names: &Names<'_>,
     source: &mut S,
     out: &mut O,
-) -> Result<u8, Stop>
+) -> Result<u8, CommandError>
     ensures ran { RanOf (O.takes_all out.old) (O.written out.old) (O.written out.new)
         (S.told source.old) (wants.replay (names_of names.now)) result }
     ensures refused { O.has_refused out.new ≡ refused_after result (O.has_refused out.old) }
@@ -40,7 +40,7 @@ fn replay_events<O: Output>(
     plan: &Plan,
     text: &[u8],
     out: &mut O,
-) -> Result<u8, Stop>
+) -> Result<u8, CommandError>
     ensures ran { Ran (O.takes_all out.old) (O.written out.old) (O.written out.new)
         (report_of_events text.now plan.now) result }
     ensures refused { O.has_refused out.new ≡ refused_after result (O.has_refused out.old) }
@@ -52,7 +52,12 @@ fn replay_events<O: Output>(
 }
 
 /// Runs events of a plan, by its algorithm.
-fn run_by<O: Output>(alloc: Global, plan: &Plan, events: &[Event], out: &mut O) -> Result<u8, Stop>
+fn run_by<O: Output>(
+    alloc: Global,
+    plan: &Plan,
+    events: &[Event],
+    out: &mut O,
+) -> Result<u8, CommandError>
     requires { AllNameNodes (length plan.now.nodes) events.now }
     ensures ran { Ran (O.takes_all out.old) (O.written out.old) (O.written out.new)
         (job.run_by plan.now plan.now.shape events.now) result }

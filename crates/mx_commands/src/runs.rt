@@ -9,7 +9,7 @@ ghost use Rattle.mx_commands.specs.Ran.{Ran, StopsAt};
 
 use crate::cluster_lines::{add_nodes, add_parcels};
 use crate::verdicts::{VerdictLine, verdict_status};
-use mx_cli::{Fault, Stop};
+use mx_cli::{CommandError, Fault};
 use mx_explorer::{Verdict, judge};
 use mx_format::{EventLine, Letter};
 use mx_io::Output;
@@ -42,7 +42,7 @@ pub(crate) fn run<C: Exclusion, O: Output>(
     mut cluster: Cluster<C>,
     events: &[Event],
     out: &mut O,
-) -> Result<u8, Stop>
+) -> Result<u8, CommandError>
 where
     C::Msg: Letter,
     requires members { length cluster.members ≡ length plan.now.nodes }
@@ -64,7 +64,7 @@ fn run_events<C: Exclusion, O: Output>(
     cluster: &mut Cluster<C>,
     events: &[Event],
     out: &mut O,
-) -> Result<u8, Stop>
+) -> Result<u8, CommandError>
 where
     C::Msg: Letter,
     requires members { length cluster.old.members ≡ length plan.now.nodes }
@@ -94,7 +94,7 @@ pub fn step<C: Exclusion>(
     event: &Event,
     cluster: &mut Cluster<C>,
     text: &mut String,
-) -> Result<(), Stop>
+) -> Result<(), CommandError>
 where
     C::Msg: Letter,
     requires named { NamesNodes (length cluster.old.members) event.now }
@@ -117,8 +117,8 @@ where
             add_parcels(plan, cluster, before, text)?;
             Ok(())
         }
-        Err(StepFault::NoParcel) => Err(Stop::Fault(Fault::NoParcel(index))),
-        Err(StepFault::Memory) => Err(Stop::Memory),
+        Err(StepFault::NoParcel) => Err(CommandError::Fault(Fault::NoParcel(index))),
+        Err(StepFault::Memory) => Err(CommandError::Memory),
         Err(StepFault::NoNode) => unreachable!(),
     }
 }

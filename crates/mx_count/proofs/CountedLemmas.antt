@@ -14,7 +14,7 @@ use Rattle.mx_explorer.specs.declared.verdict.Verdict.TheVariants.{Sound}
 use Rattle.mx_plan.specs.Text.{Text}
 use Rattle.mx_plan.specs.Fields.{Fields}
 use Rattle.mx_format.specs.Lines.{each_text}
-use Rattle.mx_cli.specs.declared.faults.Stop.{Stop}
+use Rattle.mx_cli.specs.declared.faults.CommandError.{CommandError}
 use Rattle.mx_commands.specs.Explored.{is_entry}
 use Rattle.mx_commands.specs.VerdictLines.{verdict_text}
 use Rattle.mx_count.specs.Counted.{AddsCounts, Leads, cluster_text, counts_text, details_text, first_text}
@@ -129,7 +129,7 @@ with_counts is_json t t1 t2 t3 a b v sound first second third =
 
 -- counts that were appended after events that lead to this cluster
 pub counted_after : {H S M : Type 0} (core : Core H S M) (kind_text : M → Text) (words : List Text) (options : Options) (p : Fields) (es : List Event) (start g : ClusterState S M)
-    (old new : Text) (r : Result ℕ Stop) → Leads options.course core start es g → OnOk r (new ≡ old ++ counts_text kind_text words options p (length es) g)
+    (old new : Text) (r : Result ℕ CommandError) → Leads options.course core start es g → OnOk r (new ≡ old ++ counts_text kind_text words options p (length es) g)
     → OnOk r (AddsCounts core kind_text words options p es start old new)
 counted_after {H} {S} {M} core kind_text words options p es start g old new (Ok status) leads is = (g, leads, is)
 counted_after {H} {S} {M} core kind_text words options p es start g old new (Err end) leads is = tt

@@ -2,7 +2,7 @@
 
 ghost use Rattle.std.specs.Prelude.{◌≡◌, IsSome, IfSome, IfOk};
 ghost use Rattle.mx_cli.specs.Words.{names_of, texts_of};
-ghost use Rattle.mx_cli.specs.Told.{Answers, seen};
+ghost use Rattle.mx_cli.specs.Reports.{Answers, seen};
 ghost use Rattle.mx_cli.specs.Closed.{IsRunStatus, PassesOn};
 ghost use Rattle.mx_count.specs.CountWords.{request_asked, request_of, count_line};
 ghost use Rattle.mx_count.specs.CountWords as wants;
@@ -11,7 +11,9 @@ ghost use Rattle.mx_count.specs.Printed.{PrintsCounts};
 use crate::counted_run::{Course, Options};
 use crate::printed_counts::{count_listed, count_schedule};
 use crate::words::{Request, parse};
-use mx_cli::{Exploration, Named, Names, Stop, close, fetch_named, fetch_plan, naming, refuse};
+use mx_cli::{
+    CommandError, Exploration, Named, Names, close, fetch_named, fetch_plan, naming, refuse,
+};
 use mx_io::{Output, Source};
 use std::alloc::Global;
 
@@ -69,7 +71,7 @@ fn count_request<S: Source, O: Output>(
     request: &Request<'_>,
     source: &mut S,
     out: &mut O,
-) -> Result<u8, Stop>
+) -> Result<u8, CommandError>
     ensures printed { IfOk result (λ _. PrintsCounts (S.told source.old) (request_of request.now)
         (O.written out.old) (O.written out.new)) }
     ensures zero { IfOk result (λ status. status ≡ 0) }
@@ -91,7 +93,7 @@ fn count_given<S: Source, O: Output>(
     is_json: bool,
     source: &mut S,
     out: &mut O,
-) -> Result<u8, Stop>
+) -> Result<u8, CommandError>
     ensures printed { IfOk result (λ _.
         PrintsCounts (S.told source.old) (wants.given (names_of names.now) is_json)
         (O.written out.old) (O.written out.new)) }
@@ -110,7 +112,7 @@ fn count_drawn<S: Source, O: Output>(
     is_brief: bool,
     source: &mut S,
     out: &mut O,
-) -> Result<u8, Stop>
+) -> Result<u8, CommandError>
     ensures printed { IfOk result (λ _. PrintsCounts (S.told source.old)
         (wants.drawn exploration.now.plan.now exploration.now.seed exploration.now.steps is_json
         is_brief) (O.written out.old) (O.written out.new)) }

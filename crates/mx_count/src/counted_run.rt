@@ -14,7 +14,7 @@ use crate::refusal_counts::add_refusal_counts;
 use crate::spread::add_measure;
 use crate::tallies::{add_counts_end, add_first_tally, add_share, add_tally};
 use crate::waits::longest_wait;
-use mx_cli::{Fault, Stop};
+use mx_cli::{CommandError, Fault};
 use mx_commands::{add_verdict, by_shape, entries_in, happen, verdict_status};
 use mx_explorer::judge;
 use mx_format::json::{NumberStart, add_number};
@@ -51,7 +51,7 @@ pub(crate) fn add_counts_of(
     events: &[Event],
     options: Options,
     text: &mut String,
-) -> Result<u8, Stop>
+) -> Result<u8, CommandError>
     ensures text { OnOk result (AddsCountsBy options plan.now events.now
         (string_bytes text.old) (string_bytes text.new) plan.now.shape) }
     ensures zero { IfOk result (λ status. status ≡ 0) }
@@ -71,7 +71,7 @@ fn add_counts_after<C: Exclusion>(
     events: &[Event],
     options: Options,
     text: &mut String,
-) -> Result<u8, Stop>
+) -> Result<u8, CommandError>
 where
     C::Msg: Letter,
     ensures text { OnOk result (AddsCounts C.core (word_by C.Msg.parts) C.Msg.words options
@@ -87,7 +87,7 @@ fn apply_events<C: Exclusion>(
     cluster: &mut Cluster<C>,
     events: &[Event],
     course: Course,
-) -> Result<(), Stop>
+) -> Result<(), CommandError>
     ensures { OnOk result (Leads course C.core cluster.old events.now cluster.new) }
 {
     match course {
@@ -97,7 +97,7 @@ fn apply_events<C: Exclusion>(
 }
 
 /// Runs the events of a file in order; each names nodes of the plan.
-fn run_given<C: Exclusion>(cluster: &mut Cluster<C>, events: &[Event]) -> Result<(), Stop>
+fn run_given<C: Exclusion>(cluster: &mut Cluster<C>, events: &[Event]) -> Result<(), CommandError>
     ensures { OnOk result (RunsTo C.core cluster.old events.now cluster.new) }
 {
     cluster.make_room(events.len())?;
@@ -108,10 +108,12 @@ fn run_given<C: Exclusion>(cluster: &mut Cluster<C>, events: &[Event]) -> Result
 }
 
 /// Why the events of a file end at one of them.
-fn stop_at(stopped: RunFault) -> Stop {
+fn stop_at(stopped: RunFault) -> CommandError {
     match stopped.fault {
-        StepFault::Memory => Stop::Memory,
-        StepFault::NoNode | StepFault::NoParcel => Stop::Fault(Fault::NoParcel(stopped.index)),
+        StepFault::Memory => CommandError::Memory,
+        StepFault::NoNode | StepFault::NoParcel => CommandError::Fault(Fault::NoParcel(
+            stopped.index,
+        )),
     }
 }
 
@@ -123,7 +125,7 @@ fn add_counts<C: Exclusion>(
     steps: u64,
     options: Options,
     text: &mut String,
-) -> Result<u8, Stop>
+) -> Result<u8, CommandError>
 where
     C::Msg: Letter,
     ensures text { OnOk result (string_bytes text.new ≡ string_bytes text.old

@@ -5,7 +5,7 @@ ghost use Rattle.mx_commands.specs.Explored.{schedule_of};
 ghost use Rattle.mx_count.specs.Listed.{PrintsCountsOf, PrintsListed, options_of};
 
 use crate::counted_run::{Course, Options, add_counts_of};
-use mx_cli::{Exploration, Stop};
+use mx_cli::{CommandError, Exploration};
 use mx_commands::print;
 use mx_explorer::schedule;
 use mx_io::Output;
@@ -20,7 +20,7 @@ pub(crate) fn count_listed<O: Output>(
     text: &[u8],
     is_json: bool,
     out: &mut O,
-) -> Result<u8, Stop>
+) -> Result<u8, CommandError>
     ensures printed { IfOk result (λ _. PrintsListed is_json plan.now text.now
         (O.written out.old) (O.written out.new)) }
     ensures zero { IfOk result (λ status. status ≡ 0) }
@@ -41,7 +41,7 @@ pub(crate) fn count_schedule<O: Output>(
     exploration: &Exploration<'_>,
     options: Options,
     out: &mut O,
-) -> Result<u8, Stop>
+) -> Result<u8, CommandError>
     ensures printed { IfOk result (λ _. PrintsCountsOf options plan.now
         (schedule_of plan.now exploration.now.seed exploration.now.steps)
         (O.written out.old) (O.written out.new)) }
@@ -58,7 +58,7 @@ fn print_counts<O: Output>(
     events: &[Event],
     options: Options,
     out: &mut O,
-) -> Result<u8, Stop>
+) -> Result<u8, CommandError>
     ensures printed { IfOk result (λ _. PrintsCountsOf options plan.now events.now
         (O.written out.old) (O.written out.new)) }
     ensures zero { IfOk result (λ status. status ≡ 0) }

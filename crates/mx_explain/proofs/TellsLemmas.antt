@@ -4,9 +4,9 @@ use Rattle.std.specs.Prelude.{◌&&◌, IfOk, IfErr, OnOk, MatchResult}
 use Rattle.std.specs.Io.KnownBytes.{Appends, Keeps}
 use Rattle.mx_plan.specs.Text.{Text}
 use Rattle.mx_io.specs.Outputs.{Held}
-use Rattle.mx_cli.specs.declared.faults.Stop.{Stop}
-use Rattle.mx_cli.specs.declared.faults.Stop.TheVariants as stop
-use Rattle.mx_cli.specs.Told.{MayTell, TellsFault}
+use Rattle.mx_cli.specs.declared.faults.CommandError.{CommandError}
+use Rattle.mx_cli.specs.declared.faults.CommandError.TheVariants as command_error
+use Rattle.mx_cli.specs.Reports.{MayReport, ReportsFault}
 use Rattle.mx_cli.specs.Closed.{Closes, FallsShort}
 use Rattle.mx_cli.proofs.OutputLemmas.{Appends-keeps, Appends-nil, Keeps-refl}
 use Rattle.mx_scripts.specs.declared.halts.Halt.{Halt}
@@ -42,11 +42,11 @@ prints_err : (T : Type 0) {E : Type 0} (old new : Held) (e : E) → PrintsReport
 prints_err T old new e p = (p.0, p.1, p.2, λ last. absurd (let bad : true ≡ false = p.3.0 last in cc))
 
 -- a report without faults is printed of a run that succeeds
-pub after_ok : (E : Type 0) {F T : Type 0} (r : Result F Stop) (old new : Held) (v : T) → OnOk r (PrintsReport old new false) → OnOk r (Prints {E = E} old new (Ok v))
+pub after_ok : (E : Type 0) {F T : Type 0} (r : Result F CommandError) (old new : Held) (v : T) → OnOk r (PrintsReport old new false) → OnOk r (Prints {E = E} old new (Ok v))
 after_ok E (Ok f) old new v p = prints_ok E old new v p
 after_ok E (Err s) old new v p = tt
 
-pub after_err : (T : Type 0) {F E : Type 0} (r : Result F Stop) (old new : Held) (e : E) → OnOk r (PrintsReport old new true) → OnOk r (Prints {T = T} old new (Err e))
+pub after_err : (T : Type 0) {F E : Type 0} (r : Result F CommandError) (old new : Held) (e : E) → OnOk r (PrintsReport old new true) → OnOk r (Prints {T = T} old new (Err e))
 after_err T (Ok f) old new e p = prints_err T old new e p
 after_err T (Err s) old new e p = tt
 
@@ -67,31 +67,31 @@ module _ (t : Bool) (out out' err err' : Held) (status : ℕ) where
   tells_err : {E : Type 0} (e : E) → (status ≡ 0 → ⊥) → Prints {T = ℕ} out out' (Err e) → TellsLines t out out' err err' status
   tells_err e not p = record { text = p.0; told = p.1; printable = p.2; well = λ z. absurd (not z); zero = λ last. absurd (p.3 last) }
 
-  stop_not : (names : Text × Text) (s : Stop) → Closes t names (Err s) err err' status → status ≡ 0 → ⊥
-  stop_not names (stop.Fault f) (inl h) z = not_zero 0 status h.0 z
-  stop_not names (stop.Fault f) (inr h) z = short_not t err err' status h z
-  stop_not names stop.Writer h z = not_zero 0 status h.0 z
-  stop_not names stop.Memory h z = short_not t err err' status h z
+  stop_not : (names : Text × Text) (s : CommandError) → Closes t names (Err s) err err' status → status ≡ 0 → ⊥
+  stop_not names (command_error.Fault f) (inl h) z = not_zero 0 status h.0 z
+  stop_not names (command_error.Fault f) (inr h) z = short_not t err err' status h z
+  stop_not names command_error.Writer h z = not_zero 0 status h.0 z
+  stop_not names command_error.Memory h z = short_not t err err' status h z
 
-  line_not : (line : Text) → TellsFault t line err err' status → status ≡ 0 → ⊥
+  line_not : (line : Text) → ReportsFault t line err err' status → status ≡ 0 → ⊥
   line_not line (inl h) z = not_zero 0 status h.0 z
   line_not line (inr (inl h)) z = not_zero 4 status h.0 z
   line_not line (inr (inr h)) z = not_zero 0 status h.0 z
 
-  tells_run : (names : Text × Text) (res : Result ℕ Stop) → IfOk res (λ v. v ≡ 0) → Prints out out' res → Closes t names res err err' status → TellsLines t out out' err err' status
-  tells_run names (Ok v) zero p h = tells_ok Stop v zero p h
+  tells_run : (names : Text × Text) (res : Result ℕ CommandError) → IfOk res (λ v. v ≡ 0) → Prints out out' res → Closes t names res err err' status → TellsLines t out out' err err' status
+  tells_run names (Ok v) zero p h = tells_ok CommandError v zero p h
   tells_run names (Err s) zero p h = tells_err s (stop_not names s h) p
 
   tells_halt : (names : Text × Text) (res : Result ℕ Halt) → IfOk res (λ v. v ≡ 0) → Prints out out' res → ClosesScript t names res err err' status → TellsLines t out out' err err' status
   tells_halt names (Ok v) zero p h = tells_ok Halt v zero p h
-  tells_halt names (Err (halt.Stop s)) zero p h = tells_err (halt.Stop s) (stop_not names s h) p
+  tells_halt names (Err (halt.Command s)) zero p h = tells_err (halt.Command s) (stop_not names s h) p
   tells_halt names (Err (halt.AtLine line)) zero p h = tells_err (halt.AtLine line) (line_not _ h) p
 
 keeps_prints : {T E : Type 0} (out mid out' : Held) (res : Result T E) → Prints out mid res → Keeps mid out' → Prints out out' res
 keeps_prints out mid out' res p keeps = (p.0, Appends-keeps out mid out' p.0 p.1 keeps, p.2, p.3)
 
 -- an explanation that was printed, and then closed
-pub tells_closed : (t : Bool) (names : Text × Text) (out mid out' err err' : Held) (status : ℕ) (res : Result ℕ Stop) → IfOk res (λ v. v ≡ 0) → Prints out mid res → Keeps mid out'
+pub tells_closed : (t : Bool) (names : Text × Text) (out mid out' err err' : Held) (status : ℕ) (res : Result ℕ CommandError) → IfOk res (λ v. v ≡ 0) → Prints out mid res → Keeps mid out'
     → Closes t names res err err' status → TellsLines t out out' err err' status
 tells_closed t names out mid out' err err' status res zero p keeps h = tells_run t out out' err err' status names res zero (keeps_prints out mid out' res p keeps) h
 

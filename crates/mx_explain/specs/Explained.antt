@@ -4,8 +4,8 @@ use Rattle.std.specs.Prelude.{◌≡◌, ◌≢◌, ◌⊎◌, ◌↔◌, ◌&&�
 use Rattle.std.specs.Io.KnownBytes.{Appends}
 use Rattle.mx_cli.specs.Words.{Request}
 use Rattle.mx_plan.specs.Text.{Text}
-use Rattle.mx_cli.specs.declared.faults.Stop.{Stop}
-use Rattle.mx_cli.specs.declared.faults.Stop.TheVariants.{Memory, Writer}
+use Rattle.mx_cli.specs.declared.faults.CommandError.{CommandError}
+use Rattle.mx_cli.specs.declared.faults.CommandError.TheVariants.{Memory, Writer}
 use Rattle.mx_io.specs.Told.{Telling}
 use Rattle.mx_io.specs.Outputs.{Held}
 use Rattle.mx_commands.specs.Runs.{Report}
@@ -39,7 +39,7 @@ ExplainsMatter takes_out takes_err told (script names) old new status =
 
 -- why an explanation is not printed: memory ran out, or the output refused, which one that takes
 -- all bytes never does
-abbrev pub FailsToPrint : Bool → Stop → Type 0
+abbrev pub FailsToPrint : Bool → CommandError → Type 0
 FailsToPrint takes_all end = (end ≡ Memory) ⊎ ((end ≡ Writer) × (takes_all ≡ false))
 
 -- A report was printed: printable lines. The last is `nothing is at fault` exactly if no line is a

@@ -2,7 +2,7 @@
 
 ghost use Rattle.std.specs.Prelude.{◌≡◌, ◌&&◌, IsSome, IfSome, IfOk, IfErr, OnErr, OnOk, None, is_some, true, false};
 ghost use Rattle.mx_cli.specs.Words.{request_of, texts_of};
-ghost use Rattle.mx_cli.specs.Told.{Answers, seen};
+ghost use Rattle.mx_cli.specs.Reports.{Answers, seen};
 ghost use Rattle.mx_cli.specs.Closed.{IsRunStatus, PassesOn};
 ghost use Rattle.mx_commands.specs.Ran.{RanOf};
 ghost use Rattle.mx_explain.specs.Asked.{explain_line, matter_of, request_asked};
@@ -14,7 +14,7 @@ use crate::asking::{Matter, parse};
 use crate::cached_source::{CachedSource, Reasons};
 use crate::files::explain_files;
 use crate::scripts::explain_script;
-use mx_cli::{Fault, Request, Stop, close, refuse};
+use mx_cli::{CommandError, Fault, Request, close, refuse};
 use mx_commands::{carry_out, names_in};
 use mx_diagnostics::Report;
 use mx_io::{Output, OutputFault, Source};
@@ -141,7 +141,7 @@ fn carry_out_and_explain<S: Source + Reasons, O: Output>(
     request: &Request<'_>,
     source: &mut S,
     out: &mut O,
-) -> Result<u8, Stop>
+) -> Result<u8, CommandError>
     ensures ran { RanOf (O.takes_all out.old) None None (S.told source.old) (request_of request.now)
         result }
     ensures prints { Prints (O.written out.old) (O.written out.new) result }
@@ -159,10 +159,10 @@ fn carry_out_and_explain<S: Source + Reasons, O: Output>(
 fn print_end<S: Source + Reasons, O: Output>(
     alloc: Global,
     request: &Request<'_>,
-    ended: &Result<u8, Stop>,
+    ended: &Result<u8, CommandError>,
     source: &mut S,
     out: &mut O,
-) -> Result<(), Stop>
+) -> Result<(), CommandError>
     ensures fails { IfErr result (FailsToPrint (O.takes_all out.old)) }
     ensures prints { OnOk result (Prints (O.written out.old) (O.written out.new) ended.now) }
     ensures same { OnErr result (Keeps (O.written out.old) (O.written out.new)) }
@@ -170,7 +170,13 @@ fn print_end<S: Source + Reasons, O: Output>(
 {
     match ended {
         Ok(_) => print_explanation(alloc, request, None, source, out),
-        Err(Stop::Fault(fault)) => print_explanation(alloc, request, Some(*fault), source, out),
+        Err(CommandError::Fault(fault)) => print_explanation(
+            alloc,
+            request,
+            Some(*fault),
+            source,
+            out,
+        ),
         Err(_) => Ok(()),
     }
 }
@@ -182,7 +188,7 @@ fn print_explanation<S: Source + Reasons, O: Output>(
     fault: Option<Fault>,
     source: &mut S,
     out: &mut O,
-) -> Result<(), Stop>
+) -> Result<(), CommandError>
     ensures fails { IfErr result (FailsToPrint (O.takes_all out.old)) }
     ensures prints { OnOk result (PrintsReport (O.written out.old) (O.written out.new)
         (is_some fault)) }
@@ -194,7 +200,7 @@ fn print_explanation<S: Source + Reasons, O: Output>(
 }
 
 /// Prints all lines.
-pub(crate) fn put_report<O: Output>(report: &Report, out: &mut O) -> Result<(), Stop>
+pub(crate) fn put_report<O: Output>(report: &Report, out: &mut O) -> Result<(), CommandError>
     ensures fails { IfErr result (FailsToPrint (O.takes_all out.old)) }
     ensures prints { OnOk result (PrintsReport (O.written out.old) (O.written out.new)
         (has_fault report.now.lines)) }

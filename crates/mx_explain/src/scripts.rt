@@ -11,7 +11,7 @@ ghost use Rattle.mx_scripts.specs.Ended.{EndsScript, ScriptsOf};
 use crate::cached_source::Reasons;
 use crate::explaining::put_report;
 use crate::files::{Second, explain_both};
-use mx_cli::{Fault, Names, Stop};
+use mx_cli::{CommandError, Fault, Names};
 use mx_diagnostics::Report;
 use mx_io::{Output, Source};
 use mx_scripts::{BadLine, Halt, close_script, file_of_names};
@@ -53,7 +53,7 @@ fn end_and_explain<S: Source + Reasons, O: Output>(
     let ended = end_of(alloc, names, source);
     match print_end(alloc, names, &ended, source, out) {
         Ok(()) => ended,
-        Err(stop) => Err(Halt::Stop(stop)),
+        Err(stop) => Err(Halt::Command(stop)),
     }
 }
 
@@ -77,7 +77,7 @@ fn print_end<S: Source + Reasons, O: Output>(
     ended: &Result<u8, Halt>,
     source: &mut S,
     out: &mut O,
-) -> Result<(), Stop>
+) -> Result<(), CommandError>
     ensures fails { IfErr result (FailsToPrint (O.takes_all out.old)) }
     ensures prints { OnOk result (Prints (O.written out.old) (O.written out.new) ended.now) }
     ensures same { OnErr result (Keeps (O.written out.old) (O.written out.new)) }
@@ -85,11 +85,11 @@ fn print_end<S: Source + Reasons, O: Output>(
 {
     match ended {
         Ok(_) => print_wrong(alloc, names, None, None, source, out),
-        Err(Halt::Stop(Stop::Fault(fault))) => {
+        Err(Halt::Command(CommandError::Fault(fault))) => {
             print_wrong(alloc, names, Some(*fault), None, source, out)
         }
         Err(Halt::AtLine(line)) => print_wrong(alloc, names, None, Some(line), source, out),
-        Err(Halt::Stop(_)) => Ok(()),
+        Err(Halt::Command(_)) => Ok(()),
     }
 }
 
@@ -102,7 +102,7 @@ fn print_wrong<S: Source + Reasons, O: Output>(
     line: Option<&BadLine>,
     source: &mut S,
     out: &mut O,
-) -> Result<(), Stop>
+) -> Result<(), CommandError>
     ensures fails { IfErr result (FailsToPrint (O.takes_all out.old)) }
     ensures prints { OnOk result (PrintsReport (O.written out.old) (O.written out.new)
         (is_some fault || is_some line.entry)) }

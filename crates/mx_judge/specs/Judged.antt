@@ -10,25 +10,25 @@ use Rattle.mx_explorer.specs.Verdict.{IsFirstBroken, IsSoundTrace}
 use Rattle.mx_explorer.specs.declared.verdict.Clause.{Clause}
 use Rattle.mx_explorer.specs.declared.verdict.Verdict.{Verdict}
 use Rattle.mx_explorer.specs.declared.verdict.Verdict.TheVariants.{Sound, Broken}
-use Rattle.mx_cli.specs.declared.faults.Stop.{Stop}
-use Rattle.mx_cli.specs.declared.faults.Stop.TheVariants as stop
+use Rattle.mx_cli.specs.declared.faults.CommandError.{CommandError}
+use Rattle.mx_cli.specs.declared.faults.CommandError.TheVariants as command_error
 use Rattle.mx_cli.specs.Closed.{Closes, PassesOn}
 use Rattle.mx_cli.specs.Naming.{IsUnread}
 use Rattle.mx_cli.specs.Reading.{IsPlanOf, plan_told, text_told}
-use Rattle.mx_cli.specs.Told.{Seen, TellsFault}
+use Rattle.mx_cli.specs.Reports.{Seen, ReportsFault}
 use Rattle.mx_commands.specs.Ran.{verdict_status}
 use Rattle.mx_commands.specs.VerdictLines.{verdict_line}
 use Rattle.mx_judge.specs.Faults.{trace_line}
 use Rattle.mx_judge.specs.Traces.{trace_at}
 use Rattle.mx_judge.specs.declared.errors.JudgeError.{JudgeError}
-use Rattle.mx_judge.specs.declared.errors.JudgeError.TheVariants as error
+use Rattle.mx_judge.specs.declared.errors.JudgeError.TheVariants as judge_error
 use Rattle.mx_judge.specs.declared.faults.TraceFault.{TraceFault}
 use Rattle.mx_judge.specs.declared.faults.TraceFault.TheVariants as fault
 
 -- why there is no verdict on a trace with a fault
-abbrev pub error_of : TraceFault → JudgeError
-error_of fault.Memory = error.Stop stop.Memory
-error_of other = error.Trace other
+abbrev pub judge_error_of : TraceFault → JudgeError
+judge_error_of fault.Memory = judge_error.Command command_error.Memory
+judge_error_of other = judge_error.Trace other
 
 -- the verdict on a trace: sound exactly if the trace is; otherwise the first item that breaks a
 -- rule, and the rule
@@ -46,17 +46,17 @@ PrintsVerdict trace old new status =
 
 -- why a text was not printed: memory ran out, or the output refused, which one that takes all bytes
 -- never does
-abbrev pub IsUnprinted : Bool → Stop → Type 0
-IsUnprinted takes_all end = (end ≡ stop.Memory) ⊎ ((end ≡ stop.Writer) × (takes_all ≡ false))
+abbrev pub IsUnprinted : Bool → CommandError → Type 0
+IsUnprinted takes_all end = (end ≡ command_error.Memory) ⊎ ((end ≡ command_error.Writer) × (takes_all ≡ false))
 
 -- the verdict on the trace in a text was printed; or the text lists none, for this fault; or the
 -- verdict was not printed
 abbrev pub JudgesText : Bool → Fields → Text → Held → Held → Result ℕ JudgeError → Type 0
 JudgesText takes_all p text old new (Ok status) =
     (trace : List Entry) × (trace_at p text ≡ Ok trace) × PrintsVerdict trace old new status
-JudgesText takes_all p text old new (Err (error.Trace fault)) =
+JudgesText takes_all p text old new (Err (judge_error.Trace fault)) =
     (trace_at p text ≡ Err fault) × Keeps old new
-JudgesText takes_all p text old new (Err (error.Stop end)) =
+JudgesText takes_all p text old new (Err (judge_error.Command end)) =
     IsUnprinted takes_all end × Keeps old new
 
 -- the same for the fault of a trace
@@ -68,9 +68,9 @@ JudgesTold takes_all p (Some text) old new ended = JudgesText takes_all p text o
 abbrev pub IsUnjudged : (Text → Option Telling) → Text × Text → Held → Held
     → Result ℕ JudgeError → Type 0
 IsUnjudged told names old new (Ok status) = ⊥
-IsUnjudged told names old new (Err (error.Trace fault)) = ⊥
-IsUnjudged told names old new (Err (error.Stop end)) =
-    ((end ≡ stop.Memory) ⊎ IsUnread told names end) × Keeps old new
+IsUnjudged told names old new (Err (judge_error.Trace fault)) = ⊥
+IsUnjudged told names old new (Err (judge_error.Command end)) =
+    ((end ≡ command_error.Memory) ⊎ IsUnread told names end) × Keeps old new
 
 -- the trace of the second name was judged by the plan of the first, or one of them cannot be read
 abbrev pub JudgesNames : Bool → (Text → Option Telling) → Text × Text → Held → Held
@@ -84,10 +84,10 @@ JudgesNames takes_all told names old new ended =
 -- is written, status 1. Or memory ran out, or an output refused
 abbrev pub ClosesJudged : Bool → Text × Text → Result ℕ JudgeError → Held → Held → ℕ → Type 0
 ClosesJudged takes_all names (Ok own) old new status = Closes takes_all names (Ok own) old new status
-ClosesJudged takes_all names (Err (error.Stop end)) old new status =
+ClosesJudged takes_all names (Err (judge_error.Command end)) old new status =
     Closes takes_all names (Err end) old new status
-ClosesJudged takes_all names (Err (error.Trace fault)) old new status =
-    TellsFault takes_all (trace_line fault) old new status
+ClosesJudged takes_all names (Err (judge_error.Trace fault)) old new status =
+    ReportsFault takes_all (trace_line fault) old new status
 
 -- the verdict on the trace of these names is printed and passed on, status 0 or 4. Otherwise the
 -- line of a fault is written, status 1, or memory ran out, or an output refused

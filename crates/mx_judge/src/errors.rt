@@ -1,37 +1,37 @@
 //! Why there is no verdict.
 
 use crate::faults::TraceFault;
-use mx_cli::Stop;
+use mx_cli::CommandError;
 
 /// Why there is no verdict.
 #[derive(Clone, Copy)]
 pub enum JudgeError {
     /// The run stopped because of the plan, an output or memory.
-    Stop(Stop),
+    Command(CommandError),
     /// The trace has a fault.
     Trace(TraceFault),
 }
 
-impl From<Stop> for JudgeError {
+impl From<CommandError> for JudgeError {
     ghost use Rattle.std.specs.Prelude.{◌≡◌};
-    ghost use Rattle.mx_judge.specs.declared.errors.JudgeError.TheVariants as error;
+    ghost use Rattle.mx_judge.specs.declared.errors.JudgeError.TheVariants as judge_error;
 
-    ghost from_gives = { λ end e. e ≡ error.Stop end };
+    ghost from_gives = { λ end e. e ≡ judge_error.Command end };
 
-    fn from(stop: Stop) -> JudgeError {
-        JudgeError::Stop(stop)
+    fn from(error: CommandError) -> JudgeError {
+        JudgeError::Command(error)
     }
 }
 
 impl From<TraceFault> for JudgeError {
     ghost use Rattle.std.specs.Prelude.{◌≡◌};
-    ghost use Rattle.mx_judge.specs.Judged.{error_of};
+    ghost use Rattle.mx_judge.specs.Judged.{judge_error_of};
 
-    ghost from_gives = { λ fault e. e ≡ error_of fault };
+    ghost from_gives = { λ fault e. e ≡ judge_error_of fault };
 
     fn from(fault: TraceFault) -> JudgeError {
         match fault {
-            TraceFault::Memory => JudgeError::Stop(Stop::Memory),
+            TraceFault::Memory => JudgeError::Command(CommandError::Memory),
             _ => JudgeError::Trace(fault),
         }
     }

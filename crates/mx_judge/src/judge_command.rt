@@ -4,7 +4,7 @@ ghost use Rattle.std.specs.Prelude.{◌≡◌, ◌&&◌, IfErr, IfOk, IfSome, Is
 ghost use Rattle.std.specs.Io.KnownBytes.{Appends, Keeps};
 ghost use Rattle.mx_cli.specs.Closed.{PassesOn};
 ghost use Rattle.mx_cli.specs.Words.{names_of, texts_of};
-ghost use Rattle.mx_cli.specs.Told.{Answers, seen};
+ghost use Rattle.mx_cli.specs.Reports.{Answers, seen};
 ghost use Rattle.mx_commands.specs.Ran.{verdict_status};
 ghost use Rattle.mx_commands.specs.VerdictLines.{verdict_line};
 ghost use Rattle.mx_judge.specs.JudgeWords.{judge_line, names_asked};
@@ -13,7 +13,7 @@ ghost use Rattle.mx_judge.specs.Judged.{ClosesJudged, IsUnprinted, Judges, Judge
 use crate::errors::JudgeError;
 use crate::trace_reader::read_trace;
 use crate::words::parse;
-use mx_cli::{Names, Stop, close, close_with, fetch_named, put_line, refuse};
+use mx_cli::{CommandError, Names, close, close_with, fetch_named, refuse, write_line};
 use mx_commands::{VerdictLine, verdict_status};
 use mx_explorer::{Verdict, judge};
 use mx_io::{Output, Source};
@@ -81,7 +81,7 @@ fn close_judged<O: Output, E: Output>(
 {
     match ended {
         Ok(status) => close(alloc, Ok(status), names, out, err),
-        Err(JudgeError::Stop(stop)) => close(alloc, Err(stop), names, out, err),
+        Err(JudgeError::Command(error)) => close(alloc, Err(error), names, out, err),
         Err(JudgeError::Trace(fault)) => close_with(alloc, fault, out, err),
     }
 }
@@ -99,7 +99,7 @@ fn judge_names<S: Source, O: Output>(
 {
     match fetch_named(alloc, source, names) {
         Ok(both) => judge_text(alloc, &both.plan, both.text.as_slice(), out),
-        Err(stop) => Err(JudgeError::Stop(stop)),
+        Err(error) => Err(JudgeError::Command(error)),
     }
 }
 
@@ -124,12 +124,12 @@ fn judge_text<O: Output>(
 fn print_verdict<O: Output>(alloc: Global, verdict: Verdict, out: &mut O) -> Result<u8, JudgeError>
     ensures ok { IfOk result (λ status. (status ≡ verdict_status verdict)
         × Appends (O.written out.old) (O.written out.new) (verdict_line verdict)) }
-    ensures err { IfErr result (λ e. (end : Stop) × (e ≡ JudgeError.Stop end)
+    ensures err { IfErr result (λ e. (end : CommandError) × (e ≡ JudgeError.Command end)
         × IsUnprinted (O.takes_all out.old) end × Keeps (O.written out.old) (O.written out.new)) }
     ensures stays { O.takes_all out.new ≡ O.takes_all out.old }
 {
-    match put_line(alloc, out, VerdictLine(verdict)) {
+    match write_line(alloc, out, VerdictLine(verdict)) {
         Ok(()) => Ok(verdict_status(verdict)),
-        Err(fault) => Err(JudgeError::Stop(Stop::from(fault))),
+        Err(fault) => Err(JudgeError::Command(CommandError::from(fault))),
     }
 }

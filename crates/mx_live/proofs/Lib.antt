@@ -3,4 +3,4 @@ pub mod StationLemmas
 pub mod WorkerLemmas
 pub mod SectionLemmas
 pub mod ProgressLemmas
-pub mod HaltLemmas
+pub mod ErrorLemmas

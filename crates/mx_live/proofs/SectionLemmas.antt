@@ -17,10 +17,10 @@ use Rattle.mx_stations.specs.Gathered.{IsGathered, receipts_of}
 use Rattle.mx_stations.specs.Posts.{Post}
 use Rattle.mx_stations.specs.Turns.{Station}
 use Rattle.mx_jobs.specs.Serial.{AreSerial}
-use Rattle.mx_live.specs.declared.halts.Halt.{Halt}
-use Rattle.mx_live.specs.declared.halts.Halt.TheVariants.{Memory}
+use Rattle.mx_live.specs.declared.live_error.LiveError.{LiveError}
+use Rattle.mx_live.specs.declared.live_error.LiveError.TheVariants.{Memory}
 use Rattle.mx_live.specs.declared.threads.WorkerConfig.{WorkerConfig}
-use Rattle.mx_live.specs.Halts.{HasNone, InVainBy}
+use Rattle.mx_live.specs.LiveErrors.{HasNone, InVainBy}
 use Rattle.mx_live.specs.Together.{AreGathered, ComeOf, GatheredBy, HaveSections}
 use Rattle.mx_live.specs.Workers.{AreDone, HaveRun, stations_of}
 use Rattle.mx_live.proofs.StationLemmas.{unmapped}
@@ -132,5 +132,5 @@ pub come_by : (shape : Shape) (p : Fields) (orders : WorkerConfig) (receipts : L
 come_by shape p orders receipts journal is come = subst (λ (s : Shape). GatheredBy s p orders receipts journal) (sym is) come
 
 -- and why nothing is
-pub none_by : (shape : Shape) (p : Fields) (orders : WorkerConfig) (halt : Halt) → p.shape ≡ shape → InVainBy shape p orders halt ⊎ (halt ≡ Memory) → HasNone p orders halt
-none_by shape p orders halt is none = subst (λ (s : Shape). InVainBy s p orders halt ⊎ (halt ≡ Memory)) (sym is) none
+pub none_by : (shape : Shape) (p : Fields) (orders : WorkerConfig) (error : LiveError) → p.shape ≡ shape → InVainBy shape p orders error ⊎ (error ≡ Memory) → HasNone p orders error
+none_by shape p orders error is none = subst (λ (s : Shape). InVainBy s p orders error ⊎ (error ≡ Memory)) (sym is) none

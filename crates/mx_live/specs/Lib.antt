@@ -6,5 +6,5 @@ pub mod Workers
 pub mod Progress
 pub mod Together
 pub mod Shown
-pub mod Halts
+pub mod LiveErrors
 pub mod Lives

@@ -7,15 +7,15 @@ use Rattle.mx_plan.specs.Fields.{Fields}
 use Rattle.clap.specs.Words.{Text}
 use Rattle.clap.specs.Faults.{fault_of}
 use Rattle.mx_cli.specs.LiveWords.{LiveRequest, live_line, request_asked}
-use Rattle.mx_cli.specs.declared.faults.Stop.TheVariants as stop
+use Rattle.mx_cli.specs.declared.faults.CommandError.TheVariants as command_error
 use Rattle.mx_io.specs.Told.{Telling}
 use Rattle.mx_io.specs.Outputs.{Held}
 use Rattle.mx_cli.specs.Reading.{IsPlanOf, Reads}
-use Rattle.mx_cli.specs.Told.{Seen}
+use Rattle.mx_cli.specs.Reports.{Seen}
 use Rattle.mx_jobs.specs.Serial.{AreSerial}
-use Rattle.mx_live.specs.declared.halts.Halt.{Halt}
-use Rattle.mx_live.specs.declared.halts.Halt.TheVariants.{Plan, TooFewSections, TurnsSpent, GateShut, Writer, Memory}
-use Rattle.mx_live.specs.Halts.{InVain, TellsHalt}
+use Rattle.mx_live.specs.declared.live_error.LiveError.{LiveError}
+use Rattle.mx_live.specs.declared.live_error.LiveError.TheVariants.{Plan, TooFewSections, TurnsSpent, GateShut, Writer, Memory}
+use Rattle.mx_live.specs.LiveErrors.{InVain, ReportsError}
 use Rattle.mx_live.specs.Progress.{TellsProgress}
 use Rattle.mx_live.specs.Shown.{live_text}
 use Rattle.mx_live.specs.Together.{ComeOf, HaveSections}
@@ -38,9 +38,9 @@ Shows told request old new =
 -- why the run has no journal: the plan can't be read or is refused; else it has too few sections;
 -- else its threads left a worker that is not done, and the one of the least node says why. An
 -- output that takes all is no reason, and want of memory may always be one
-abbrev pub Halts : Bool → Option Telling → LiveRequest → Halt → Type 0
+abbrev pub Halts : Bool → Option Telling → LiveRequest → LiveError → Type 0
 Halts takes told request (Plan fault) =
-    IfSome told (λ telling. Reads telling (Err (stop.Fault fault)))
+    IfSome told (λ telling. Reads telling (Err (command_error.Fault fault)))
 Halts takes told request TooFewSections =
     (p : Fields) × IsPlanOf told p × (p.sections < length p.nodes * request.sections)
 Halts takes told request TurnsSpent =
@@ -52,29 +52,29 @@ Halts takes told request Memory = Unit {0}
 
 -- nothing was printed; or, if memory or an output failed, perhaps the whole text, not all of which
 -- need have been passed on
-abbrev pub Prints : Option Telling → LiveRequest → Halt → Held → Held → Type 0
+abbrev pub Prints : Option Telling → LiveRequest → LiveError → Held → Held → Type 0
 Prints told request Writer old new = Keeps old new ⊎ Shows told request old new
 Prints told request Memory old new = Keeps old new ⊎ Shows told request old new
-Prints told request halt old new = Keeps old new
+Prints told request error old new = Keeps old new
 
 -- a journal was printed and passed on: the output keeps nothing back; or there is none
-abbrev pub Ends : Bool → Option Telling → LiveRequest → Held → Held → Bool → Result (Unit {0}) Halt
+abbrev pub Ends : Bool → Option Telling → LiveRequest → Held → Held → Bool → Result (Unit {0}) LiveError
     → Type 0
 Ends takes told request old new kept_back (Ok done) =
     Shows told request old new × (kept_back ≡ false)
-Ends takes told request old new kept_back (Err halt) =
-    Halts takes told request halt × Prints told request halt old new
+Ends takes told request old new kept_back (Err error) =
+    Halts takes told request error × Prints told request error old new
 
 -- the status and the line of that, by a standard error that takes all or not
-abbrev pub Closes : Bool → Text → Result (Unit {0}) Halt → Held → Held → ℕ → Type 0
+abbrev pub Closes : Bool → Text → Result (Unit {0}) LiveError → Held → Held → ℕ → Type 0
 Closes takes name (Ok done) old new status = (status ≡ 0) × Keeps old new
-Closes takes name (Err halt) old new status = TellsHalt takes name halt old new status
+Closes takes name (Err error) old new status = ReportsError takes name error old new status
 
 -- A live run, by what is seen of the outputs before and after it. Standard error gets the lines of
 -- progress that were asked for, and then the line of why there is no journal, if there is none.
 pub record Lives (takes takes_err : Bool) (told : Option Telling) (request : LiveRequest)
     (old new : Seen) (status : ℕ) : Type 0 where
-  pub ended : Result (Unit {0}) Halt
+  pub ended : Result (Unit {0}) LiveError
   pub ends : Ends takes told request old.out new.out new.kept_back ended
   pub after_progress : Held
   pub progress : TellsProgress request.progress old.err after_progress

@@ -2,15 +2,15 @@
 //! sections; then the journals are gathered.
 #![tactic(auto)]
 
-mod halts;
 mod live_command;
+mod live_error;
 mod live_text;
 mod node_runs;
 mod progress;
 mod threads;
 
-pub use halts::{Halt, tell};
 pub use live_command::live;
+pub use live_error::{LiveError, report_error};
 pub use live_text::add_journal;
 pub use node_runs::{gather_left, run_stations, stations_in};
 pub use threads::Ended;

@@ -4,15 +4,15 @@ ghost use Rattle.std.specs.Prelude.{◌≡◌, ◌⊎◌, Option, false, length,
 ghost use Rattle.std.specs.Io.KnownBytes.{Appends, Keeps};
 ghost use Rattle.mx_cli.specs.Words.{texts_of};
 ghost use Rattle.mx_cli.specs.LiveWords.{request_asked, request_of, live_line};
-ghost use Rattle.mx_cli.specs.Told.{Answers, Declines, seen};
+ghost use Rattle.mx_cli.specs.Reports.{Answers, Declines, seen};
 ghost use Rattle.mx_io.specs.Told.{Telling};
-ghost use Rattle.mx_live.specs.Halts.{Fails};
+ghost use Rattle.mx_live.specs.LiveErrors.{Fails};
 ghost use Rattle.mx_live.specs.Shown.{live_text};
 ghost use Rattle.mx_cli.specs.Reading.{IsPlanOf};
 ghost use Rattle.mx_live.specs.Lives.{AskNothing, Ends, Lives};
 ghost use Rattle.mx_live.specs.Progress.{TellsProgress};
 
-use crate::halts::{Halt, tell};
+use crate::live_error::{LiveError, report_error};
 use crate::live_text::add_journal;
 use crate::node_runs::live_by_shape;
 use mx_cli::{LiveRequest, fetch_plan, parse_live, refuse};
@@ -72,7 +72,7 @@ fn run_live<R: Threads + Clock, S: Source, O: Output, E: Output>(
 {
     match live_and_show(rt, alloc, request, source, out, err) {
         Ok(()) => 0,
-        Err(halt) => tell(alloc, halt, request.plan, err),
+        Err(error) => report_error(alloc, error, request.plan, err),
     }
 }
 
@@ -84,7 +84,7 @@ fn live_and_show<R: Threads + Clock, S: Source, O: Output, E: Output>(
     source: &mut S,
     out: &mut O,
     err: &mut E,
-) -> Result<(), Halt>
+) -> Result<(), LiveError>
     ensures ends { Ends (O.takes_all out.old) (S.told source.old request.now.plan.now)
         (request_of request.now)
         (O.written out.old) (O.written out.new) (O.keeps_back out.new) result }
@@ -104,7 +104,7 @@ fn live_plan<R: Threads + Clock, O: Output, E: Output>(
     request: &LiveRequest<'_>,
     out: &mut O,
     err: &mut E,
-) -> Result<(), Halt>
+) -> Result<(), LiveError>
     ensures ends { (told : Option Telling) → IsPlanOf told plan.now
         → Ends (O.takes_all out.old) told (request_of request.now)
         (O.written out.old) (O.written out.new) (O.keeps_back out.new) result }
@@ -113,14 +113,19 @@ fn live_plan<R: Threads + Clock, O: Output, E: Output>(
     ensures stays { E.takes_all err.new ≡ E.takes_all err.old }
 {
     if u64::from(plan.nodes()).saturating_mul(request.sections) > plan.sections() {
-        return Err(Halt::TooFewSections);
+        return Err(LiveError::TooFewSections);
     }
     let gathered = live_by_shape(rt, alloc, plan, request, err)?;
     show(alloc, plan, &gathered, out)
 }
 
 /// Prints what the nodes have together, whole or not at all.
-fn show<O: Output>(alloc: Global, plan: &Plan, gathered: &Gathered, out: &mut O) -> Result<(), Halt>
+fn show<O: Output>(
+    alloc: Global,
+    plan: &Plan,
+    gathered: &Gathered,
+    out: &mut O,
+) -> Result<(), LiveError>
     ensures ok { OnOk result (Appends (O.written out.old) (O.written out.new)
         (live_text plan.now (length gathered.now.receipts.items) gathered.now.journal)) }
     ensures passed { OnOk result (O.keeps_back out.new ≡ false) }

@@ -4,13 +4,13 @@ ghost use Rattle.std.specs.Prelude.{◌≡◌, ◌⊎◌, length, IfErr, IfNone,
 ghost use Rattle.mx_cli.specs.LiveWords.{request_of};
 ghost use Rattle.mx_stations.specs.Gathered.{IsGathered, OfOneTable};
 ghost use Rattle.mx_jobs.specs.Serial.{AreSerial};
-ghost use Rattle.mx_live.specs.Halts.{EndInVain, HaltsIn, HasNone, RunsInVain};
+ghost use Rattle.mx_live.specs.LiveErrors.{EndInVain, FirstNotDone, HasNone, RunsInVain};
 ghost use Rattle.mx_live.specs.Progress.{TellsProgress};
 ghost use Rattle.mx_live.specs.Stations.{AreAtRest};
 ghost use Rattle.mx_live.specs.Together.{AreGathered, ComeOf, HaveSections};
 ghost use Rattle.mx_live.specs.Workers.{AreDone, AreLeft, orders_in, stations_of};
 
-use crate::halts::Halt;
+use crate::live_error::LiveError;
 use crate::progress::report_if_asked;
 use crate::threads::{Ended, WorkerConfig, join_all, start_all};
 use mx_cli::LiveRequest;
@@ -32,7 +32,7 @@ pub(crate) fn live_by_shape<R: Threads + Clock, E: Output>(
     plan: &Plan,
     request: &LiveRequest<'_>,
     err: &mut E,
-) -> Result<Gathered, Halt>
+) -> Result<Gathered, LiveError>
     ensures serial { IfOk result (λ all. AreSerial all.receipts.items all.journal) }
     ensures sections { IfOk result (λ all.
         HaveSections (length plan.now.nodes) request.now.sections all.receipts.items) }
@@ -67,7 +67,7 @@ fn live_at<C: Exclusion + Send + 'static, R: Threads + Clock, E: Output>(
     stations: Vec<Station<C>>,
     request: &LiveRequest<'_>,
     err: &mut E,
-) -> Result<Gathered, Halt>
+) -> Result<Gathered, LiveError>
 where
     C::Msg: Send + 'static,
     C::Shape: Send + 'static,
@@ -79,16 +79,16 @@ where
         × AreGathered C.core shape plan.now
         (orders_in (request_of request.now)) all.receipts.items all.journal) }
     ensures err { (shape : C.Shape) → AreAtRest C.core shape plan.now stations.items
-        → IfErr result (λ halt.
-        RunsInVain C.core shape plan.now (orders_in (request_of request.now)) halt
-        ⊎ (halt ≡ Halt.Memory)) }
+        → IfErr result (λ error.
+        RunsInVain C.core shape plan.now (orders_in (request_of request.now)) error
+        ⊎ (error ≡ LiveError.Memory)) }
     ensures progress { TellsProgress request.now.progress
         (E.written err.old) (E.written err.new) }
     ensures stays { E.takes_all err.new ≡ E.takes_all err.old }
 {
     match run_stations(rt, alloc, plan, stations, request, err) {
         Ok(left) => gather_left(alloc, left),
-        Err(AllocError) => Err(Halt::Memory),
+        Err(AllocError) => Err(LiveError::Memory),
     }
 }
 
@@ -150,7 +150,7 @@ fn orders_of(request: &LiveRequest<'_>) -> WorkerConfig
 
 /// Gathers the stations that the workers left, if all are done. Otherwise returns why the first
 /// that is not done is not.
-pub fn gather_left<C: Exclusion>(alloc: Global, left: Vec<Ended<C>>) -> Result<Gathered, Halt>
+pub fn gather_left<C: Exclusion>(alloc: Global, left: Vec<Ended<C>>) -> Result<Gathered, LiveError>
     requires { OfOneTable (stations_of left.items) }
     ensures serial { IfOk result (λ all. AreSerial all.receipts.items all.journal) }
     ensures done { IfOk result (λ all. AreDone left.items) }
@@ -158,11 +158,11 @@ pub fn gather_left<C: Exclusion>(alloc: Global, left: Vec<Ended<C>>) -> Result<G
         IsGathered (stations_of left.items) all.journal all.receipts.items) }
     ensures err { IfErr result (EndInVain left.items) }
 {
-    match first_halt(left.as_slice()) {
-        Some(halt) => Err(halt),
+    match first_error(left.as_slice()) {
+        Some(error) => Err(error),
         None => match only_stations(alloc, left) {
             Ok(stations) => gather_all(alloc, stations),
-            Err(AllocError) => Err(Halt::Memory),
+            Err(AllocError) => Err(LiveError::Memory),
         },
     }
 }
@@ -190,30 +190,30 @@ fn watch_over<C: Exclusion>(stations: &[Station<C>]) -> Result<Option<Watch<C>>,
 }
 
 /// Returns why the first worker that is not done is not.
-fn first_halt<S>(left: &[(S, Worked)]) -> Option<Halt>
-    ensures some { IfSome result (HaltsIn left.now) }
+fn first_error<S>(left: &[(S, Worked)]) -> Option<LiveError>
+    ensures some { IfSome result (FirstNotDone left.now) }
     ensures none { IfNone result (AreDone left.now) }
 {
     for one in left {
         match one.1 {
             Worked::Done => {}
-            Worked::NotYet(_) => return Some(Halt::TurnsSpent),
-            Worked::GateShut => return Some(Halt::GateShut),
+            Worked::NotYet(_) => return Some(LiveError::TurnsSpent),
+            Worked::GateShut => return Some(LiveError::GateShut),
         }
     }
     None
 }
 
 /// Gathers the stations.
-fn gather_all<C: Exclusion>(alloc: Global, stations: Vec<Station<C>>) -> Result<Gathered, Halt>
+fn gather_all<C: Exclusion>(alloc: Global, stations: Vec<Station<C>>) -> Result<Gathered, LiveError>
     requires { OfOneTable stations.items }
     ensures serial { IfOk result (λ all. AreSerial all.receipts.items all.journal) }
     ensures gathered { IfOk result (λ all.
         IsGathered stations.items all.journal all.receipts.items) }
-    ensures err { IfErr result (λ halt. halt ≡ Halt.Memory) }
+    ensures err { IfErr result (λ error. error ≡ LiveError.Memory) }
 {
     match gather(alloc, stations) {
         Ok(gathered) => Ok(gathered),
-        Err(_) => Err(Halt::Memory),
+        Err(_) => Err(LiveError::Memory),
     }
 }

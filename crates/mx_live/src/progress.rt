@@ -4,7 +4,7 @@ ghost use Rattle.std.specs.Prelude.{◌≡◌, Some};
 ghost use Rattle.mx_live.specs.Progress.{Progresses, TellsProgress, progress_line};
 
 use crate::threads::Workers;
-use mx_cli::put_line;
+use mx_cli::write_line;
 use mx_io::Output;
 use mx_nodelaws::Exclusion;
 use mx_stations::Watch;
@@ -74,7 +74,7 @@ fn report_sections<E: Output>(alloc: Global, sections: u64, err: &mut E)
     ensures progress { Progresses (E.written err.old) (E.written err.new) }
     ensures stays { E.takes_all err.new ≡ E.takes_all err.old }
 {
-    let _ = put_line(alloc, err, ProgressLine(sections));
+    let _ = write_line(alloc, err, ProgressLine(sections));
 }
 
 /// Waits for a second, or until all workers have ended. Returns whether they have.

@@ -92,9 +92,9 @@ fn add_line(plan: &Plan, text: &mut String) -> Result<(), AllocError> {
 /// Appends a letter.
 fn add_letter(plan: &Plan, told: Told, text: &mut String) -> Result<(), AllocError> {
     match told {
-        Told::Maekawa => MaekawaMsg::Locked(stamp(), 2, 3).tell(plan, text),
-        Told::Raymond => RaymondMsg::Privilege(2, 3).tell(plan, text),
-        _ => RicartMsg::Reply(stamp(), 3).tell(plan, text),
+        Told::Maekawa => MaekawaMsg::Locked(stamp(), 2, 3).report_fault(plan, text),
+        Told::Raymond => RaymondMsg::Privilege(2, 3).report_fault(plan, text),
+        _ => RicartMsg::Reply(stamp(), 3).report_fault(plan, text),
     }
 }
 
@@ -129,7 +129,7 @@ fn is_told(
     Ok(text.as_str() == wanted)
 }
 
-fn tell(
+fn report_fault(
     rt: &HostRuntime,
     plan: &Plan,
     member: &Member<Ricart>,
@@ -148,7 +148,7 @@ fn tell(
 
 fn tell_each(rt: &HostRuntime, plan: &Plan, member: &Member<Ricart>) -> Result<()> {
     for text in TEXTS {
-        tell(rt, plan, member, text)?;
+        report_fault(rt, plan, member, text)?;
     }
     Ok(())
 }

@@ -13,10 +13,10 @@ use Rattle.mx_plan.specs.Fields.{Fields}
 use Rattle.mx_plan.specs.declared.faults.PlanFault.{PlanFault}
 use Rattle.mx_io.specs.declared.output.OutputFault.{OutputFault}
 use Rattle.mx_io.specs.declared.output.OutputFault.TheVariants as output_fault
-use Rattle.mx_cli.specs.declared.faults.Stop.{Stop}
-use Rattle.mx_cli.specs.declared.faults.Stop.TheVariants as stop
+use Rattle.mx_cli.specs.declared.faults.CommandError.{CommandError}
+use Rattle.mx_cli.specs.declared.faults.CommandError.TheVariants as command_error
 use Rattle.mx_commands.specs.Jobs.{run_by, where_read}
-use Rattle.mx_cli.specs.Outputs.{stop_of}
+use Rattle.mx_cli.specs.Outputs.{error_of}
 use Rattle.mx_commands.specs.Ran.{Ran, StopsAt}
 use Rattle.mx_commands.specs.Runs.{Report}
 use Rattle.mx_commands.proofs.RunLemmas.{rest, rest_err}
@@ -30,20 +30,20 @@ no_parcel_is (Err f) wanted (inl memory) is = let m = memory.0 in cc
 no_parcel_is (Err f) wanted (inr same) is = cc
 
 -- a run that stops at an event stops as its report
-pub stops : {H S M : Type 0} (core : Core H S M) (letter : Fields → M → Text) (p : Fields) (es : List Event) (r : Report) (k : ℕ) (g : ClusterState S M) (d : Event) (s : Stop)
+pub stops : {H S M : Type 0} (core : Core H S M) (letter : Fields → M → Text) (p : Fields) (es : List Event) (r : Report) (k : ℕ) (g : ClusterState S M) (d : Event) (s : CommandError)
     → k < length es → r.end ≡ (rest core letter p es k g).end → StopsAt k (step_of core g (get_or es k d)) s → StopsAs r s
-stops core letter p es r k g d s lt e (inl memory) = subst (λ (x : Stop). StopsAs r x) (sym memory) tt
+stops core letter p es r k g d s lt e (inl memory) = subst (λ (x : CommandError). StopsAs r x) (sym memory) tt
 stops core letter p es r k g d s lt e (inr none) =
-    subst (λ (x : Stop). StopsAs r x) (sym none.0) (e ∙ ap (λ (q : Report). q.end) (rest_err core letter p es k g step_fault.NoParcel d lt none.1))
+    subst (λ (x : CommandError). StopsAs r x) (sym none.0) (e ∙ ap (λ (q : Report). q.end) (rest_err core letter p es k g step_fault.NoParcel d lt none.1))
 
 -- a run about which only the end is known
-pub ran_as : (t : Bool) (r : Report) (s : Stop) → StopsAs r s → Ran t None None r (Err s)
-ran_as t r (stop.Fault fault) h = (h, tt)
-ran_as t r stop.Writer h = absurd h
-ran_as t r stop.Memory h = (0, tt)
+pub ran_as : (t : Bool) (r : Report) (s : CommandError) → StopsAs r s → Ran t None None r (Err s)
+ran_as t r (command_error.Fault fault) h = (h, tt)
+ran_as t r command_error.Writer h = absurd h
+ran_as t r command_error.Memory h = (0, tt)
 
 -- the same for events that were read
-pub ran_read : (t : Bool) (p : Fields) (bytes : List ℕ) (wanted : Result (List Event) PlanFault) (es : List Event) (s : Stop) → wanted ≡ Ok es
+pub ran_read : (t : Bool) (p : Fields) (bytes : List ℕ) (wanted : Result (List Event) PlanFault) (es : List Event) (s : CommandError) → wanted ≡ Ok es
     → StopsAs (run_by p p.shape es) s → Ran t None None (where_read wanted (run_by p p.shape)) (Err s)
 ran_read t p bytes wanted es s is h =
     subst (λ (w : Result (List Event) PlanFault). Ran t None None (where_read w (run_by p p.shape)) (Err s)) (sym is) (ran_as t (run_by p p.shape es) s h)
@@ -59,7 +59,7 @@ is_false true h = absurd (h refl)
 is_false false h = refl
 
 -- an output did not take the picture
-pub ran_put : (t : Bool) (r : Report) (f : OutputFault) → (t ≡ true → f ≡ output_fault.Memory) → Ran t None None r (Err (stop_of f))
+pub ran_put : (t : Bool) (r : Report) (f : OutputFault) → (t ≡ true → f ≡ output_fault.Memory) → Ran t None None r (Err (error_of f))
 ran_put t r output_fault.Refused takes = (is_false t (λ e. let bad : output_fault.Refused ≡ output_fault.Memory = takes e in cc), (0, tt))
 ran_put t r output_fault.Memory takes = (0, tt)
 

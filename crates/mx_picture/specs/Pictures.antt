@@ -6,30 +6,30 @@ use Rattle.mx_plan.specs.Fields.{Fields, node_of}
 use Rattle.mx_plan.specs.declared.place.Place.TheVariants.{Nodes}
 use Rattle.mx_plan.specs.declared.faults.PlanFault.TheVariants.{UnknownName}
 use Rattle.mx_cli.specs.declared.faults.Fault.TheVariants.{BadText}
-use Rattle.mx_cli.specs.declared.faults.Stop.{Stop}
-use Rattle.mx_cli.specs.declared.faults.Stop.TheVariants as stop
+use Rattle.mx_cli.specs.declared.faults.CommandError.{CommandError}
+use Rattle.mx_cli.specs.declared.faults.CommandError.TheVariants as command_error
 use Rattle.mx_cli.specs.Closed.{Closes, PassesOn}
 use Rattle.mx_cli.specs.Reading.{IsPlanOf, plan_told}
 use Rattle.mx_commands.specs.Ran.{RanOf}
-use Rattle.mx_cli.specs.Told.{Seen}
+use Rattle.mx_cli.specs.Reports.{Seen}
 use Rattle.mx_io.specs.Told.{Telling}
 use Rattle.mx_picture.specs.Drawn.{Draws}
 use Rattle.mx_picture.specs.PictureWords.{Request}
 
 -- a node was named that this plan does not have
-abbrev pub IsUnknownNode : Fields → Option Text → Stop → Type 0
+abbrev pub IsUnknownNode : Fields → Option Text → CommandError → Type 0
 IsUnknownNode p None end = ⊥
 IsUnknownNode p (Some name) end =
-    (node_of p name ≡ None) × (end ≡ stop.Fault (BadText (UnknownName Nodes)))
+    (node_of p name ≡ None) × (end ≡ command_error.Fault (BadText (UnknownName Nodes)))
 
 -- a run has no picture because a node was named that the plan does not have
-abbrev pub LacksNode : Fields → Option Text → Result ℕ Stop → Type 0
+abbrev pub LacksNode : Fields → Option Text → Result ℕ CommandError → Type 0
 LacksNode p wanted (Ok status) = ⊥
 LacksNode p wanted (Err end) = IsUnknownNode p wanted end
 
 -- a run ends as a replay of these names does, whatever it prints; or the plan was read, and there
 -- is no such node
-abbrev pub EndsAsReplay : Bool → (Text → Option Telling) → Request → Result ℕ Stop → Type 0
+abbrev pub EndsAsReplay : Bool → (Text → Option Telling) → Request → Result ℕ CommandError → Type 0
 EndsAsReplay takes_all told request ended =
     RanOf takes_all None None told (wants.replay request.names) ended
     ⊎ ((p : Fields) × IsPlanOf (plan_told told request.names) p × LacksNode p request.node ended)
@@ -39,7 +39,7 @@ EndsAsReplay takes_all told request ended =
 -- memory ran out, or an output refused
 abbrev pub Pictures : Bool → Bool → (Text → Option Telling) → Request → Seen → Seen → ℕ → Type 0
 Pictures takes_out takes_err told request old new status =
-    (ended : Result ℕ Stop) × EndsAsReplay takes_out told request ended
+    (ended : Result ℕ CommandError) × EndsAsReplay takes_out told request ended
     × Draws old.out new.out ended
     × Closes (takes_out && takes_err) request.names ended old.err new.err status
     × PassesOn old.err new.err new.kept_back status

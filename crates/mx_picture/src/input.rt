@@ -12,7 +12,7 @@ use crate::page::add_page;
 use crate::part::Part;
 use crate::run::{Drawing, add_gap, draw_run};
 use crate::words::Request;
-use mx_cli::{Fault, Stop, fetch_both};
+use mx_cli::{CommandError, Fault, fetch_both};
 use mx_commands::by_shape;
 use mx_io::{Output, Source};
 use mx_network::Event;
@@ -31,7 +31,7 @@ pub(crate) fn draw<S: Source, O: Output>(
     request: &Request<'_>,
     source: &mut S,
     out: &mut O,
-) -> Result<u8, Stop>
+) -> Result<u8, CommandError>
     ensures ran { EndsAsReplay (O.takes_all out.old) (S.told source.old)
         (request_of request.now) result }
     ensures drawn { Draws (O.written out.old) (O.written out.new) result }
@@ -48,7 +48,7 @@ fn draw_text<O: Output>(
     plan: &Plan,
     text: &[u8],
     out: &mut O,
-) -> Result<u8, Stop>
+) -> Result<u8, CommandError>
     ensures ran { Ran (O.takes_all out.old) None None (report_of_events text.now plan.now) result
         ⊎ LacksNode plan.now (request_of request.now).node result }
     ensures drawn { Draws (O.written out.old) (O.written out.new) result }
@@ -62,7 +62,7 @@ fn draw_text<O: Output>(
 }
 
 /// Returns the requested part of the events.
-fn part_of(plan: &Plan, request: &Request<'_>) -> Result<Part, Stop>
+fn part_of(plan: &Plan, request: &Request<'_>) -> Result<Part, CommandError>
     ensures err { IfErr result (IsUnknownNode plan.now (request_of request.now).node) }
 {
     let node = node_in(plan, request.node)?;
@@ -76,7 +76,7 @@ fn part_of(plan: &Plan, request: &Request<'_>) -> Result<Part, Stop>
 }
 
 /// Returns the node of this name, if a name is given.
-fn node_in(plan: &Plan, name: Option<&str>) -> Result<Option<NodeId>, Stop>
+fn node_in(plan: &Plan, name: Option<&str>) -> Result<Option<NodeId>, CommandError>
     ensures err { IfErr result
         (IsUnknownNode plan.now (option_map (λ text. text.now) name.entry)) }
 {
@@ -85,12 +85,17 @@ fn node_in(plan: &Plan, name: Option<&str>) -> Result<Option<NodeId>, Stop>
     };
     match plan.node(name) {
         Some(node) => Ok(Some(node)),
-        None => Err(Stop::Fault(Fault::BadText(PlanFault::UnknownName(Place::Nodes)))),
+        None => Err(CommandError::Fault(Fault::BadText(PlanFault::UnknownName(Place::Nodes)))),
     }
 }
 
 /// Returns the picture of a part of these events.
-fn picture_of(alloc: Global, plan: &Plan, part: &Part, events: &[Event]) -> Result<String, Stop>
+fn picture_of(
+    alloc: Global,
+    plan: &Plan,
+    part: &Part,
+    events: &[Event],
+) -> Result<String, CommandError>
     requires { AllNameNodes (length plan.now.nodes) events.now }
     ensures whole { IfOk result (λ page. IsWhole (string_bytes page)) }
     ensures ok { OnOk result ((run_by plan.now plan.now.shape events.now).end ≡ None) }
@@ -125,7 +130,7 @@ fn draw_by_shape(
     plan: &Plan,
     events: &[Event],
     drawing: &mut Drawing,
-) -> Result<(), Stop>
+) -> Result<(), CommandError>
     requires { AllNameNodes (length plan.now.nodes) events.now }
     ensures ok { OnOk result ((run_by plan.now plan.now.shape events.now).end ≡ None) }
     ensures err { IfErr result (StopsAs (run_by plan.now plan.now.shape events.now)) }

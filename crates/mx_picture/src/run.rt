@@ -13,7 +13,7 @@ use crate::parcels::{draw_delivery, draw_sent};
 use crate::part::Part;
 use crate::sheet::Sheet;
 use crate::side::Side;
-use mx_cli::{Fault, Stop};
+use mx_cli::{CommandError, Fault};
 use mx_format::{EventText, Letter, OutcomeText, add_parcel};
 use mx_member::{Parcel, SentParcel};
 use mx_network::{Cluster, Entry, Event, Outcome, StepFault};
@@ -64,7 +64,7 @@ pub(crate) fn draw_run<C: Exclusion>(
     mut cluster: Cluster<C>,
     events: &[Event],
     drawing: &mut Drawing,
-) -> Result<(), Stop>
+) -> Result<(), CommandError>
 where
     C::Msg: Letter,
     requires members { length cluster.members ≡ length plan.now.nodes }
@@ -83,7 +83,7 @@ fn draw_events<C: Exclusion>(
     cluster: &mut Cluster<C>,
     events: &[Event],
     drawing: &mut Drawing,
-) -> Result<(), Stop>
+) -> Result<(), CommandError>
 where
     C::Msg: Letter,
     requires members { length cluster.old.members ≡ length plan.now.nodes }
@@ -106,7 +106,7 @@ fn draw_event<C: Exclusion>(
     event: &Event,
     cluster: &mut Cluster<C>,
     drawing: &mut Drawing,
-) -> Result<(), Stop>
+) -> Result<(), CommandError>
 where
     C::Msg: Letter,
     requires named { NamesNodes (length cluster.old.members) event.now }
@@ -155,15 +155,19 @@ pub(crate) fn add_gap(drawing: &mut Drawing) -> Result<(), AllocError> {
 }
 
 /// Applies an event, of this index.
-fn apply<C: Exclusion>(index: u64, event: &Event, cluster: &mut Cluster<C>) -> Result<(), Stop>
+fn apply<C: Exclusion>(
+    index: u64,
+    event: &Event,
+    cluster: &mut Cluster<C>,
+) -> Result<(), CommandError>
     requires named { NamesNodes (length cluster.old.members) event.now }
     ensures ok { OnOk result (step_of C.core cluster.old event.now ≡ Ok cluster.new) }
     ensures err { IfErr result (StopsAt index (step_of C.core cluster.old event.now)) }
 {
     match step(event, cluster) {
         Ok(()) => Ok(()),
-        Err(StepFault::NoParcel) => Err(Stop::Fault(Fault::NoParcel(index))),
-        Err(StepFault::Memory) => Err(Stop::Memory),
+        Err(StepFault::NoParcel) => Err(CommandError::Fault(Fault::NoParcel(index))),
+        Err(StepFault::Memory) => Err(CommandError::Memory),
         Err(StepFault::NoNode) => unreachable!(),
     }
 }

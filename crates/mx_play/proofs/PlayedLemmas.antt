@@ -20,7 +20,7 @@ use Rattle.mx_cli.proofs.OutputLemmas.{Appends-keeps}
 use Rattle.mx_commands.specs.Runs.{closing_text}
 use Rattle.mx_cli.specs.Reading.{Fetches, Reads}
 use Rattle.mx_cli.specs.declared.faults.Named.{Named}
-use Rattle.mx_cli.specs.declared.faults.Stop.{Stop}
+use Rattle.mx_cli.specs.declared.faults.CommandError.{CommandError}
 use Rattle.mx_io.specs.Outputs.{Held}
 use Rattle.mx_io.specs.Told.{Telling}
 use Rattle.mx_play.specs.Played.{IsLinePlan, IsPlayedBy, IsScriptOf}
@@ -44,12 +44,12 @@ by_keeps p a b c (Maekawa family) = played_keeps maekawa_core maekawa_text maeka
 by_keeps p a b c (Raymond tree) = played_keeps raymond_core raymond_text raymond_known p tree a b c
 
 -- a line that is read as a plan
-pub line_plan : (line : List ℕ) (r : Result Fields Stop) → Reads (Some line) r → IfOk r IsLinePlan
+pub line_plan : (line : List ℕ) (r : Result Fields CommandError) → Reads (Some line) r → IfOk r IsLinePlan
 line_plan line (Ok p) x = (line, x)
 line_plan line (Err e) x = tt
 
 -- a script that was fetched
-pub fetched_script : (named : Named) (told : Option Telling) (r : Result (Vec ℕ Global) Stop) → IfSome told (λ telling. Fetches named telling r)
+pub fetched_script : (named : Named) (told : Option Telling) (r : Result (Vec ℕ Global) CommandError) → IfSome told (λ telling. Fetches named telling r)
     → IfOk r (λ text. IsScriptOf told text.items)
 fetched_script named None (Ok text) x = tt
 fetched_script named (Some None) (Ok text) x = absurd x

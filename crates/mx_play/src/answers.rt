@@ -126,7 +126,7 @@ where
         Err(stop) => {
             take_to(alloc, plan, shape, before, session)?;
             text.clear();
-            Ok(Some(Complaint::Stop(stop)))
+            Ok(Some(Complaint::Line(stop)))
         }
     }
 }

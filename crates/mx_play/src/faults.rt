@@ -12,7 +12,7 @@ pub(crate) enum Complaint {
     /// It is not in UTF-8.
     NotText,
     /// One of its words is wrong, or what it asks for can't be done.
-    Stop(LineStop),
+    Line(LineStop),
     /// It has more than 65,536 bytes.
     TooLong,
     /// So many lines were done, and more are to be taken back.
@@ -25,7 +25,7 @@ impl fmt::Display for Complaint {
     fn fmt<W: fmt::Write>(&self, f: &mut fmt::Formatter<W>) -> fmt::Result {
         match self {
             Complaint::NotText => write!(f, "{}", LineFault::NotText),
-            Complaint::Stop(stop) => write!(f, "{stop}"),
+            Complaint::Line(stop) => write!(f, "{stop}"),
             Complaint::TooLong => f.write_str("more than 65536 bytes"),
             Complaint::NoUndo => f.write_str("no undo to take back"),
             Complaint::TooFew(lines) => write!(f, "only {lines} to take back"),
@@ -74,7 +74,7 @@ fn message_about(
     line: &[u8],
 ) -> Result<String, AllocError> {
     match (complaint, str::from_utf8(line)) {
-        (Complaint::Stop(stop), Ok(text)) => {
+        (Complaint::Line(stop), Ok(text)) => {
             message_of(alloc, plan, FirstWords::OfSessions, stop, text)
         }
         _ => Ok(String::new(alloc)),

@@ -8,7 +8,7 @@ ghost use Rattle.mx_scripts.specs.Fates.{NoneArrives, can_pass, is_under_way, is
 ghost use Rattle.mx_play.specs.Moments.{Brings, CanHappen, CanLead, Leads, first_moment, shown};
 
 use crate::happening::Happening;
-use mx_cli::Stop;
+use mx_cli::CommandError;
 use mx_commands::{start, step};
 use mx_format::Letter;
 use mx_lines::{LineFault, LinkChange, Scope};
@@ -170,7 +170,7 @@ where
     let index = cluster.trace().len() as u64;
     match step(plan, index, event, cluster, &mut one) {
         Ok(()) => Ok(text.push_str(one.as_str())?),
-        Err(Stop::Memory) => Err(LineStop::Memory),
+        Err(CommandError::Memory) => Err(LineStop::Memory),
         Err(_) => Err(LineStop::Undone(LineFault::NoParcel)),
     }
 }

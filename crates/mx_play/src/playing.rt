@@ -8,7 +8,7 @@ ghost use Rattle.mx_play.specs.Sessions.{HasTalked, IsPlayed, IsSession, at_star
 use crate::reading::{Lines, Listed};
 use crate::session::{Session, begin};
 use crate::talking::{finish, greet, talk};
-use mx_cli::Stop;
+use mx_cli::CommandError;
 use mx_format::Letter;
 use mx_io::Output;
 use mx_knowledge::Knowledge;
@@ -28,7 +28,7 @@ pub(crate) fn play_by<L: Lines, O: Output, E: Output>(
     lines: &mut L,
     out: &mut O,
     err: &mut E,
-) -> Result<u8, Stop>
+) -> Result<u8, CommandError>
     ensures played { IfOk result (λ _. IsPlayedBy plan.now (O.written out.old) (O.written out.new)
         plan.now.shape) }
     ensures zero { IfOk result (λ status. status ≡ 0) }
@@ -59,7 +59,7 @@ fn play_in<C: Exclusion + Knowledge, L: Lines, O: Output, E: Output>(
     lines: &mut L,
     out: &mut O,
     err: &mut E,
-) -> Result<u8, Stop>
+) -> Result<u8, CommandError>
 where
     C::Msg: Letter,
     requires count { C.core.count shape.now ≡ length plan.now.nodes }
@@ -85,7 +85,7 @@ fn play_lines<C: Exclusion + Knowledge, L: Lines, O: Output, E: Output>(
     lines: &mut L,
     out: &mut O,
     err: &mut E,
-) -> Result<(), Stop>
+) -> Result<(), CommandError>
 where
     C::Msg: Letter,
     requires { IsSession C.core plan.now shape.now
@@ -118,7 +118,7 @@ fn go_on<C: Exclusion + Knowledge, L: Lines, O: Output, E: Output>(
     session: &mut Session<C>,
     out: &mut O,
     err: &mut E,
-) -> Result<(), Stop>
+) -> Result<(), CommandError>
 where
     C::Msg: Letter,
     requires { IsSession C.core plan.now shape.now

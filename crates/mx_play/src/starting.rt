@@ -7,7 +7,7 @@ ghost use Rattle.mx_play.specs.Played.{IsLinePlan, IsPlanNamed, IsScriptOf, told
 
 use crate::reading::{Given, Lines};
 use crate::words::Request;
-use mx_cli::{Fault, Named, PlanAndText, Stop, fetch, fetch_plan, plan_in};
+use mx_cli::{CommandError, Fault, Named, PlanAndText, fetch, fetch_plan, plan_in};
 use mx_io::Source;
 use mx_plan::Plan;
 use std::alloc::Global;
@@ -18,7 +18,7 @@ pub(crate) fn fetch_start<S: Source, L: Lines>(
     request: &Request<'_>,
     source: &mut S,
     lines: &mut L,
-) -> Result<PlanAndText, Stop>
+) -> Result<PlanAndText, CommandError>
     ensures plan { IfOk result (λ start.
         IsPlanNamed (S.told source.old) request.now.plan.now start.plan) }
     ensures script { IfOk result (λ start. IsScriptOf
@@ -35,7 +35,7 @@ fn plan_of<S: Source, L: Lines>(
     name: &str,
     source: &mut S,
     lines: &mut L,
-) -> Result<Plan, Stop>
+) -> Result<Plan, CommandError>
     ensures named { IfOk result (IsPlanNamed (S.told source.old) name.now) }
     ensures stays { S.told source.new ≡ S.told source.old }
 {
@@ -47,18 +47,24 @@ fn plan_of<S: Source, L: Lines>(
 }
 
 /// The plan that the next line is.
-fn first_plan<L: Lines>(alloc: Global, lines: &mut L) -> Result<Plan, Stop>
+fn first_plan<L: Lines>(alloc: Global, lines: &mut L) -> Result<Plan, CommandError>
     ensures { IfOk result IsLinePlan }
 {
     let mut line = Vec::new(alloc);
     match lines.next(&mut line)? {
         Given::Line | Given::End => plan_in(alloc, line.as_slice()),
-        Given::TooLong | Given::Unreadable => Err(Stop::Fault(Fault::CannotRead(Named::Plan))),
+        Given::TooLong | Given::Unreadable => Err(CommandError::Fault(Fault::CannotRead(
+            Named::Plan,
+        ))),
     }
 }
 
 /// The script, where one is named.
-fn script_of<S: Source>(alloc: Global, name: Option<&str>, source: &mut S) -> Result<Vec<u8>, Stop>
+fn script_of<S: Source>(
+    alloc: Global,
+    name: Option<&str>,
+    source: &mut S,
+) -> Result<Vec<u8>, CommandError>
     ensures { IfOk result (λ text. IsScriptOf (told_of_script (S.told source.old)
         (option_map (λ name. name.now) name.entry)) text.items) }
 {
@@ -69,7 +75,11 @@ fn script_of<S: Source>(alloc: Global, name: Option<&str>, source: &mut S) -> Re
 }
 
 /// The script of a name. Standard input has none, since its lines come anyway.
-fn named_script<S: Source>(alloc: Global, name: &str, source: &mut S) -> Result<Vec<u8>, Stop>
+fn named_script<S: Source>(
+    alloc: Global,
+    name: &str,
+    source: &mut S,
+) -> Result<Vec<u8>, CommandError>
     ensures { IfOk result (λ text.
         IsScriptOf (told_of_name (S.told source.old) name.now) text.items) }
 {

@@ -11,7 +11,7 @@ use crate::answers::answer;
 use crate::faults::{Complaint, ComplaintLine};
 use crate::reading::{Given, Lines};
 use crate::session::{Session, end_session};
-use mx_cli::{Fault, Named, Stop, put_line};
+use mx_cli::{CommandError, Fault, Named, write_line};
 use mx_format::Letter;
 use mx_io::{Output, OutputFault};
 use mx_knowledge::Knowledge;
@@ -42,7 +42,7 @@ pub(crate) fn talk<C: Exclusion + Knowledge, L: Lines, O: Output, E: Output>(
     session: &mut Session<C>,
     out: &mut O,
     err: &mut E,
-) -> Result<Option<u64>, Stop>
+) -> Result<Option<u64>, CommandError>
 where
     C::Msg: Letter,
     requires { IsSession C.core plan.now shape.now
@@ -83,7 +83,7 @@ fn turn<C: Exclusion + Knowledge, L: Lines, O: Output, E: Output>(
     session: &mut Session<C>,
     out: &mut O,
     err: &mut E,
-) -> Result<Heard, Stop>
+) -> Result<Heard, CommandError>
 where
     C::Msg: Letter,
     requires { IsSession C.core plan.now shape.now
@@ -115,7 +115,7 @@ fn hear<L: Lines, E: Output>(
     lines: &mut L,
     line: &mut Vec<u8>,
     err: &mut E,
-) -> Result<Heard, Stop>
+) -> Result<Heard, CommandError>
     ensures { IfOk result (IsHeard (length plan.now.nodes) (length plan.now.registers)) }
 {
     if lines.are_typed() {
@@ -125,7 +125,7 @@ fn hear<L: Lines, E: Output>(
         Given::Line => heard_in(alloc, plan, line.as_slice()),
         Given::TooLong => Ok(Heard::Fault(Complaint::TooLong)),
         Given::End => Ok(Heard::Silence),
-        Given::Unreadable => Err(Stop::Fault(Fault::CannotRead(Named::Events))),
+        Given::Unreadable => Err(CommandError::Fault(Fault::CannotRead(Named::Events))),
     }
 }
 
@@ -144,7 +144,7 @@ fn prompt<E: Output>(err: &mut E) -> Result<(), OutputFault> {
 }
 
 /// What a line asks for.
-fn heard_in(alloc: Global, plan: &Plan, line: &[u8]) -> Result<Heard, Stop>
+fn heard_in(alloc: Global, plan: &Plan, line: &[u8]) -> Result<Heard, CommandError>
     ensures { IfOk result (IsHeard (length plan.now.nodes) (length plan.now.registers)) }
 {
     match str::from_utf8(line) {
@@ -154,13 +154,13 @@ fn heard_in(alloc: Global, plan: &Plan, line: &[u8]) -> Result<Heard, Stop>
 }
 
 /// What a text asks for.
-fn heard_in_text(alloc: Global, plan: &Plan, text: &str) -> Result<Heard, Stop>
+fn heard_in_text(alloc: Global, plan: &Plan, text: &str) -> Result<Heard, CommandError>
     ensures { IfOk result (IsHeard (length plan.now.nodes) (length plan.now.registers)) }
 {
     let words = words_in(alloc, text)?;
     match read_command(plan, words.as_slice()) {
         Ok(command) => Ok(Heard::Command(command)),
-        Err(error) => Ok(Heard::Fault(Complaint::Stop(LineStop::Unread(error)))),
+        Err(error) => Ok(Heard::Fault(Complaint::Line(LineStop::Unread(error)))),
     }
 }
 
@@ -200,7 +200,7 @@ fn reply<C: Exclusion + Knowledge, O: Output>(
     word: &str,
     session: &mut Session<C>,
     out: &mut O,
-) -> Result<Option<Complaint>, Stop>
+) -> Result<Option<Complaint>, CommandError>
 where
     C::Msg: Letter,
     requires is { IsSession C.core plan.now shape.now
@@ -261,7 +261,7 @@ where
 }
 
 /// Prints a text, and passes it on.
-fn say<O: Output>(text: &str, out: &mut O) -> Result<(), Stop>
+fn say<O: Output>(text: &str, out: &mut O) -> Result<(), CommandError>
     ensures said { OnOk result (Appends (O.written out.old) (O.written out.new) text.now) }
     ensures passed { OnOk result (O.keeps_back out.new ≡ false) }
 {
@@ -278,12 +278,12 @@ fn complain<E: Output>(
     complaint: &Option<Complaint>,
     line: &[u8],
     err: &mut E,
-) -> Result<(), Stop> {
+) -> Result<(), CommandError> {
     let Some(complaint) = complaint else {
         return Ok(());
     };
     let told = ComplaintLine::of(alloc, plan, number, *complaint, line)?;
-    put_line(alloc, err, told)?;
+    write_line(alloc, err, told)?;
     err.flush()?;
     Ok(())
 }
@@ -294,7 +294,7 @@ pub(crate) fn finish<C: Exclusion + Knowledge, O: Output>(
     plan: &Plan,
     session: &Session<C>,
     out: &mut O,
-) -> Result<u8, Stop>
+) -> Result<u8, CommandError>
 where
     C::Msg: Letter,
     requires { length session.now.moment.cluster.members ≡ length plan.now.nodes }

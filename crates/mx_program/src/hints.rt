@@ -1,6 +1,6 @@
 //! The hint for a reader at a terminal: the command that shows the place of a fault, and why.
 
-use mx_cli::{CommandId, command_in, put_line, takes_value};
+use mx_cli::{CommandId, command_in, takes_value, write_line};
 use mx_io::Output;
 use std::alloc::Global;
 use std::fmt;
@@ -35,7 +35,7 @@ pub(crate) fn tell_hint<E: Output>(alloc: Global, words: &[&str], err: &mut E) {
         None => false,
     };
     if is_explained && !names.contains(&"-") {
-        let _ = put_line(alloc, err, Hint(names));
+        let _ = write_line(alloc, err, Hint(names));
     }
 }
 

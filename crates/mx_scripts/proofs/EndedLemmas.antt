@@ -5,10 +5,10 @@ use Rattle.mx_stamps.proofs.Lists.{append_nil}
 use Rattle.mx_plan.specs.Text.{Text}
 use Rattle.mx_plan.specs.Fields.{Fields}
 use Rattle.mx_cli.specs.declared.faults.Fault.{Fault}
-use Rattle.mx_cli.specs.declared.faults.Stop.{Stop}
-use Rattle.mx_cli.specs.declared.faults.Stop.TheVariants as stop
+use Rattle.mx_cli.specs.declared.faults.CommandError.{CommandError}
+use Rattle.mx_cli.specs.declared.faults.CommandError.TheVariants as command_error
 use Rattle.mx_cli.specs.Reading.{IsPlanOf, plan_told}
-use Rattle.mx_cli.specs.Told.{MayTell, TellsFault}
+use Rattle.mx_cli.specs.Reports.{MayReport, ReportsFault}
 use Rattle.mx_cli.proofs.ClosedLemmas.{closed_done, not_five, not_one}
 use Rattle.mx_io.specs.Outputs.{Held}
 use Rattle.mx_io.specs.Told.{Telling}
@@ -33,7 +33,7 @@ module _ (told : Text → Option Telling) (names : Text × Text) where
   -- the lines of a plan that was read give none
   pub line_halts : {T : Type 0} (p : Fields) (r : Result T Halt) → IsPlanOf (plan_told told names) p → IfErr r IsLineHalt → IfErr r (IsHalt told names)
   line_halts p (Ok t) read h = tt
-  line_halts p (Err (halt.Stop end)) read h = inl h
+  line_halts p (Err (halt.Command end)) read h = inl h
   line_halts p (Err (halt.AtLine line)) read h = (p, read)
 
   -- the file was printed
@@ -53,14 +53,14 @@ module _ (told : Text → Option Telling) (names : Text × Text) where
 pub printed_whole : (takes : Bool) (a b : Held) (text file : Text) (status : ℕ) → text ≡ file → Ran takes a b (whole text) (Ok status) → Appends a b file
 printed_whole takes a b text file status is h = subst (λ (x : Text). Appends a b x) (append_nil text ∙ is) h.1
 
-pub print_halts : (takes : Bool) (a b : Held) (text : Text) (s : Stop) → Ran takes a b (whole text) (Err s) → IsPrintHalt takes (halt.Stop s)
-print_halts takes a b text (stop.Fault fault) h = absurd (let bad : ◌≡◌ {A = Option Fault} None (Some fault) = h.0 in cc)
-print_halts takes a b text stop.Writer h = inr (refl, h.0)
-print_halts takes a b text stop.Memory h = inl refl
+pub print_halts : (takes : Bool) (a b : Held) (text : Text) (s : CommandError) → Ran takes a b (whole text) (Err s) → IsPrintHalt takes (halt.Command s)
+print_halts takes a b text (command_error.Fault fault) h = absurd (let bad : ◌≡◌ {A = Option Fault} None (Some fault) = h.0 in cc)
+print_halts takes a b text command_error.Writer h = inr (refl, h.0)
+print_halts takes a b text command_error.Memory h = inl refl
 
 -- ---- how it is closed
 
-told_not_zero : (takes : Bool) (text : Text) (a b : Held) (status : ℕ) → TellsFault takes text a b status → status ≡ 0 → ⊥
+told_not_zero : (takes : Bool) (text : Text) (a b : Held) (status : ℕ) → ReportsFault takes text a b status → status ≡ 0 → ⊥
 told_not_zero takes text a b status (inl h) zero = not_one status h.0 zero
 told_not_zero takes text a b status (inr (inl h)) zero = not_five status h.0 zero
 told_not_zero takes text a b status (inr (inr h)) zero = not_one status h.0 zero
@@ -69,15 +69,15 @@ told_not_zero takes text a b status (inr (inr h)) zero = not_one status h.0 zero
 pub script_closed_done : {D : Type 0} (takes : Bool) (names : Text × Text) (a b : Held) (status : ℕ) (ended : Result ℕ Halt) → IfOk ended (λ _. D)
     → ClosesScript takes names ended a b status → status ≡ 0 → D
 script_closed_done takes names a b status (Ok own) done h zero = closed_done takes names a b status (Ok own) done h zero
-script_closed_done takes names a b status (Err (halt.Stop end)) done h zero = closed_done takes names a b status (Err end) tt h zero
+script_closed_done takes names a b status (Err (halt.Command end)) done h zero = closed_done takes names a b status (Err end) tt h zero
 script_closed_done takes names a b status (Err (halt.AtLine line)) done h zero = absurd (told_not_zero takes _ a b status h zero)
 
 -- ---- where memory ran out
 
-pub short_script : (t u : Bool) (told : Text → Option Telling) (names : Text × Text) (a b : Held) (status : ℕ) → (status ≡ 5) × MayTell a b → ScriptsOf t u told names a b status
-short_script t u told names a b status m = (Err (halt.Stop stop.Memory), inl (inl refl), inl m)
+pub short_script : (t u : Bool) (told : Text → Option Telling) (names : Text × Text) (a b : Held) (status : ℕ) → (status ≡ 5) × MayReport a b → ScriptsOf t u told names a b status
+short_script t u told names a b status m = (Err (halt.Command command_error.Memory), inl (inl refl), inl m)
 
-pub short_scripts : (t u : Bool) (told : Text → Option Telling) (request : Request) (a b : Held) (status : ℕ) → (status ≡ 5) × MayTell a b → Scripts t u told request a b status
+pub short_scripts : (t u : Bool) (told : Text → Option Telling) (request : Request) (a b : Held) (status : ℕ) → (status ≡ 5) × MayReport a b → Scripts t u told request a b status
 short_scripts t u told (draw name seed steps) a b status m = tt
 short_scripts t u told (walk name seed steps conditions) a b status m = tt
 short_scripts t u told (script names) a b status m = short_script t u told names a b status m

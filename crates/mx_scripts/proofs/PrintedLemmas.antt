@@ -4,7 +4,7 @@ use Rattle.std.specs.Io.KnownBytes.{Appends, Keeps}
 use Rattle.mx_stamps.proofs.Lists.{append_nil}
 use Rattle.mx_plan.specs.Text.{Text}
 use Rattle.mx_plan.specs.Fields.{Fields}
-use Rattle.mx_cli.specs.declared.faults.Stop.{Stop}
+use Rattle.mx_cli.specs.declared.faults.CommandError.{CommandError}
 use Rattle.mx_commands.specs.Jobs.{Job}
 use Rattle.mx_cli.specs.Reading.{IsPlanOf}
 use Rattle.mx_io.specs.Outputs.{Held}
@@ -22,7 +22,7 @@ use Rattle.mx_scripts.specs.Requests.{Request, draw, walk, script}
 
 -- ---- what was kept back is passed on
 
-pub job_kept : (t : Bool) (a b c : Held) (o : Option Job) (res : Result ℕ Stop) → IfSome o (λ job. RanOn t a b job res) → Keeps b c → IfSome o (λ job. RanOn t a c job res)
+pub job_kept : (t : Bool) (a b c : Held) (o : Option Job) (res : Result ℕ CommandError) → IfSome o (λ job. RanOn t a b job res) → Keeps b c → IfSome o (λ job. RanOn t a c job res)
 job_kept t a b c o res ran same =
     of_jobs o (EndsEarly t res × Keeps a b) (EndsEarly t res × Keeps a c) (λ r. Ran t a b r res) (λ r. Ran t a c r res)
     (λ x. (x.0, keeps_on a b c x.1 same)) (λ r h. ran_keeps t a b c r res h same) ran
@@ -42,13 +42,13 @@ printed : (takes : Bool) (a b : Held) (text : Text) (status : ℕ) → Ran takes
 printed takes a b text status h = subst (λ (x : Text). Appends a b x) (append_nil text) h.1
 
 -- what was printed is what was to be done
-pub print_done : (told : Text → Option Telling) (request : Request) (p : Fields) (takes : Bool) (a b : Held) (text : Text) (r : Result ℕ Stop)
+pub print_done : (told : Text → Option Telling) (request : Request) (p : Fields) (takes : Bool) (a b : Held) (text : Text) (r : Result ℕ CommandError)
     → IsPlanOf (told_of_plan told request) p → (Appends a b text → Prints request p a b) → Ran takes a b (whole text) r → IfOk r (λ _. HasDone told request a b)
 print_done told request p takes a b text (Ok status) read prints ran = (p, read, prints (printed takes a b text status ran))
 print_done told request p takes a b text (Err end) read prints ran = tt
 
 -- the file of a walk was printed whole
-pub walk_printed : (p : Fields) (seed steps : ℕ) (conditions : Conditions) (takes : Bool) (a b : Held) (text file : Text) (r : Result ℕ Stop) → text ≡ file → IsEventFile p file p.shape
+pub walk_printed : (p : Fields) (seed steps : ℕ) (conditions : Conditions) (takes : Bool) (a b : Held) (text file : Text) (r : Result ℕ CommandError) → text ≡ file → IsEventFile p file p.shape
     → file ≡ walked_file p conditions seed steps → Ran takes a b (whole text) r → IfOk r (λ _. PrintsWalk p seed steps conditions a b)
 walk_printed p seed steps conditions takes a b text file (Ok status) is of_plan walked ran =
     (subst (λ (x : Text). IsEventFile p x p.shape) walked of_plan, subst (λ (x : Text). Appends a b x) (is ∙ walked) (printed takes a b text status ran))

@@ -4,11 +4,11 @@ use Rattle.mx_plan.specs.Text.{Text}
 use Rattle.mx_plan.specs.Fields.{Fields}
 use Rattle.mx_io.specs.Told.{Telling}
 use Rattle.mx_io.specs.Outputs.{Held}
-use Rattle.mx_cli.specs.declared.faults.Stop.TheVariants as stop
+use Rattle.mx_cli.specs.declared.faults.CommandError.TheVariants as command_error
 use Rattle.mx_cli.specs.Closed.{Closes}
 use Rattle.mx_cli.specs.Naming.{IsUnread}
 use Rattle.mx_cli.specs.Reading.{IsPlanOf, plan_told}
-use Rattle.mx_cli.specs.Told.{TellsFault}
+use Rattle.mx_cli.specs.Reports.{ReportsFault}
 use Rattle.mx_scripts.specs.declared.halts.Halt.{Halt}
 use Rattle.mx_scripts.specs.declared.halts.Halt.TheVariants as halt
 use Rattle.mx_scripts.specs.Played.{IsEventFile}
@@ -17,7 +17,7 @@ use Rattle.mx_scripts.specs.Scripts.{script_line}
 -- why there is no file of the events of a script: plan or script can't be read, or memory ran out;
 -- or the plan was read, and a line is refused
 abbrev pub IsHalt : (Text → Option Telling) → Text × Text → Halt → Type 0
-IsHalt told names (halt.Stop end) = (end ≡ stop.Memory) ⊎ IsUnread told names end
+IsHalt told names (halt.Command end) = (end ≡ command_error.Memory) ⊎ IsUnread told names end
 IsHalt told names (halt.AtLine line) = (p : Fields) × IsPlanOf (plan_told told names) p
 
 -- the text is the file of a script's events over the names of the plan, which can happen in its
@@ -28,14 +28,14 @@ IsFileOfNames told names text =
 
 -- why the lines of a script give no file: memory ran out, or a line is refused
 abbrev pub IsLineHalt : Halt → Type 0
-IsLineHalt (halt.Stop end) = end ≡ stop.Memory
+IsLineHalt (halt.Command end) = end ≡ command_error.Memory
 IsLineHalt (halt.AtLine line) = ⊤
 
 -- why a text was not printed: memory ran out, or the output refused, which one that takes all bytes
 -- never does
 abbrev pub IsPrintHalt : Bool → Halt → Type 0
 IsPrintHalt takes_all h =
-    (h ≡ halt.Stop stop.Memory) ⊎ ((h ≡ halt.Stop stop.Writer) × (takes_all ≡ false))
+    (h ≡ halt.Command command_error.Memory) ⊎ ((h ≡ halt.Command command_error.Writer) × (takes_all ≡ false))
 
 -- the plan was read, and some text is such a file
 abbrev pub HasFile : (Text → Option Telling) → Text × Text → Type 0
@@ -51,10 +51,10 @@ EndsScript takes_all told names (Err h) = IsHalt told names h ⊎ IsPrintHalt ta
 abbrev pub ClosesScript : Bool → Text × Text → Result ℕ Halt → Held → Held → ℕ → Type 0
 ClosesScript takes_all names (Ok own) old new status =
     Closes takes_all names (Ok own) old new status
-ClosesScript takes_all names (Err (halt.Stop end)) old new status =
+ClosesScript takes_all names (Err (halt.Command end)) old new status =
     Closes takes_all names (Err end) old new status
 ClosesScript takes_all names (Err (halt.AtLine line)) old new status =
-    TellsFault takes_all (script_line line.number line.fault
+    ReportsFault takes_all (script_line line.number line.fault
     (string_bytes line.message)) old new status
 
 -- the status of a script of these names, and what standard error gets

@@ -3,7 +3,7 @@ use Rattle.std.specs.Prelude.{◌&&◌, ⊤, ℕ, Bool, Option, Result, IfSome, 
 use Rattle.std.specs.Io.KnownBytes.{Appends}
 use Rattle.mx_plan.specs.Text.{Text}
 use Rattle.mx_plan.specs.Fields.{Fields}
-use Rattle.mx_cli.specs.declared.faults.Stop.{Stop}
+use Rattle.mx_cli.specs.declared.faults.CommandError.{CommandError}
 use Rattle.mx_io.specs.Told.{Telling}
 use Rattle.mx_cli.specs.Closed.{Closes}
 use Rattle.mx_io.specs.Outputs.{Held}
@@ -51,7 +51,7 @@ draw_job told name seed steps = option_map (on_plan (λ p. drawn_file p seed ste
 -- status 1; or memory ran out, or an output refused
 abbrev pub DrawsPlan : Bool → Bool → Text → Option Job → Held → Held → Held → Held → ℕ → Type 0
 DrawsPlan takes_out takes_err name job out out' err err' status =
-    (ended : Result ℕ Stop) × IfSome job (λ j. RanOn takes_out out out' j ended)
+    (ended : Result ℕ CommandError) × IfSome job (λ j. RanOn takes_out out out' j ended)
     × Closes (takes_out && takes_err) (name, name) ended err err' status
 
 -- a script ends so, where one is asked for

@@ -12,7 +12,7 @@ ghost use Rattle.mx_scripts.specs.Files.{file_text};
 ghost use Rattle.mx_scripts.specs.Played.{events_of};
 
 use crate::files::add_file;
-use mx_cli::Stop;
+use mx_cli::CommandError;
 use mx_commands::{by_shape, happen, print};
 use mx_explorer::schedule;
 use mx_io::Output;
@@ -31,7 +31,7 @@ pub(crate) fn draw_schedule<O: Output>(
     seed: u64,
     steps: u64,
     out: &mut O,
-) -> Result<u8, Stop>
+) -> Result<u8, CommandError>
     ensures ran { Ran (O.takes_all out.old) (O.written out.old) (O.written out.new)
         (whole (drawn_file plan.now seed steps)) result }
     ensures refused { O.has_refused out.new ≡ refused_after result (O.has_refused out.old) }

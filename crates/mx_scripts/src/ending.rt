@@ -10,7 +10,7 @@ ghost use Rattle.mx_scripts.specs.Played.{IsEventFile};
 use crate::halts::Halt;
 use crate::scripting::script_file;
 use crate::texts::text_in;
-use mx_cli::{Names, Stop, close, close_with, fetch_named};
+use mx_cli::{CommandError, Names, close, close_with, fetch_named};
 use mx_io::{Output, Source};
 use mx_plan::Plan;
 use std::alloc::Global;
@@ -27,7 +27,7 @@ pub fn file_of_names<S: Source>(
 {
     match fetch_named(alloc, source, names) {
         Ok(both) => file_of_bytes(alloc, &both.plan, both.text.as_slice()),
-        Err(stop) => Err(Halt::Stop(stop)),
+        Err(stop) => Err(Halt::Command(stop)),
     }
 }
 
@@ -40,7 +40,7 @@ fn file_of_bytes(alloc: Global, plan: &Plan, script: &[u8]) -> Result<String, Ha
     match file_of_text(alloc, plan, script) {
         Ok(file) => Ok(file),
         Err(Halt::AtLine(line)) => Err(Halt::AtLine(line)),
-        Err(Halt::Stop(_)) => Err(Halt::Stop(Stop::Memory)),
+        Err(Halt::Command(_)) => Err(Halt::Command(CommandError::Memory)),
     }
 }
 
@@ -69,7 +69,7 @@ pub fn close_script<O: Output, E: Output>(
 {
     match ended {
         Ok(status) => close(alloc, Ok(status), names, out, err),
-        Err(Halt::Stop(stop)) => close(alloc, Err(stop), names, out, err),
+        Err(Halt::Command(stop)) => close(alloc, Err(stop), names, out, err),
         Err(Halt::AtLine(line)) => close_with(alloc, line, out, err),
     }
 }

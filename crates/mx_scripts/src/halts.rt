@@ -3,7 +3,7 @@
 ghost use Rattle.std.specs.Prelude.{◌≡◌, Some, string_bytes, IfOk};
 ghost use Rattle.mx_scripts.specs.Scripts.{IsHaltAt, IsRefused, script_line};
 
-use mx_cli::Stop;
+use mx_cli::CommandError;
 use mx_lines::{FirstWords, LineError, LineFault, message, message_of_line, words_in};
 use mx_network::StepFault;
 use mx_plan::Plan;
@@ -94,7 +94,7 @@ impl fmt::Display for BadLine {
 /// Why there is no file.
 #[derive(Drop)]
 pub enum Halt {
-    Stop(Stop),
+    Command(CommandError),
     /// A line of a script is refused.
     AtLine(BadLine),
 }
@@ -112,7 +112,7 @@ impl Halt {
     {
         match refused_line(alloc, plan, number, stop, line) {
             Ok(line) => Halt::AtLine(line),
-            Err(_) => Halt::Stop(Stop::Memory),
+            Err(_) => Halt::Command(CommandError::Memory),
         }
     }
 }
@@ -167,23 +167,23 @@ pub fn message_of(
 
 impl From<AllocError> for Halt {
     ghost use Rattle.std.specs.Prelude.{◌≡◌};
-    ghost use Rattle.mx_cli.specs.declared.faults.Stop.TheVariants as stop;
+    ghost use Rattle.mx_cli.specs.declared.faults.CommandError.TheVariants as command_error;
     ghost use Rattle.mx_scripts.specs.declared.halts.Halt.TheVariants as halt;
 
-    ghost from_gives = { λ _ h. h ≡ halt.Stop stop.Memory };
+    ghost from_gives = { λ _ h. h ≡ halt.Command command_error.Memory };
 
     fn from(_e: AllocError) -> Halt {
-        Halt::Stop(Stop::Memory)
+        Halt::Command(CommandError::Memory)
     }
 }
 
-impl From<Stop> for Halt {
+impl From<CommandError> for Halt {
     ghost use Rattle.std.specs.Prelude.{◌≡◌};
     ghost use Rattle.mx_scripts.specs.declared.halts.Halt.TheVariants as halt;
 
-    ghost from_gives = { λ end h. h ≡ halt.Stop end };
+    ghost from_gives = { λ end h. h ≡ halt.Command end };
 
-    fn from(stop: Stop) -> Halt {
-        Halt::Stop(stop)
+    fn from(stop: CommandError) -> Halt {
+        Halt::Command(stop)
     }
 }

@@ -13,7 +13,7 @@ use crate::drawing::draw_schedule;
 use crate::ending::{close_script, file_of_names};
 use crate::halts::Halt;
 use crate::walking::walk_file;
-use mx_cli::{Exploration, Names, Stop, close, fetch_plan};
+use mx_cli::{CommandError, Exploration, Names, close, fetch_plan};
 use mx_commands::print;
 use mx_io::{Output, Source};
 use mx_plan::Plan;
@@ -102,7 +102,7 @@ fn draw_file<S: Source, O: Output>(
     exploration: &Exploration<'_>,
     source: &mut S,
     out: &mut O,
-) -> Result<u8, Stop>
+) -> Result<u8, CommandError>
     ensures done { IfOk result (λ _. HasDone (S.told source.old)
         (wants.draw exploration.now.plan.now exploration.now.seed exploration.now.steps)
         (O.written out.old) (O.written out.new)) }
@@ -123,7 +123,7 @@ fn print_walk<S: Source, O: Output>(
     conditions: &Conditions,
     source: &mut S,
     out: &mut O,
-) -> Result<u8, Stop>
+) -> Result<u8, CommandError>
     ensures done { IfOk result (λ _. HasDone (S.told source.old)
         (wants.walk exploration.now.plan.now exploration.now.seed exploration.now.steps
         conditions.now)
@@ -149,7 +149,7 @@ fn print_walked<O: Output>(
     seed: u64,
     steps: u64,
     out: &mut O,
-) -> Result<u8, Stop>
+) -> Result<u8, CommandError>
     ensures done { IfOk result (λ _. PrintsWalk plan.now seed steps conditions.now
         (O.written out.old) (O.written out.new)) }
     ensures zero { IfOk result (λ status. status ≡ 0) }
@@ -188,6 +188,6 @@ fn print_file<O: Output>(file: &String, out: &mut O) -> Result<u8, Halt>
 {
     match print(file.as_bytes(), out) {
         Ok(status) => Ok(status),
-        Err(stop) => Err(Halt::Stop(stop)),
+        Err(stop) => Err(Halt::Command(stop)),
     }
 }

@@ -6,7 +6,7 @@ use Rattle.mx_stamps.proofs.Lists.{append_nil}
 use Rattle.mx_plan.specs.Text.{Text}
 use Rattle.mx_plan.specs.Fields.{Fields}
 use Rattle.mx_cli.specs.Reading.{IsPlanOf}
-use Rattle.mx_cli.specs.declared.faults.Stop.{Stop}
+use Rattle.mx_cli.specs.declared.faults.CommandError.{CommandError}
 use Rattle.mx_cli.proofs.OutputLemmas.{Appends-keeps}
 use Rattle.mx_io.specs.Outputs.{Held}
 use Rattle.mx_io.specs.Told.{Telling}
@@ -16,7 +16,7 @@ use Rattle.mx_views.specs.PlanObjects.{PrintsObjects, objects_of}
 use Rattle.mx_views.specs.PlanWords.{PlanRequest}
 
 -- a text that was printed whole, and is this one
-pub text_printed : (takes : Bool) (a b : Held) (empty text bytes added : Text) (r : Result ℕ Stop) → empty ≡ [] → text ≡ empty ++ added → bytes ≡ text → Ran takes a b (whole bytes) r
+pub text_printed : (takes : Bool) (a b : Held) (empty text bytes added : Text) (r : Result ℕ CommandError) → empty ≡ [] → text ≡ empty ++ added → bytes ≡ text → Ran takes a b (whole bytes) r
     → IfOk r (λ _. Appends a b added)
 text_printed takes a b empty text bytes added (Ok status) none is same ran =
     let all : text ≡ added = subst (λ (t : Text). text ≡ t ++ added) none is in
@@ -24,7 +24,7 @@ text_printed takes a b empty text bytes added (Ok status) none is same ran =
 text_printed takes a b empty text bytes added (Err end) none is same ran = tt
 
 -- the plan was read, and its objects were printed
-pub objects_printed : (told : Text → Option Telling) (request : PlanRequest) (p : Fields) (a b : Held) (r : Result ℕ Stop) → IsPlanOf (told request.plan) p
+pub objects_printed : (told : Text → Option Telling) (request : PlanRequest) (p : Fields) (a b : Held) (r : Result ℕ CommandError) → IsPlanOf (told request.plan) p
     → IfOk r (λ _. Appends a b (objects_of request.has_asks p)) → IfOk r (λ _. PrintsObjects told request a b)
 objects_printed told request p a b (Ok status) read h = (p, read, h)
 objects_printed told request p a b (Err end) read h = tt

@@ -19,7 +19,7 @@ use Rattle.mx_format.specs.Lines.{texts_from}
 use Rattle.mx_format.specs.Parts.{Parts}
 use Rattle.mx_cli.specs.declared.faults.Fault.{Fault}
 use Rattle.mx_cli.specs.declared.faults.Fault.TheVariants.{NoParcel}
-use Rattle.mx_cli.specs.declared.faults.Stop.{Stop}
+use Rattle.mx_cli.specs.declared.faults.CommandError.{CommandError}
 use Rattle.mx_commands.specs.Runs.{Report, after_texts, ends_with, whole}
 use Rattle.mx_commands.specs.Ran.{Ran, StopsAt}
 use Rattle.mx_commands.proofs.RunLemmas.{done_some, ran_to}
@@ -63,11 +63,11 @@ module _ {H S M : Type 0} (core : Core H S M) (parts : M → Parts) (p : Fields)
   rest_end k g h = at_drop_all (view_from core parts p view knows k g) es k h
 
   -- a run that stops at an event
-  pub stopped_at : (t : Bool) (a b : Held) (r : Report) (k : ℕ) (g : ClusterState S M) (d : Event) (s : Stop) (done : List Text) → k < length es
+  pub stopped_at : (t : Bool) (a b : Held) (r : Report) (k : ℕ) (g : ClusterState S M) (d : Event) (s : CommandError) (done : List Text) → k < length es
       → r ≡ after_texts done (rest k g) → Appends a b (concat done) → StopsAt k (step_of core g (get_or es k d)) s → Ran t a b r (Err s)
-  stopped_at t a b r k g d s done lt so_far h (inl memory) = subst (λ (x : Stop). Ran t a b r (Err x)) (sym memory) (done_some a b r (rest k g) done so_far h)
+  stopped_at t a b r k g d s done lt so_far h (inl memory) = subst (λ (x : CommandError). Ran t a b r (Err x)) (sym memory) (done_some a b r (rest k g) done so_far h)
   stopped_at t a b r k g d s done lt so_far h (inr none) =
-      subst (λ (x : Stop). Ran t a b r (Err x)) (sym none.0)
+      subst (λ (x : CommandError). Ran t a b r (Err x)) (sym none.0)
       (ran_to t a b r done (Some (NoParcel k)) (so_far ∙ ap (after_texts done) (rest_err k g step_fault.NoParcel d lt none.1)) h)
 
 -- ---- a report without a fault
@@ -114,7 +114,7 @@ module _ {H S M : Type 0} (core : Core H S M) (parts : M → Parts) (p : Fields)
   leads (e ∷ es) k g end = step_leads e es k g (step_of core g e) refl (λ new. leads es (k + 1) new) end
 
   -- a run that came to its end printed its lines
-  pub view_printed : (es : List Event) (g : ClusterState S M) (t : Bool) (a b : Held) (res : Result ℕ Stop) → Ran t a b (view_from core parts p view knows 0 g es) res
+  pub view_printed : (es : List Event) (g : ClusterState S M) (t : Bool) (a b : Held) (res : Result ℕ CommandError) → Ran t a b (view_from core parts p view knows 0 g es) res
       → IfOk res (λ _. Prints core parts p view knows es g a b)
   view_printed es g t a b (Ok status) ran = let h = leads es 0 g ran.0 in (h.0, h.1, subst (λ (l : Text). Appends a b l) h.2 ran.1)
   view_printed es g t a b (Err end) ran = tt

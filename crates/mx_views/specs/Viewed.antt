@@ -14,23 +14,23 @@ use Rattle.mx_cli.specs.Closed.{FallsShort}
 use Rattle.mx_cli.specs.Naming.{fault_named}
 use Rattle.mx_cli.specs.Outputs.{AppendsSome}
 use Rattle.mx_cli.specs.Reading.{IsRead, fault_of, plan_told, text_told}
-use Rattle.mx_cli.specs.Told.{Seen, TellsFault}
+use Rattle.mx_cli.specs.Reports.{Seen, ReportsFault}
 use Rattle.mx_cli.specs.declared.faults.Fault.TheVariants.{CannotRead}
 use Rattle.mx_cli.specs.declared.faults.Named.{Named}
 use Rattle.mx_cli.specs.declared.faults.Named.TheVariants.{Plan, Events}
-use Rattle.mx_cli.specs.declared.faults.Stop.TheVariants.{Memory}
+use Rattle.mx_cli.specs.declared.faults.CommandError.TheVariants.{Memory}
 use Rattle.mx_commands.specs.Ran.{Ran, end_text, status_of}
 use Rattle.mx_commands.specs.Runs.{Report, ends_with}
 use Rattle.mx_views.specs.Printed.{node_in, view_on}
 use Rattle.mx_views.specs.Shown.{view_by}
 use Rattle.mx_views.specs.ViewWords.{Request}
-use Rattle.mx_views.specs.declared.halts.Halt.{Halt}
-use Rattle.mx_views.specs.declared.halts.Halt.TheVariants as halt
+use Rattle.mx_views.specs.declared.view_error.ViewError.{ViewError}
+use Rattle.mx_views.specs.declared.view_error.ViewError.TheVariants as view_error
 
 -- what comes of a request: a report; or the plan has no node of the name that was given
 pub data Course : Type 0 where
   reports : Report → Course
-  stranger : Course
+  unknown_node : Course
 
 -- a text of this name is refused
 abbrev pub refused_text : Named → PlanFault → Course
@@ -44,7 +44,7 @@ unread part = reports (ends_with (Some (CannotRead part)))
 abbrev pub course_on : Request → Fields → List Event → Course
 course_on request p es =
     option_map_or (λ node. reports (view_by p (view_on request node) p.shape es))
-    (node_in p request.node) stranger
+    (node_in p request.node) unknown_node
 
 abbrev pub course_of : Request → Fields → Result (List Event) PlanFault → Course
 course_of request p (Ok es) = course_on request p es
@@ -85,12 +85,12 @@ PrintsReport takes_all names r old new status =
 abbrev pub TellsName : Bool → Seen → Seen → ℕ → Type 0
 TellsName takes_all old new status =
     Keeps old.out new.out
-    × ((name : Text) × TellsFault takes_all (codes "mx: unknown name:" ++ name) old.err new.err status)
+    × ((name : Text) × ReportsFault takes_all (codes "mx: unknown name:" ++ name) old.err new.err status)
 
 abbrev pub PrintsCourse : Bool → Text × Text → Course → Seen → Seen → ℕ → Type 0
 PrintsCourse takes_all names (reports r) old new status =
     PrintsReport takes_all names r old new status
-PrintsCourse takes_all names stranger old new status = TellsName takes_all old new status
+PrintsCourse takes_all names unknown_node old new status = TellsName takes_all old new status
 
 -- what the words ask to show, of what a source tells; or memory ran out before
 abbrev pub Views : Bool → (Text → Option Telling) → Request → Seen → Seen → ℕ → Type 0
@@ -102,39 +102,39 @@ Views takes_all told request old new status =
 -- ---- on the way
 
 -- what is to be shown was written, or the run ended earlier
-abbrev pub ViewRan : Bool → Held → Held → Course → Result ℕ Halt → Type 0
+abbrev pub ViewRan : Bool → Held → Held → Course → Result ℕ ViewError → Type 0
 ViewRan takes_all old new (reports r) (Ok status) = Ran takes_all old new r (Ok status)
-ViewRan takes_all old new (reports r) (Err (halt.Stop end)) = Ran takes_all old new r (Err end)
-ViewRan takes_all old new (reports r) (Err (halt.NoNode name)) = ⊥
-ViewRan takes_all old new stranger (Ok status) = ⊥
-ViewRan takes_all old new stranger (Err (halt.Stop end)) = ⊥
-ViewRan takes_all old new stranger (Err (halt.NoNode name)) = Keeps old new
+ViewRan takes_all old new (reports r) (Err (view_error.Command end)) = Ran takes_all old new r (Err end)
+ViewRan takes_all old new (reports r) (Err (view_error.UnknownNode name)) = ⊥
+ViewRan takes_all old new unknown_node (Ok status) = ⊥
+ViewRan takes_all old new unknown_node (Err (view_error.Command end)) = ⊥
+ViewRan takes_all old new unknown_node (Err (view_error.UnknownNode name)) = Keeps old new
 
 -- memory ran out before anything was shown
-abbrev pub RunsOut : Held → Held → Result ℕ Halt → Type 0
+abbrev pub RunsOut : Held → Held → Result ℕ ViewError → Type 0
 RunsOut old new (Ok status) = ⊥
-RunsOut old new (Err (halt.Stop end)) = (end ≡ Memory) × Keeps old new
-RunsOut old new (Err (halt.NoNode name)) = ⊥
+RunsOut old new (Err (view_error.Command end)) = (end ≡ Memory) × Keeps old new
+RunsOut old new (Err (view_error.UnknownNode name)) = ⊥
 
 -- what comes of a request was written, or memory ran out before anything was
-abbrev pub CourseRan : Bool → Held → Held → Course → Result ℕ Halt → Type 0
+abbrev pub CourseRan : Bool → Held → Held → Course → Result ℕ ViewError → Type 0
 CourseRan takes_all old new course result =
     RunsOut old new result ⊎ ViewRan takes_all old new course result
 
 -- the same of what a source tells
-abbrev pub ViewRanOf : Bool → Held → Held → (Text → Option Telling) → Request → Result ℕ Halt
+abbrev pub ViewRanOf : Bool → Held → Held → (Text → Option Telling) → Request → Result ℕ ViewError
     → Type 0
 ViewRanOf takes_all old new told request result =
     RunsOut old new result
     ⊎ HoldsOf told request (λ course. ViewRan takes_all old new course result)
 
 -- the node of this name, where one is named; or the plan does not have it, or memory ran out
-abbrev pub IsFound : Fields → Option Text → Result (Option ℕ) Halt → Type 0
+abbrev pub IsFound : Fields → Option Text → Result (Option ℕ) ViewError → Type 0
 IsFound p name (Ok node) = node_in p name ≡ Some node
-IsFound p name (Err (halt.Stop end)) = end ≡ Memory
-IsFound p name (Err (halt.NoNode text)) = node_in p name ≡ None
+IsFound p name (Err (view_error.Command end)) = end ≡ Memory
+IsFound p name (Err (view_error.UnknownNode text)) = node_in p name ≡ None
 
 -- a name that no node has is told, or memory ran out
-abbrev pub IsStranger : Halt → Type 0
-IsStranger (halt.Stop end) = end ≡ Memory
-IsStranger (halt.NoNode text) = ⊤
+abbrev pub IsStranger : ViewError → Type 0
+IsStranger (view_error.Command end) = end ≡ Memory
+IsStranger (view_error.UnknownNode text) = ⊤

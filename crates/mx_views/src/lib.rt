@@ -6,7 +6,6 @@ mod arrays;
 mod closing_lines;
 mod event_json;
 mod fact_json;
-mod halts;
 mod laws;
 mod letter_json;
 mod node_json;
@@ -16,6 +15,7 @@ mod plan_words;
 mod selection;
 mod shown_run;
 mod view_command;
+mod view_error;
 mod words;
 
 pub use laws::ends_as_replay;

@@ -3,14 +3,14 @@
 ghost use Rattle.std.specs.Prelude.{◌≡◌, ◌++◌, true, IsSome, IfSome, IfOk, OnOk, string_bytes};
 ghost use Rattle.std.specs.Io.KnownBytes.{Appends};
 ghost use Rattle.mx_cli.specs.Words.{texts_of};
-ghost use Rattle.mx_cli.specs.Told.{Answers, seen};
+ghost use Rattle.mx_cli.specs.Reports.{Answers, seen};
 ghost use Rattle.mx_cli.specs.Closed.{IsRunStatus, PassesOn};
 ghost use Rattle.mx_format.specs.AskTexts.{plan_asks_text_by};
 ghost use Rattle.mx_views.specs.PlanObjects.{PrintsObjects, objects_of};
 ghost use Rattle.mx_views.specs.PlanWords.{check_line, plan_asked, plan_request_of};
 
 use crate::plan_words::{PlanRequest, parse_plan};
-use mx_cli::{Stop, close, fetch_plan, refuse};
+use mx_cli::{CommandError, close, fetch_plan, refuse};
 use mx_commands::print;
 use mx_format::{add_asks_json, add_plan_json};
 use mx_io::{Output, Source};
@@ -71,7 +71,7 @@ fn check_plan<S: Source, O: Output>(
     request: &PlanRequest<'_>,
     source: &mut S,
     out: &mut O,
-) -> Result<u8, Stop>
+) -> Result<u8, CommandError>
     ensures printed { IfOk result (λ _. PrintsObjects (S.told source.old)
         (plan_request_of request.now) (O.written out.old) (O.written out.new)) }
     ensures zero { IfOk result (λ status. status ≡ 0) }
@@ -86,7 +86,7 @@ fn print_objects<O: Output>(
     plan: &Plan,
     has_asks: bool,
     out: &mut O,
-) -> Result<u8, Stop>
+) -> Result<u8, CommandError>
     ensures printed { IfOk result (λ _. Appends (O.written out.old) (O.written out.new)
         (objects_of has_asks plan.now)) }
     ensures zero { IfOk result (λ status. status ≡ 0) }

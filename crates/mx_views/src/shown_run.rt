@@ -11,7 +11,7 @@ use crate::closing_lines::add_closing;
 use crate::event_json::add_event_json;
 use crate::parcel_json::add_parcel_json;
 use crate::selection::Selection;
-use mx_cli::{Fault, Stop};
+use mx_cli::{CommandError, Fault};
 use mx_commands::verdict_status;
 use mx_format::{EventLine, Letter, add_parcel_line};
 use mx_io::Output;
@@ -28,7 +28,7 @@ pub(crate) fn show<C: Exclusion + Knowledge, O: Output>(
     mut cluster: Cluster<C>,
     events: &[Event],
     out: &mut O,
-) -> Result<u8, Stop>
+) -> Result<u8, CommandError>
 where
     C::Msg: Letter,
     requires members { length cluster.members ≡ length selection.now.plan.now.nodes }
@@ -51,7 +51,7 @@ fn show_events<C: Exclusion + Knowledge, O: Output>(
     cluster: &mut Cluster<C>,
     events: &[Event],
     out: &mut O,
-) -> Result<u8, Stop>
+) -> Result<u8, CommandError>
 where
     C::Msg: Letter,
     requires members { length cluster.old.members ≡ length selection.now.plan.now.nodes }
@@ -81,7 +81,7 @@ fn show_event<C: Exclusion>(
     event: &Event,
     cluster: &mut Cluster<C>,
     text: &mut String,
-) -> Result<(), Stop>
+) -> Result<(), CommandError>
 where
     C::Msg: Letter,
     requires named { NamesNodes (length cluster.old.members) event.now }
@@ -95,8 +95,8 @@ where
     let before = cluster.sent();
     match cluster.advance(*event) {
         Ok(()) => Ok(add_step(selection, index, before, cluster, text)?),
-        Err(StepFault::NoParcel) => Err(Stop::Fault(Fault::NoParcel(index))),
-        Err(StepFault::Memory) => Err(Stop::Memory),
+        Err(StepFault::NoParcel) => Err(CommandError::Fault(Fault::NoParcel(index))),
+        Err(StepFault::Memory) => Err(CommandError::Memory),
         Err(StepFault::NoNode) => unreachable!(),
     }
 }

@@ -4,7 +4,7 @@
 ghost use Rattle.std.specs.Prelude.{◌≡◌, ◌&&◌, IsSome, IfSome, IfOk, length, option_map};
 ghost use Rattle.mx_plan.specs.Events.{events_at};
 ghost use Rattle.mx_cli.specs.Words.{texts_of};
-ghost use Rattle.mx_cli.specs.Told.{Answers, seen};
+ghost use Rattle.mx_cli.specs.Reports.{Answers, seen};
 ghost use Rattle.mx_cli.specs.Closed.{IsRunStatus, PassesOn};
 ghost use Rattle.mx_commands.specs.Ran.{Ran};
 ghost use Rattle.mx_commands.specs.Runs.{AllNameNodes};
@@ -13,11 +13,11 @@ ghost use Rattle.mx_views.specs.Shown.{PrintsBy, view_by};
 ghost use Rattle.mx_views.specs.ViewWords.{request_asked, request_of, view_line};
 ghost use Rattle.mx_views.specs.Viewed.{CourseRan, IsFound, IsStranger, ViewRan, ViewRanOf, Views, course_of, course_on, reports};
 
-use crate::halts::{Halt, Stranger};
 use crate::selection::{Selection, View};
 use crate::shown_run::show;
+use crate::view_error::{UnknownNode, ViewError};
 use crate::words::{Request, parse};
-use mx_cli::{Named, Stop, close, close_with, fetch_named, refuse, stop_named};
+use mx_cli::{CommandError, Named, close, close_with, error_named, fetch_named, refuse};
 use mx_commands::by_shape;
 use mx_diagnostics::message_of_unknown_node;
 use mx_io::{Output, Source};
@@ -78,8 +78,8 @@ fn view_and_close<S: Source, O: Output, E: Output>(
 {
     match view_run(alloc, request, source, out) {
         Ok(status) => close(alloc, Ok(status), &request.names, out, err),
-        Err(Halt::Stop(stop)) => close(alloc, Err(stop), &request.names, out, err),
-        Err(Halt::NoNode(stranger)) => close_with(alloc, stranger, out, err),
+        Err(ViewError::Command(error)) => close(alloc, Err(error), &request.names, out, err),
+        Err(ViewError::UnknownNode(unknown_node)) => close_with(alloc, unknown_node, out, err),
     }
 }
 
@@ -89,7 +89,7 @@ fn view_run<S: Source, O: Output>(
     request: &Request<'_>,
     source: &mut S,
     out: &mut O,
-) -> Result<u8, Halt>
+) -> Result<u8, ViewError>
     ensures ran { ViewRanOf (O.takes_all out.old) (O.written out.old) (O.written out.new)
         (S.told source.old) (request_of request.now) result }
     ensures printed { IfOk result (λ _. PrintsView (S.told source.old) (request_of request.now)
@@ -99,7 +99,7 @@ fn view_run<S: Source, O: Output>(
 {
     match fetch_named(alloc, source, &request.names) {
         Ok(both) => view_text(alloc, request, &both.plan, both.text.as_slice(), out),
-        Err(stop) => Err(Halt::Stop(stop)),
+        Err(error) => Err(ViewError::Command(error)),
     }
 }
 
@@ -111,7 +111,7 @@ fn view_text<O: Output>(
     plan: &Plan,
     text: &[u8],
     out: &mut O,
-) -> Result<u8, Halt>
+) -> Result<u8, ViewError>
     ensures ran { CourseRan (O.takes_all out.old) (O.written out.old) (O.written out.new)
         (course_of (request_of request.now) plan.now (events_at plan.now text.now)) result }
     ensures printed { IfOk result (λ _. PrintsText plan.now text.now (request_of request.now)
@@ -121,7 +121,10 @@ fn view_text<O: Output>(
 {
     match read_events(alloc, text, plan) {
         Ok(events) => view_events(alloc, request, plan, events.as_slice(), out),
-        Err(fault) => Err(Halt::Stop(stop_named(Stop::from(fault), Named::Events))),
+        Err(fault) => Err(ViewError::Command(error_named(
+            CommandError::from(fault),
+            Named::Events,
+        ))),
     }
 }
 
@@ -132,7 +135,7 @@ fn view_events<O: Output>(
     plan: &Plan,
     events: &[Event],
     out: &mut O,
-) -> Result<u8, Halt>
+) -> Result<u8, ViewError>
     requires { AllNameNodes (length plan.now.nodes) events.now }
     ensures ran { CourseRan (O.takes_all out.old) (O.written out.old) (O.written out.new)
         (course_on (request_of request.now) plan.now events.now) result }
@@ -152,14 +155,14 @@ fn view_events<O: Output>(
                     has_state: request.has_state,
                 },
             };
-            show_halting(alloc, &selection, events, out)
+            show_selected(alloc, &selection, events, out)
         }
-        Err(halt) => Err(halt),
+        Err(error) => Err(error),
     }
 }
 
 /// The node of this name, where one is named.
-fn node_in(alloc: Global, plan: &Plan, name: Option<&str>) -> Result<Option<NodeId>, Halt>
+fn node_in(alloc: Global, plan: &Plan, name: Option<&str>) -> Result<Option<NodeId>, ViewError>
     ensures { IsFound plan.now (option_map (λ text. text.now) name.entry) result }
 {
     let Some(name) = name else {
@@ -167,27 +170,27 @@ fn node_in(alloc: Global, plan: &Plan, name: Option<&str>) -> Result<Option<Node
     };
     match plan.node(name) {
         Some(node) => Ok(Some(node)),
-        None => Err(stranger_in(alloc, plan, name)),
+        None => Err(unknown_node(alloc, plan, name)),
     }
 }
 
 /// Why nothing is shown of a name that no node has.
-fn stranger_in(alloc: Global, plan: &Plan, name: &str) -> Halt
+fn unknown_node(alloc: Global, plan: &Plan, name: &str) -> ViewError
     ensures { IsStranger result }
 {
     match message_of_unknown_node(alloc, plan, name) {
-        Ok(told) => Halt::NoNode(Stranger(told)),
-        Err(_) => Halt::Stop(Stop::Memory),
+        Ok(told) => ViewError::UnknownNode(UnknownNode(told)),
+        Err(_) => ViewError::Command(CommandError::Memory),
     }
 }
 
 /// Replays the events by the plan's algorithm.
-fn show_halting<O: Output>(
+fn show_selected<O: Output>(
     alloc: Global,
     selection: &Selection<'_>,
     events: &[Event],
     out: &mut O,
-) -> Result<u8, Halt>
+) -> Result<u8, ViewError>
     requires { AllNameNodes (length selection.now.plan.now.nodes) events.now }
     ensures ran { ViewRan (O.takes_all out.old) (O.written out.old) (O.written out.new)
         (reports (view_by selection.now.plan.now selection.now.view selection.now.plan.now.shape
@@ -199,7 +202,7 @@ fn show_halting<O: Output>(
 {
     match show_by_shape(alloc, selection, events, out) {
         Ok(status) => Ok(status),
-        Err(stop) => Err(Halt::Stop(stop)),
+        Err(error) => Err(ViewError::Command(error)),
     }
 }
 
@@ -209,7 +212,7 @@ fn show_by_shape<O: Output>(
     selection: &Selection<'_>,
     events: &[Event],
     out: &mut O,
-) -> Result<u8, Stop>
+) -> Result<u8, CommandError>
     requires { AllNameNodes (length selection.now.plan.now.nodes) events.now }
     ensures ran { Ran (O.takes_all out.old) (O.written out.old) (O.written out.new)
         (view_by selection.now.plan.now selection.now.view selection.now.plan.now.shape events.now)

@@ -2,9 +2,9 @@
 use Rattle.std.proofs.Common.{◌≡◌, ◌∙◌, ap, ℕ, Bool, Option, Some, None, Result, Err, IfSome, inl}
 use Rattle.std.specs.Io.KnownBytes.{Keeps}
 use Rattle.mx_plan.specs.Text.{Text}
-use Rattle.mx_cli.specs.declared.faults.Stop.{Stop}
-use Rattle.mx_cli.specs.declared.faults.Stop.TheVariants as stop
-use Rattle.mx_cli.specs.Told.{RunsOut, Seen}
+use Rattle.mx_cli.specs.declared.faults.CommandError.{CommandError}
+use Rattle.mx_cli.specs.declared.faults.CommandError.TheVariants as command_error
+use Rattle.mx_cli.specs.Reports.{RunsOut, Seen}
 use Rattle.mx_cli.proofs.OutputLemmas.{keeps_on}
 use Rattle.mx_commands.specs.Jobs.{Job}
 use Rattle.mx_commands.specs.Ran.{EndsEarly, Ran, RanOn}
@@ -28,13 +28,13 @@ summary_is steps a b m n v e f h =
     ap (λ (x : ℕ). summary steps x m v) e ∙ ap (λ (x : ℕ). summary steps b x v) f ∙ ap (λ (x : Verdict). summary steps b n x) h
 
 -- what was kept back is passed on
-pub job_kept : (t : Bool) (a b c : Held) (o : Option Job) (res : Result ℕ Stop) → IfSome o (λ job. RanOn t a b job res) → Keeps b c → IfSome o (λ job. RanOn t a c job res)
+pub job_kept : (t : Bool) (a b c : Held) (o : Option Job) (res : Result ℕ CommandError) → IfSome o (λ job. RanOn t a b job res) → Keeps b c → IfSome o (λ job. RanOn t a c job res)
 job_kept t a b c o res ran same =
     of_jobs o (EndsEarly t res × Keeps a b) (EndsEarly t res × Keeps a c) (λ r. Ran t a b r res) (λ r. Ran t a c r res)
     (λ x. (x.0, keeps_on a b c x.1 same)) (λ r h. ran_keeps t a b c r res h same) ran
 
 -- memory ran out before there was a report
-at_once : (t : Bool) (a b : Held) (o : Option Job) → Keeps a b → IfSome o (λ job. RanOn t a b job (Err stop.Memory))
+at_once : (t : Bool) (a b : Held) (o : Option Job) → Keeps a b → IfSome o (λ job. RanOn t a b job (Err command_error.Memory))
 at_once t a b None same = tt
 at_once t a b (Some job) same = inl (tt, same)
 
@@ -42,4 +42,4 @@ at_once t a b (Some job) same = inl (tt, same)
 pub short_walk : (t u : Bool) (told : Text → Option Telling) (request : WalkRequest) (old new : Seen) (status : ℕ)
     → RunsOut old new status → ExploresWalk t u told request old.out new.out old.err new.err status
 short_walk t u told request old new status m =
-    (Err stop.Memory, at_once t old.out new.out (seed_job told request.plan (Walk request.conditions) request.seed request.steps) m.1, inl (m.0, m.2))
+    (Err command_error.Memory, at_once t old.out new.out (seed_job told request.plan (Walk request.conditions) request.seed request.steps) m.1, inl (m.0, m.2))

@@ -5,7 +5,7 @@ use Rattle.std.specs.Io.KnownBytes.{Appends}
 use Rattle.mx_stamps.proofs.Lists.{append_nil}
 use Rattle.mx_plan.specs.Text.{Text}
 use Rattle.mx_cli.specs.Reading.{IsPlanOf}
-use Rattle.mx_cli.specs.declared.faults.Stop.{Stop}
+use Rattle.mx_cli.specs.declared.faults.CommandError.{CommandError}
 use Rattle.mx_commands.specs.Ran.{Ran}
 use Rattle.mx_commands.specs.Runs.{whole}
 use Rattle.mx_io.specs.Outputs.{Held}
@@ -50,7 +50,7 @@ sums_end find first offset count t total le before =
     sym (ap (λ (n : ℕ). sums_from find first offset n t) over) ∙ before
 
 -- the sums were printed whole
-pub seeds_printed : (told : Text → Option Telling) (name : Text) (p : Fields) (takes : Bool) (a b : Held) (text : Text) (P : Fields → Type 0) (r : Result ℕ Stop)
+pub seeds_printed : (told : Text → Option Telling) (name : Text) (p : Fields) (takes : Bool) (a b : Held) (text : Text) (P : Fields → Type 0) (r : Result ℕ CommandError)
     → IsPlanOf (told name) p → (Appends a b text → P p) → Ran takes a b (whole text) r → IfOk r (λ _. (q : Fields) × IsPlanOf (told name) q × P q)
 seeds_printed told name p takes a b text P (Ok status) read prints ran = (p, read, prints (subst (λ (x : Text). Appends a b x) (append_nil text) ran.1))
 seeds_printed told name p takes a b text P (Err end) read prints ran = tt

@@ -1,7 +1,7 @@
 -- What is printed of the walk that the words ask for.
 use Rattle.std.specs.Prelude.{◌≡◌, ◌&&◌, ℕ, Bool, Option, Result, IfSome, option_map}
 use Rattle.mx_plan.specs.Text.{Text}
-use Rattle.mx_cli.specs.declared.faults.Stop.{Stop}
+use Rattle.mx_cli.specs.declared.faults.CommandError.{CommandError}
 use Rattle.mx_cli.specs.Closed.{Closes}
 use Rattle.mx_io.specs.Told.{Telling}
 use Rattle.mx_io.specs.Outputs.{Held}
@@ -21,7 +21,7 @@ seed_job told name manner seed steps =
 -- status 1; or memory ran out, or an output refused
 abbrev pub Explores : Bool → Bool → Text → Option Job → Held → Held → Held → Held → ℕ → Type 0
 Explores takes_out takes_err name job out out' err err' status =
-    (ended : Result ℕ Stop) × IfSome job (λ j. RanOn takes_out out out' j ended)
+    (ended : Result ℕ CommandError) × IfSome job (λ j. RanOn takes_out out out' j ended)
     × Closes (takes_out && takes_err) (name, name) ended err err' status
 
 -- the same of the walk that is asked for

@@ -2,7 +2,7 @@
 
 ghost use Rattle.std.specs.Prelude.{◌≡◌, IfOk, IfSome, IsSome};
 ghost use Rattle.mx_cli.specs.Closed.{IsRunStatus, PassesOn};
-ghost use Rattle.mx_cli.specs.Told.{Answers, seen};
+ghost use Rattle.mx_cli.specs.Reports.{Answers, seen};
 ghost use Rattle.mx_cli.specs.Words.{names_of, texts_of};
 ghost use Rattle.mx_commands.specs.Ran.{RanOn};
 ghost use Rattle.mx_walks.specs.Printed.{Explores, ExploresWalk, seed_job};
@@ -11,7 +11,7 @@ ghost use Rattle.mx_walks.specs.WalkWords.{request_asked, request_of, walk_line}
 use crate::manner::Manner;
 use crate::walk_words::{WalkRequest, parse_walk};
 use crate::walked_cluster::explore_plan;
-use mx_cli::{Exploration, Names, Stop, close, fetch_plan, refuse};
+use mx_cli::{CommandError, Exploration, Names, close, fetch_plan, refuse};
 use mx_io::{Output, Source};
 use std::alloc::Global;
 
@@ -104,7 +104,7 @@ fn explore_named<S: Source, O: Output>(
     manner: &Manner,
     source: &mut S,
     out: &mut O,
-) -> Result<u8, Stop>
+) -> Result<u8, CommandError>
     ensures ran { IfSome (seed_job (S.told source.old) exploration.now.plan.now manner.now
         exploration.now.seed exploration.now.steps)
         (λ job. RanOn (O.takes_all out.old) (O.written out.old) (O.written out.new) job result) }

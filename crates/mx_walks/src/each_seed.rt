@@ -9,7 +9,7 @@ use crate::manner::Manner;
 use crate::seeds::Seeds;
 use crate::sums::{SeedsEnd, Sums};
 use crate::walked_cluster::explore_seed;
-use mx_cli::Stop;
+use mx_cli::CommandError;
 use mx_commands::{print, verdict_status};
 use mx_io::Output;
 use mx_plan::Plan;
@@ -24,7 +24,7 @@ pub fn explore_seeds_of<O: Output>(
     seeds: &Seeds,
     steps: u64,
     out: &mut O,
-) -> Result<u8, Stop>
+) -> Result<u8, CommandError>
     ensures ran { Ran (O.takes_all out.old) (O.written out.old) (O.written out.new)
         (whole (seeds_text plan.now manner.now seeds.now.first seeds.now.count steps)) result }
     ensures zero { IfOk result (λ status. status ≡ 0) }
@@ -36,7 +36,7 @@ pub fn explore_seeds_of<O: Output>(
 
 /// Prints how the explorations of some seeds end. Returns the status: 0, or that of the verdict on
 /// the first seed that is not sound.
-fn print_end<O: Output>(alloc: Global, end: &SeedsEnd, out: &mut O) -> Result<u8, Stop>
+fn print_end<O: Output>(alloc: Global, end: &SeedsEnd, out: &mut O) -> Result<u8, CommandError>
     ensures ran { Ran (O.takes_all out.old) (O.written out.old) (O.written out.new)
         (whole (end_text end.now)) result }
     ensures status { IfOk result (λ status. status ≡ end_status end.now) }
@@ -46,7 +46,7 @@ fn print_end<O: Output>(alloc: Global, end: &SeedsEnd, out: &mut O) -> Result<u8
     text.write(*end)?;
     match print(text.as_bytes(), out) {
         Ok(_) => Ok(status_of(end)),
-        Err(stop) => Err(stop),
+        Err(error) => Err(error),
     }
 }
 

@@ -2,7 +2,7 @@
 
 ghost use Rattle.std.specs.Prelude.{◌≡◌, ◌⊎◌, IfOk, IfSome};
 ghost use Rattle.std.specs.Io.KnownBytes.{Keeps};
-ghost use Rattle.mx_cli.specs.Told.{Answers, seen};
+ghost use Rattle.mx_cli.specs.Reports.{Answers, seen};
 ghost use Rattle.mx_cli.specs.Words.{names_of, texts_of};
 ghost use Rattle.mx_walks.specs.SeedsPrinted.{PrintsSeeds, PrintsSeedsOf};
 ghost use Rattle.mx_walks.specs.SeedsWords.{request_asked, request_of, seeds_line};
@@ -11,7 +11,7 @@ use crate::each_seed::explore_seeds_of;
 use crate::help;
 use crate::seeds::{Seeds, seeds_in};
 use crate::seeds_words::{SeedsRequest, parse_seeds};
-use mx_cli::{Names, Stop, close, fetch_plan, refuse};
+use mx_cli::{CommandError, Names, close, fetch_plan, refuse};
 use mx_io::{Output, Source};
 use std::alloc::Global;
 
@@ -94,7 +94,7 @@ fn explore_named<S: Source, O: Output>(
     seeds: &Seeds,
     source: &mut S,
     out: &mut O,
-) -> Result<u8, Stop>
+) -> Result<u8, CommandError>
     ensures { IfOk result (λ _. PrintsSeedsOf (S.told source.old) (request_of request.now)
         seeds.now.first seeds.now.count (O.written out.old) (O.written out.new)) }
 {

@@ -9,7 +9,7 @@ ghost use Rattle.mx_walks.specs.Summaries.{after_seed, seed_text, summary_in, su
 use crate::manner::Manner;
 use crate::steps::walk_cluster;
 use crate::summary::Summary;
-use mx_cli::Stop;
+use mx_cli::CommandError;
 use mx_commands::{by_shape, entries_in, happen, print, verdict_status};
 use mx_explorer::{judge, schedule};
 use mx_io::Output;
@@ -26,7 +26,7 @@ pub fn explore_plan<O: Output>(
     seed: u64,
     steps: u64,
     out: &mut O,
-) -> Result<u8, Stop>
+) -> Result<u8, CommandError>
     ensures ran { Ran (O.takes_all out.old) (O.written out.old) (O.written out.new)
         (whole (seed_text plan.now manner.now seed steps)) result }
     ensures refused { O.has_refused out.new ≡ refused_after result (O.has_refused out.old) }
@@ -38,7 +38,11 @@ pub fn explore_plan<O: Output>(
 }
 
 /// Prints the summary of a seed, and returns the status of its verdict.
-fn print_summary<O: Output>(alloc: Global, summary: &Summary, out: &mut O) -> Result<u8, Stop>
+fn print_summary<O: Output>(
+    alloc: Global,
+    summary: &Summary,
+    out: &mut O,
+) -> Result<u8, CommandError>
     ensures ran { Ran (O.takes_all out.old) (O.written out.old) (O.written out.new)
         (whole (summary_text summary.now)) result }
     ensures refused { O.has_refused out.new ≡ refused_after result (O.has_refused out.old) }
@@ -49,7 +53,7 @@ fn print_summary<O: Output>(alloc: Global, summary: &Summary, out: &mut O) -> Re
     text.write(*summary)?;
     match print(text.as_bytes(), out) {
         Ok(_) => Ok(verdict_status(summary.verdict)),
-        Err(stop) => Err(stop),
+        Err(error) => Err(error),
     }
 }
 

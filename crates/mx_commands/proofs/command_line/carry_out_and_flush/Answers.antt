@@ -2,7 +2,7 @@ use Rattle.std.proofs.Common.{◌≡◌, ◌∙◌, Bool, Err, ap}
 use Rattle.std.specs.Bool.{⊤}
 use Rattle.mx_cli.specs.Words.{request_of}
 use Rattle.mx_io.specs.Outputs.{refused_by}
-use Rattle.mx_cli.specs.Outputs.{stop_of}
+use Rattle.mx_cli.specs.Outputs.{error_of}
 use Rattle.mx_commands.proofs.CommandLemmas.{flushed, not_refused, passed_on, true_not_false, unflushed}
 use Rattle.mx_commands.proofs.RunLemmas.{err_is, refused_on}
 use Rattle.mx_commands.proofs.command_line.carry_out_and_flush.Goals as goal
@@ -13,7 +13,7 @@ returns-in_err-flush-clause-ran g c =
     let final = unflushed (g.O.Output.takes_all c.args.out.now) (g.O.Output.written c.args.out.now) (g.O.Output.written c.carry_out-ended.new.out) (g.O.Output.written c.flush.new.self)
     (g.S.Source.told c.args.source.now) (request_of c.args.request.now) c.carry_out-ended.result c.carry_out-ended.ensures.ran c.flush.ensures.same
     (g.O.Output.takes_all c.carry_out-ended.new.out) f c.carry_out-ended.ensures.stays c.in_err-flush.ensures.takes in
-    let is : c.from_residual.result ≡ Err (stop_of f) = err_is c.from_residual.result (stop_of f) c.from_residual.ensures.1 in
+    let is : c.from_residual.result ≡ Err (error_of f) = err_is c.from_residual.result (error_of f) c.from_residual.ensures.1 in
     rw is final
 
 pub returns-clause-ran : goal.returns-clause-ran
@@ -32,7 +32,7 @@ returns-in_err-flush-clause-refused g c =
     let before = g.O.Output.has_refused c.args.out.now in
     let untouched = c.carry_out-ended.ensures.refused ∙ not_refused c.carry_out-ended.result before (λ e. true_not_false c.is_refused.result (c.is_refused.ensures.1 e) c.if-is_refused.false) in
     let final = c.in_err-flush.ensures.refused ∙ ap (λ (b : Bool). refused_by {T = ⊤} (Err f) b) untouched ∙ refused_on f before in
-    let is : c.from_residual.result ≡ Err (stop_of f) = err_is c.from_residual.result (stop_of f) c.from_residual.ensures.1 in
+    let is : c.from_residual.result ≡ Err (error_of f) = err_is c.from_residual.result (error_of f) c.from_residual.ensures.1 in
     rw is final
 
 pub returns-clause-passed : goal.returns-clause-passed

@@ -2,7 +2,7 @@ use Rattle.std.specs.Prelude.{◌&&◌}
 use Rattle.std.proofs.Common.{inr}
 use Rattle.mx_cli.specs.Table.{mx_app}
 use Rattle.mx_cli.specs.Words.{texts_of, request_asked, request_in}
-use Rattle.mx_cli.specs.Told.{seen}
+use Rattle.mx_cli.specs.Reports.{seen}
 use Rattle.mx_cli.proofs.RefusedLemmas.{faultless, refused, runs_out}
 use Rattle.mx_commands.proofs.CommandLemmas.{short_runs}
 use Rattle.mx_commands.proofs.command_line.command.Goals as goal

@@ -1,6 +1,6 @@
 use Rattle.std.proofs.Common.{◌≡◌, subst, sym, List, ℕ, IfOk, Result}
 use Rattle.mx_cli.specs.declared.faults.Named.TheVariants.{Events}
-use Rattle.mx_cli.specs.declared.faults.Stop.{Stop}
+use Rattle.mx_cli.specs.declared.faults.CommandError.{CommandError}
 use Rattle.mx_cli.specs.Words.{names_of}
 use Rattle.mx_cli.proofs.NamingLemmas.{named_ok}
 use Rattle.mx_count.specs.CountWords.{given}
@@ -19,10 +19,10 @@ returns-clause-printed g c =
     let both = c.in_ok-both.both in
     let prints = subst (λ (l : List ℕ). IfOk c.count_listed-ended.result (λ _. PrintsListed c.args.is_json both.plan l a b)) c.as_slice.ensures.value c.count_listed-ended.ensures.printed in
     let done = on_ok c.count_listed-ended.result (given_printed a b told names c.args.is_json both c.in_ok-both.ensures.ok) prints in
-    subst (λ (r : Result ℕ Stop). IfOk r (λ _. PrintsCounts told (given names c.args.is_json) a b)) (sym c.naming.ensures)
+    subst (λ (r : Result ℕ CommandError). IfOk r (λ _. PrintsCounts told (given names c.args.is_json) a b)) (sym c.naming.ensures)
     (named_ok (λ _. PrintsCounts told (given names c.args.is_json) a b) Events c.count_listed-ended.result done)
 
 pub returns-clause-zero : goal.returns-clause-zero
 returns-clause-zero g c =
-    subst (λ (r : Result ℕ Stop). IfOk r (λ status. status ≡ 0)) (sym c.naming.ensures)
+    subst (λ (r : Result ℕ CommandError). IfOk r (λ status. status ≡ 0)) (sym c.naming.ensures)
     (named_ok (λ status. status ≡ 0) Events c.count_listed-ended.result c.count_listed-ended.ensures.zero)

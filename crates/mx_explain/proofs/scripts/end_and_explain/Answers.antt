@@ -12,4 +12,4 @@ returns-in-Err-clause-ends g c = inr (fails_halts (g.O.Output.takes_all c.args.o
 
 pub returns-in-Err-clause-prints : goal.returns-in-Err-clause-prints
 returns-in-Err-clause-prints g c =
-    prints_nothing ℕ (g.O.Output.written c.args.out.now) (g.O.Output.written c.print_end.new.out) (halt.Stop c.in-Err.stop) c.in-Err.ensures.same
+    prints_nothing ℕ (g.O.Output.written c.args.out.now) (g.O.Output.written c.print_end.new.out) (halt.Command c.in-Err.stop) c.in-Err.ensures.same

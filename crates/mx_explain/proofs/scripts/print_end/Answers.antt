@@ -4,11 +4,11 @@ use Rattle.mx_explain.specs.Explained.{Prints}
 use Rattle.mx_explain.proofs.TellsLemmas.{prints_none}
 use Rattle.mx_explain.proofs.scripts.print_end.Goals as goal
 
-pub returns-in-Err-Stop : goal.returns-in-Err-Stop
-returns-in-Err-Stop g c =
+pub returns-in-Err-Command : goal.returns-in-Err-Command
+returns-in-Err-Command g c =
     let out = g.O.Output.written c.args.out.now in record {
       fails = tt;
-      prints = subst (λ (r : Result ℕ Halt). Prints out out r) (sym c.in-Err-Stop.is) (prints_none ℕ out c.in-Err-Stop.field-0);
+      prints = subst (λ (r : Result ℕ Halt). Prints out out r) (sym c.in-Err-Command.is) (prints_none ℕ out c.in-Err-Command.field-0);
       same = tt;
       stays = refl;
     }

@@ -1,5 +1,5 @@
 use Rattle.mx_cli.specs.Words.{texts_of}
-use Rattle.mx_cli.specs.Told.{seen}
+use Rattle.mx_cli.specs.Reports.{seen}
 use Rattle.mx_cli.proofs.RefusedLemmas.{refused}
 use Rattle.mx_judge.proofs.JudgeLemmas.{short_judges}
 use Rattle.mx_judge.specs.JudgeWords.{judge_line, names_asked, names_in}

@@ -2,7 +2,7 @@ use Rattle.std.proofs.Common.{inl, inr, Err}
 use Rattle.mx_cli.specs.Words.{texts_of}
 use Rattle.mx_cli.specs.LiveWords.{live_line, request_asked, request_in}
 use Rattle.mx_cli.proofs.RefusedLemmas.{faultless, refused}
-use Rattle.mx_live.specs.declared.halts.Halt.TheVariants.{Memory}
+use Rattle.mx_live.specs.declared.live_error.LiveError.TheVariants.{Memory}
 use Rattle.mx_live.proofs.ProgressLemmas.{tells_none}
 use Rattle.mx_live.proofs.live_command.live.Goals as goal
 

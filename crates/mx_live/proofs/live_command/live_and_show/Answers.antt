@@ -1,7 +1,7 @@
 use Rattle.std.proofs.Common.{refl}
 use Rattle.std.proofs.lemmas.Result.{err_from_is_err_and}
 use Rattle.mx_cli.specs.LiveWords.{request_of}
-use Rattle.mx_live.proofs.HaltLemmas.{plan_ends}
+use Rattle.mx_live.proofs.ErrorLemmas.{plan_ends}
 use Rattle.mx_live.proofs.ProgressLemmas.{tells_none}
 use Rattle.mx_live.proofs.live_command.live_and_show.Goals as goal
 

@@ -1,7 +1,7 @@
 use Rattle.std.proofs.Common.{ℕ, ◌*◌, ◌≤◌, ◌∙◌, arith, subst}
 use Rattle.std.proofs.lemmas.Result.{err_from_is_err_and}
 use Rattle.mx_cli.specs.LiveWords.{request_of}
-use Rattle.mx_live.proofs.HaltLemmas.{none_ends, shown_ends}
+use Rattle.mx_live.proofs.ErrorLemmas.{none_ends, shown_ends}
 use Rattle.mx_live.proofs.live_command.live_plan.Goals as goal
 
 pub returns-in_err-gathered-clause-ends : goal.returns-in_err-gathered-clause-ends

@@ -1,8 +1,8 @@
 use Rattle.std.proofs.Common.{Bool, Ok, Err, refl, subst}
 use Rattle.mx_cli.specs.LiveWords.{request_of}
 use Rattle.mx_cli.proofs.OutputLemmas.{Keeps-refl}
-use Rattle.mx_live.specs.Halts.{TellsHalt}
-use Rattle.mx_live.proofs.HaltLemmas.{ends_whole}
+use Rattle.mx_live.specs.LiveErrors.{ReportsError}
+use Rattle.mx_live.proofs.ErrorLemmas.{ends_whole}
 use Rattle.mx_live.proofs.live_command.run_live.Goals as goal
 
 pub returns-in-Ok : goal.returns-in-Ok
@@ -22,12 +22,12 @@ pub returns-in-Err : goal.returns-in-Err
 returns-in-Err g c =
     let ran = c.in-Err.ensures in
     record {
-      ended = Err c.in-Err.halt;
+      ended = Err c.in-Err.error;
       ends = ran.ends;
       after_progress = g.E.Output.written c.live_and_show.new.err;
       progress = ran.progress;
-      closes = subst (λ (takes : Bool). TellsHalt takes c.args.request.now.plan.now c.in-Err.halt (g.E.Output.written c.live_and_show.new.err) (g.E.Output.written c.tell.new.err) c.tell.result)
-          ran.stays c.tell.ensures;
+      closes = subst (λ (takes : Bool). ReportsError takes c.args.request.now.plan.now c.in-Err.error (g.E.Output.written c.live_and_show.new.err) (g.E.Output.written c.report_error.new.err) c.report_error.result)
+          ran.stays c.report_error.ensures;
       whole = ends_whole (g.O.Output.takes_all c.args.out.now) (g.S.Source.told c.args.source.now c.args.request.now.plan.now) (request_of c.args.request.now)
-          (Err c.in-Err.halt) (g.O.Output.written c.args.out.now) (g.O.Output.written c.live_and_show.new.out) (g.O.Output.keeps_back c.live_and_show.new.out) ran.ends;
+          (Err c.in-Err.error) (g.O.Output.written c.args.out.now) (g.O.Output.written c.live_and_show.new.out) (g.O.Output.keeps_back c.live_and_show.new.out) ran.ends;
     }

@@ -26,8 +26,8 @@ returns-in-Ok-clause-come g c = λ shape rested.
 pub returns-in-Ok-clause-err : goal.returns-in-Ok-clause-err
 returns-in-Ok-clause-err g c = λ shape rested.
     IfErr-weaker c.gather_left.result _ _
-    (λ halt vain. elim vain [
-      | inl halts ↦ inl (record { left = _; run = record { stations = c.args.stations.items; rested = rested; worked = c.in-Ok.ensures.left }; halts = halts })
+    (λ error vain. elim vain [
+      | inl first ↦ inl (record { left = _; run = record { stations = c.args.stations.items; rested = rested; worked = c.in-Ok.ensures.left }; first = first })
       | inr out ↦ inr out.1
     ])
     c.gather_left.ensures.err

@@ -13,7 +13,7 @@ returns-in_ok-stations-in-Ricart g c =
       serial = run.serial;
       sections = IfOk-weaker c.live_at.result _ _ (λ all come. come.0) (run.come c.in-Ricart.shape rested);
       come = IfOk-weaker c.live_at.result _ _ (λ all come. come_by (planned.Ricart c.in-Ricart.shape) c.args.plan.now _ _ _ is come.1) (run.come c.in-Ricart.shape rested);
-      err = IfErr-weaker c.live_at.result _ _ (λ halt none. none_by (planned.Ricart c.in-Ricart.shape) c.args.plan.now _ halt is none) (run.err c.in-Ricart.shape rested);
+      err = IfErr-weaker c.live_at.result _ _ (λ error none. none_by (planned.Ricart c.in-Ricart.shape) c.args.plan.now _ error is none) (run.err c.in-Ricart.shape rested);
       progress = run.progress;
       stays = run.stays;
     }
@@ -27,7 +27,7 @@ returns-in_ok-stations-in-Maekawa g c =
       serial = run.serial;
       sections = IfOk-weaker c.live_at-in-Maekawa.result _ _ (λ all come. come.0) (run.come c.in-Maekawa.shape rested);
       come = IfOk-weaker c.live_at-in-Maekawa.result _ _ (λ all come. come_by (planned.Maekawa c.in-Maekawa.shape) c.args.plan.now _ _ _ is come.1) (run.come c.in-Maekawa.shape rested);
-      err = IfErr-weaker c.live_at-in-Maekawa.result _ _ (λ halt none. none_by (planned.Maekawa c.in-Maekawa.shape) c.args.plan.now _ halt is none) (run.err c.in-Maekawa.shape rested);
+      err = IfErr-weaker c.live_at-in-Maekawa.result _ _ (λ error none. none_by (planned.Maekawa c.in-Maekawa.shape) c.args.plan.now _ error is none) (run.err c.in-Maekawa.shape rested);
       progress = run.progress;
       stays = run.stays;
     }
@@ -41,7 +41,7 @@ returns-in_ok-stations-in-Raymond g c =
       serial = run.serial;
       sections = IfOk-weaker c.live_at-in-Raymond.result _ _ (λ all come. come.0) (run.come c.in-Raymond.shape rested);
       come = IfOk-weaker c.live_at-in-Raymond.result _ _ (λ all come. come_by (planned.Raymond c.in-Raymond.shape) c.args.plan.now _ _ _ is come.1) (run.come c.in-Raymond.shape rested);
-      err = IfErr-weaker c.live_at-in-Raymond.result _ _ (λ halt none. none_by (planned.Raymond c.in-Raymond.shape) c.args.plan.now _ halt is none) (run.err c.in-Raymond.shape rested);
+      err = IfErr-weaker c.live_at-in-Raymond.result _ _ (λ error none. none_by (planned.Raymond c.in-Raymond.shape) c.args.plan.now _ error is none) (run.err c.in-Raymond.shape rested);
       progress = run.progress;
       stays = run.stays;
     }

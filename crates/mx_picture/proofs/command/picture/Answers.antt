@@ -1,5 +1,5 @@
 use Rattle.mx_cli.specs.Words.{texts_of}
-use Rattle.mx_cli.specs.Told.{seen}
+use Rattle.mx_cli.specs.Reports.{seen}
 use Rattle.mx_cli.proofs.RefusedLemmas.{refused}
 use Rattle.mx_picture.proofs.RefusedLemmas.{short_pictures}
 use Rattle.mx_picture.specs.PictureWords.{picture_line, request_asked, request_in}

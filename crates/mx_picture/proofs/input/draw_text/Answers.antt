@@ -2,7 +2,7 @@ use Rattle.std.proofs.Common.{◌≡◌, Err, List, None, inl, length, subst, sy
 use Rattle.mx_events.specs.declared.event.Event.{Event}
 use Rattle.mx_plan.specs.Events.{events_at}
 use Rattle.mx_commands.specs.Jobs.{report_of_events, run_by}
-use Rattle.mx_cli.specs.Outputs.{stop_of}
+use Rattle.mx_cli.specs.Outputs.{error_of}
 use Rattle.mx_commands.specs.Runs.{AllNameNodes}
 use Rattle.mx_commands.proofs.EventLemmas.{events_named}
 use Rattle.mx_commands.proofs.RunLemmas.{err_is}
@@ -29,7 +29,7 @@ pub returns-in_err-put-clause-ran : goal.returns-in_err-put-clause-ran
 returns-in_err-put-clause-ran g c =
     let f = c.in_err-put.field-0.0 in
     let final = inl (ran_put (g.O.Output.takes_all c.args.out.now) (report_of_events c.args.text.now c.args.plan.now) f c.in_err-put.ensures.takes) in
-    let is : c.from_residual-in_err-put.result ≡ Err (stop_of f) = err_is c.from_residual-in_err-put.result (stop_of f) c.from_residual-in_err-put.ensures.1 in
+    let is : c.from_residual-in_err-put.result ≡ Err (error_of f) = err_is c.from_residual-in_err-put.result (error_of f) c.from_residual-in_err-put.ensures.1 in
     rw is final
 
 pub returns-clause-ran : goal.returns-clause-ran

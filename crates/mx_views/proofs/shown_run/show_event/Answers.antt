@@ -35,7 +35,7 @@ returns-in_ok-add_step-in-Ok-clause-text g c =
     (string_bytes c.args.text.now) (string_bytes c.add_step.new.text) n.1 c.sent-before.ensures c.requires.empty (c.in_ok-add_step-in-Ok.ensures old.trace entry n.1)
 
 pub unreachable-requires : goal.unreachable-requires
-unreachable-requires g c = has_nodes c.args.cluster.now c.args.event.now c.requires.named (c.advance.ensures.no_node.0 (c.in-Err-NoNode.is ∙ ap Err c.in-Err-NoNode.field-0-is))
+unreachable-requires g c = has_nodes c.args.cluster.now c.args.event.now c.requires.named (c.advance.ensures.no_node.0 (c.in-Err-UnknownNode.is ∙ ap Err c.in-Err-UnknownNode.field-0-is))
 
 pub returns-in-Err-NoParcel-clause-err : goal.returns-in-Err-NoParcel-clause-err
 returns-in-Err-NoParcel-clause-err g c =

@@ -4,8 +4,8 @@ use Rattle.mx_network.specs.Step.{step_of}
 use Rattle.mx_events.specs.declared.event.Event.{Event}
 use Rattle.mx_plan.specs.Text.{Text}
 use Rattle.mx_commands.specs.Runs.{NamesNodes, after_texts, ends_with}
-use Rattle.mx_cli.specs.declared.faults.Stop.TheVariants as stop
-use Rattle.mx_cli.specs.Outputs.{stop_of}
+use Rattle.mx_cli.specs.declared.faults.CommandError.TheVariants as command_error
+use Rattle.mx_cli.specs.Outputs.{error_of}
 use Rattle.mx_commands.specs.Ran.{StopsAt}
 use Rattle.mx_cli.proofs.OutputLemmas.{Appends-nil, appends_more}
 use Rattle.mx_commands.proofs.RunLemmas.{after_after, done_some, err_is, grows, named_at, ran_to, stopped_by}
@@ -60,7 +60,7 @@ returns-in_err-put-clause-ran g c =
     (g.O.Output.written c.put.new.self) (view_from core parts p view knows 0 c.args.cluster.now es)
     (rest core parts p view knows es c.loop-index.index c.loop-index.cluster)
     i.written.0 f i.written.2 i.written.1 c.in_err-put.ensures.err i.stays c.in_err-put.ensures.takes in
-    let is : c.from_residual-in_err-put.result ≡ Err (stop_of f) = search rules in
+    let is : c.from_residual-in_err-put.result ≡ Err (error_of f) = search rules in
     rw is final
 
 pub loop-index-preserved : goal.loop-index-preserved
@@ -105,8 +105,8 @@ returns-in_err-verdict-clause-ran g c =
     let es = c.args.events.now in
     let final = done_some (g.O.Output.written c.args.out.now) (g.O.Output.written c.loop-index.out) (view_from core parts p view knows 0 c.args.cluster.now es)
     (rest core parts p view knows es c.loop-index.index c.loop-index.cluster) i.written.0 i.written.2 i.written.1 in
-    let is : c.from_residual-in_err-verdict.result ≡ Err stop.Memory =
-    err_is c.from_residual-in_err-verdict.result stop.Memory c.from_residual-in_err-verdict.ensures.1 in
+    let is : c.from_residual-in_err-verdict.result ≡ Err command_error.Memory =
+    err_is c.from_residual-in_err-verdict.result command_error.Memory c.from_residual-in_err-verdict.ensures.1 in
     rw is final
 
 pub returns-in_err-put-2-clause-ran : goal.returns-in_err-put-2-clause-ran
@@ -123,7 +123,7 @@ returns-in_err-put-2-clause-ran g c =
     (g.O.Output.written c.put-2.new.self) (view_from core parts p view knows 0 c.args.cluster.now es)
     (rest core parts p view knows es c.loop-index.index c.loop-index.cluster)
     i.written.0 f i.written.2 i.written.1 c.in_err-put-2.ensures.err i.stays c.in_err-put-2.ensures.takes in
-    let is : c.from_residual-in_err-put-2.result ≡ Err (stop_of f) = err_is c.from_residual-in_err-put-2.result (stop_of f) c.from_residual-in_err-put-2.ensures.1 in
+    let is : c.from_residual-in_err-put-2.result ≡ Err (error_of f) = err_is c.from_residual-in_err-put-2.result (error_of f) c.from_residual-in_err-put-2.ensures.1 in
     rw is final
 
 pub returns-clause-ran : goal.returns-clause-ran

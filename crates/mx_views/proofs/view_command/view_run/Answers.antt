@@ -28,4 +28,4 @@ returns-in-Ok-clause-printed g c =
 pub returns-in-Err-clause-ran : goal.returns-in-Err-clause-ran
 returns-in-Err-clause-ran g c =
     let h = c.in-Err.ensures.err in
-    both_unread (g.O.Output.takes_all c.args.out.now) (g.O.Output.written c.args.out.now) (g.S.Source.told c.args.source.now) (request_of c.args.request.now) c.in-Err.stop h.0 h.1 h.2
+    both_unread (g.O.Output.takes_all c.args.out.now) (g.O.Output.written c.args.out.now) (g.S.Source.told c.args.source.now) (request_of c.args.request.now) c.in-Err.error h.0 h.1 h.2

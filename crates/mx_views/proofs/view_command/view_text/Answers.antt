@@ -2,16 +2,16 @@ use Rattle.std.proofs.Common.{◌≡◌, ◌∙◌, Err, IfOk, List, Result, ap,
 use Rattle.mx_events.specs.declared.event.Event.{Event}
 use Rattle.mx_plan.specs.Events.{events_at}
 use Rattle.mx_plan.specs.declared.faults.PlanFault.{PlanFault}
-use Rattle.mx_cli.specs.Naming.{stop_named}
+use Rattle.mx_cli.specs.Naming.{error_named}
 use Rattle.mx_cli.specs.Reading.{refusal_of}
 use Rattle.mx_cli.specs.declared.faults.Named.TheVariants.{Events}
-use Rattle.mx_cli.specs.declared.faults.Stop.{Stop}
+use Rattle.mx_cli.specs.declared.faults.CommandError.{CommandError}
 use Rattle.mx_commands.specs.Runs.{AllNameNodes}
 use Rattle.mx_commands.proofs.EventLemmas.{events_named}
 use Rattle.mx_views.specs.Printed.{PrintsPlanned}
 use Rattle.mx_views.specs.Viewed.{CourseRan, course_of, course_on}
 use Rattle.mx_views.specs.ViewWords.{request_of}
-use Rattle.mx_views.specs.declared.halts.Halt.TheVariants as halt
+use Rattle.mx_views.specs.declared.view_error.ViewError.TheVariants as view_error
 use Rattle.mx_views.proofs.ViewedLemmas.{planned_printed, text_refused}
 use Rattle.mx_views.proofs.view_command.view_text.Goals as goal
 
@@ -49,5 +49,5 @@ returns-in-Err-clause-ran g c =
     let p = c.args.plan.now in
     let f = c.in-Err.fault in
     let wanted = events_at p c.args.text.now in
-    let is : c.stop_named.result ≡ stop_named Events (refusal_of f) = c.stop_named.ensures ∙ ap (stop_named Events) c.from.ensures in
-    subst (λ (s : Stop). CourseRan t a a (course_of request p wanted) (Err (halt.Stop s))) (sym is) (text_refused t a request p wanted f c.in-Err.ensures)
+    let is : c.error_named.result ≡ error_named Events (refusal_of f) = c.error_named.ensures ∙ ap (error_named Events) c.from.ensures in
+    subst (λ (s : CommandError). CourseRan t a a (course_of request p wanted) (Err (view_error.Command s))) (sym is) (text_refused t a request p wanted f c.in-Err.ensures)

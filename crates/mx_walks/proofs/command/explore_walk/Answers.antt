@@ -1,6 +1,6 @@
 use Rattle.std.proofs.Common.{inr}
 use Rattle.mx_cli.specs.Words.{texts_of}
-use Rattle.mx_cli.specs.Told.{seen}
+use Rattle.mx_cli.specs.Reports.{seen}
 use Rattle.mx_cli.proofs.RefusedLemmas.{refused, runs_out}
 use Rattle.mx_walks.specs.WalkWords.{walk_line, request_asked, request_in}
 use Rattle.mx_walks.proofs.ExploredLemmas.{short_walk}

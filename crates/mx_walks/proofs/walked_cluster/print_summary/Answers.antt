@@ -9,4 +9,4 @@ pub returns-clause-ran : goal.returns-clause-ran
 returns-clause-ran g c =
     let is : c.as_bytes.result.now ≡ summary_text c.args.summary.now =
     c.as_bytes.ensures.value ∙ c.in_ok-write.ensures.bytes ∙ ap (λ (t : Text). t ++ summary_text c.args.summary.now) c.new-text.ensures.bytes in
-    subst (λ (t : Text). Ran (g.O.Output.takes_all c.args.out.now) (g.O.Output.written c.args.out.now) (g.O.Output.written c.print.new.out) (whole t) (Err c.in-Err.stop)) is c.in-Err.ensures.ran
+    subst (λ (t : Text). Ran (g.O.Output.takes_all c.args.out.now) (g.O.Output.written c.args.out.now) (g.O.Output.written c.print.new.out) (whole t) (Err c.in-Err.error)) is c.in-Err.ensures.ran

@@ -27,13 +27,13 @@ seen o e out err =
     }
 
 -- memory ran out: standard error got that line, or nothing
-abbrev pub MayTell : Held → Held → Type 0
-MayTell old new = Keeps old new ⊎ Appends old new memory_line
+abbrev pub MayReport : Held → Held → Type 0
+MayReport old new = Keeps old new ⊎ Appends old new memory_line
 
 -- memory ran out before anything was shown
 abbrev pub RunsOut : Seen → Seen → ℕ → Type 0
 RunsOut old new status =
-    (status ≡ 5) × Keeps old.out new.out × MayTell old.err new.err × (new.refused ≡ old.refused)
+    (status ≡ 5) × Keeps old.out new.out × MayReport old.err new.err × (new.refused ≡ old.refused)
 
 -- ---- help, and words that are no command
 
@@ -43,29 +43,29 @@ abbrev pub Helps : Bool → Seen → Seen → ℕ → Type 0
 Helps takes_all old new status =
     ((status ≡ 0) × Keeps old.err new.err × (new.kept_back ≡ false))
     ⊎ ((status ≡ 1) × (takes_all ≡ false) × Keeps old.err new.err)
-    ⊎ ((status ≡ 5) × MayTell old.err new.err × (new.refused ≡ old.refused))
+    ⊎ ((status ≡ 5) × MayReport old.err new.err × (new.refused ≡ old.refused))
 
 -- a fault of the command line goes to standard error, and nothing to standard output
-abbrev pub Scolds : Seen → Seen → ℕ → Type 0
-Scolds old new status =
-    Keeps old.out new.out × ((status ≡ 2) ⊎ ((status ≡ 5) × MayTell old.err new.err))
+abbrev pub ReportsUsage : Seen → Seen → ℕ → Type 0
+ReportsUsage old new status =
+    Keeps old.out new.out × ((status ≡ 2) ⊎ ((status ≡ 5) × MayReport old.err new.err))
 
 -- words that ask a command line for help are shown it, and words that are not its own are told so
 abbrev pub Answers : App → List Text → Bool → Seen → Seen → ℕ → Type 0
 Answers line words takes_all old new status =
     (AskHelp line words → Helps takes_all old new status)
-    × (AreWrong line words → Scolds old new status)
+    × (AreWrong line words → ReportsUsage old new status)
 
 -- nothing is written, status 2; or memory ran out, status 5
 abbrev pub Declines : Seen → Seen → ℕ → Type 0
 Declines old new status =
     Keeps old.out new.out × (((status ≡ 2) × Keeps old.err new.err)
-    ⊎ ((status ≡ 5) × MayTell old.err new.err))
+    ⊎ ((status ≡ 5) × MayReport old.err new.err))
 
 -- ---- faults
 
 -- the line of a fault was written, or memory ran out, or the output refused
-abbrev pub TellsFault : Bool → Text → Held → Held → ℕ → Type 0
-TellsFault takes_all line err err' status =
-    ((status ≡ 1) × Appends err err' line) ⊎ ((status ≡ 5) × MayTell err err')
+abbrev pub ReportsFault : Bool → Text → Held → Held → ℕ → Type 0
+ReportsFault takes_all line err err' status =
+    ((status ≡ 1) × Appends err err' line) ⊎ ((status ≡ 5) × MayReport err err')
     ⊎ ((status ≡ 1) × (takes_all ≡ false) × Keeps err err')

@@ -4,9 +4,9 @@ use Rattle.std.proofs.lemmas.List.Elements.{All-more, All-same}
 use Rattle.std.proofs.lemmas.Option.{slice_get_read}
 use Rattle.mx_stations.specs.declared.worker.Worked.{Worked}
 use Rattle.mx_stations.specs.declared.worker.Worked.TheVariants.{Done}
-use Rattle.mx_live.specs.declared.halts.Halt.TheVariants.{TurnsSpent, GateShut}
-use Rattle.mx_live.specs.Halts.{IsWhy}
-use Rattle.mx_live.proofs.node_runs.first_halt.Goals as goal
+use Rattle.mx_live.specs.declared.live_error.LiveError.TheVariants.{TurnsSpent, GateShut}
+use Rattle.mx_live.specs.LiveErrors.{IsWhy}
+use Rattle.mx_live.proofs.node_runs.first_error.Goals as goal
 
 pub returns-in-NotYet-clause-some : goal.returns-in-NotYet-clause-some
 returns-in-NotYet-clause-some g c =

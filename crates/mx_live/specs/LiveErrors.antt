@@ -1,0 +1,104 @@
+-- Why a live run ends without a journal, with the line and the status of that.
+use Rattle.std.specs.Prelude.{◌≡◌, ◌≢◌, ◌⊎◌, Bool, true, false, ℕ, List, [], ◌++◌, codes, slice_get, Some, take}
+use Rattle.std.specs.Io.KnownBytes.{Appends, Keeps}
+use Rattle.mx_nodelaws.specs.Core.{Core}
+use Rattle.mx_plan.specs.Fields.{Fields}
+use Rattle.mx_plan.specs.Text.{Text, line_feed}
+use Rattle.mx_plan.specs.declared.shape.Shape.{Shape}
+use Rattle.mx_plan.specs.declared.shape.Shape.TheVariants as planned
+use Rattle.mx_ricart.specs.Step.{ricart_core}
+use Rattle.mx_maekawa.specs.Step.{maekawa_core}
+use Rattle.mx_raymond.specs.Step.{raymond_core}
+use Rattle.mx_cli.specs.declared.faults.CommandError.{CommandError}
+use Rattle.mx_cli.specs.declared.faults.CommandError.TheVariants as command_error
+use Rattle.mx_io.specs.Outputs.{Held}
+use Rattle.mx_io.specs.declared.output.OutputFault.{OutputFault}
+use Rattle.mx_io.specs.declared.output.OutputFault.TheVariants as output_fault
+use Rattle.mx_cli.specs.FaultLines.{fault_line, memory_line}
+use Rattle.mx_cli.specs.Reports.{MayReport}
+use Rattle.mx_stations.specs.declared.worker.Worked.{Worked}
+use Rattle.mx_stations.specs.declared.worker.Worked.TheVariants as worked
+use Rattle.mx_stations.specs.Turns.{Station}
+use Rattle.mx_live.specs.declared.live_error.LiveError.{LiveError}
+use Rattle.mx_live.specs.declared.live_error.LiveError.TheVariants.{Plan, TooFewSections, TurnsSpent, GateShut, Writer, Memory}
+use Rattle.mx_live.specs.declared.threads.WorkerConfig.{WorkerConfig}
+use Rattle.mx_live.specs.Workers.{AreDone, HaveRun}
+
+-- the line of an error, where the plan has this name
+abbrev pub error_line : Text → LiveError → Text
+error_line name (Plan fault) = fault_line (name, name) fault
+error_line name TooFewSections = codes "mx: too few sections" ++ line_feed
+error_line name TurnsSpent = codes "mx: turns spent" ++ line_feed
+error_line name GateShut = codes "mx: gate shut" ++ line_feed
+error_line name Writer = []
+error_line name Memory = memory_line
+
+abbrev pub error_status : LiveError → ℕ
+error_status (Plan fault) = 1
+error_status TooFewSections = 1
+error_status TurnsSpent = 3
+error_status GateShut = 3
+error_status Writer = 1
+error_status Memory = 5
+
+-- the line of an error was written, or memory ran out, or the output refused
+abbrev pub ReportsError : Bool → Text → LiveError → Held → Held → ℕ → Type 0
+ReportsError takes_all name error old new status =
+    ((status ≡ error_status error) × Appends old new (error_line name error))
+    ⊎ ((status ≡ 5) × MayReport old new)
+    ⊎ ((status ≡ error_status error) × (takes_all ≡ false) × Keeps old new)
+
+-- why a worker that ended so is not done
+abbrev pub IsWhy : Worked → LiveError → Type 0
+IsWhy worked.Done error = ⊥
+IsWhy (worked.NotYet n) error = error ≡ TurnsSpent
+IsWhy worked.GateShut error = error ≡ GateShut
+
+-- the first of these workers that is not done, and why
+pub record FirstNotDone {X : Type 0} (left : List (X × Worked)) (error : LiveError) : Type 0 where
+  pub place : ℕ
+  pub one : X × Worked
+  pub there : slice_get left place ≡ Some one
+  pub before : AreDone (take place left)
+  pub why : IsWhy one.1 error
+
+-- what threads left can't be gathered: the first that is not done says why; or all are done, and
+-- memory ran out
+abbrev pub EndInVain : {X : Type 0} → List (X × Worked) → LiveError → Type 0
+EndInVain left error = FirstNotDone left error ⊎ (AreDone left × (error ≡ Memory))
+
+-- The threads of a run of this plan left a worker that is not done, and the one of the least node
+-- says why.
+pub record RunsInVain {H S M : Type 0} (core : Core H S M) (shape : H) (p : Fields)
+    (orders : WorkerConfig) (error : LiveError) : Type 0 where
+  pub left : List (Station core × Worked)
+  pub run : HaveRun core shape p orders left
+  pub first : FirstNotDone left error
+
+-- the same, by the algorithm of this shape
+abbrev pub InVainBy : Shape → Fields → WorkerConfig → LiveError → Type 0
+InVainBy (planned.Ricart count) p orders error = RunsInVain ricart_core count p orders error
+InVainBy (planned.Maekawa family) p orders error = RunsInVain maekawa_core family p orders error
+InVainBy (planned.Raymond tree) p orders error = RunsInVain raymond_core tree p orders error
+
+-- by the plan's own
+abbrev pub InVain : Fields → WorkerConfig → LiveError → Type 0
+InVain p orders error = InVainBy p.shape p orders error
+
+-- a run of this plan came to no journal: a worker was not done, or memory ran out
+abbrev pub HasNone : Fields → WorkerConfig → LiveError → Type 0
+HasNone p orders error = InVain p orders error ⊎ (error ≡ Memory)
+
+-- an output failed to take what was printed, which one that takes all does only for want of memory
+abbrev pub Fails : Bool → LiveError → Type 0
+Fails takes error = ((error ≡ Writer) × (takes ≢ true)) ⊎ (error ≡ Memory)
+
+-- the error of a plan that was not read
+abbrev pub live_error_of : CommandError → LiveError
+live_error_of (command_error.Fault fault) = Plan fault
+live_error_of command_error.Writer = Writer
+live_error_of command_error.Memory = Memory
+
+abbrev pub error_of_put : OutputFault → LiveError
+error_of_put output_fault.Refused = Writer
+error_of_put output_fault.Memory = Memory

@@ -1,0 +1,125 @@
+//! Why a live run ends without a journal, and the message for it.
+
+ghost use Rattle.std.specs.Prelude.{◌≡◌, Some};
+ghost use Rattle.mx_live.specs.LiveErrors.{ReportsError, error_line, error_status};
+
+use mx_cli::{CommandError, Fault, FaultLine, Names, report_memory, write_line};
+use mx_io::{Output, OutputFault};
+use std::alloc::{AllocError, Global};
+use std::fmt;
+
+/// Why a live run ends without a journal.
+#[derive(Clone, Copy, PartialEq, Eq)]
+pub enum LiveError {
+    /// The plan can't be read, or is refused.
+    Plan(Fault),
+    /// The plan allows fewer sections than all nodes together want.
+    TooFewSections,
+    /// A node was not done when its turns were spent.
+    TurnsSpent,
+    /// Not all nodes came to the gate.
+    GateShut,
+    /// An output refused a text.
+    Writer,
+    Memory,
+}
+
+impl LiveError {
+    /// Returns the status of the run.
+    pub(crate) fn status(self) -> u8
+        ensures { result ≡ error_status self }
+    {
+        match self {
+            LiveError::Plan(_) | LiveError::TooFewSections | LiveError::Writer => 1,
+            LiveError::TurnsSpent | LiveError::GateShut => 3,
+            LiveError::Memory => 5,
+        }
+    }
+}
+
+impl From<CommandError> for LiveError {
+    ghost use Rattle.std.specs.Prelude.{◌≡◌};
+    ghost use Rattle.mx_live.specs.LiveErrors.{live_error_of};
+
+    ghost from_gives = { λ error error. error ≡ live_error_of error };
+
+    fn from(error: CommandError) -> LiveError {
+        match error {
+            CommandError::Fault(fault) => LiveError::Plan(fault),
+            CommandError::Writer => LiveError::Writer,
+            CommandError::Memory => LiveError::Memory,
+        }
+    }
+}
+
+impl From<OutputFault> for LiveError {
+    ghost use Rattle.std.specs.Prelude.{◌≡◌};
+    ghost use Rattle.mx_live.specs.LiveErrors.{error_of_put};
+
+    ghost from_gives = { λ fault error. error ≡ error_of_put fault };
+
+    fn from(fault: OutputFault) -> LiveError {
+        LiveError::from(CommandError::from(fault))
+    }
+}
+
+impl From<AllocError> for LiveError {
+    ghost use Rattle.std.specs.Prelude.{◌≡◌};
+    ghost use Rattle.mx_live.specs.declared.live_error.LiveError.TheVariants.{Memory};
+
+    ghost from_gives = { λ _ error. error ≡ Memory };
+
+    fn from(_e: AllocError) -> LiveError {
+        LiveError::Memory
+    }
+}
+
+/// The message for an error; the plan has this file name.
+#[derive(Clone, Copy)]
+pub(crate) struct LiveErrorLine<'a> {
+    pub(crate) error: LiveError,
+    pub(crate) plan: &'a str,
+}
+
+impl fmt::Display for LiveErrorLine<'_> {
+    ghost output = { λ l. Some (error_line l.plan.now l.error) };
+
+    fn fmt<W: fmt::Write>(&self, f: &mut fmt::Formatter<W>) -> fmt::Result {
+        match self.error {
+            LiveError::Plan(fault) => write!(f, "{}", fault_line(fault, self.plan)),
+            LiveError::TooFewSections => writeln!(f, "mx: too few sections"),
+            LiveError::TurnsSpent => writeln!(f, "mx: turns spent"),
+            LiveError::GateShut => writeln!(f, "mx: gate shut"),
+            LiveError::Memory => writeln!(f, "mx: out of memory"),
+            LiveError::Writer => Ok(()),
+        }
+    }
+}
+
+/// Returns the message for a fault of the plan with this file name.
+fn fault_line<'a>(fault: Fault, plan: &'a str) -> FaultLine<'a>
+    ensures fault { result.fault ≡ fault }
+    ensures plan { result.names.plan.now ≡ plan.now }
+    ensures events { result.names.events.now ≡ plan.now }
+{
+    let names = Names { plan, events: plan };
+    FaultLine { fault, names }
+}
+
+/// Reports why a run has no journal, and returns the status. A writer that refuses gets nothing.
+pub fn report_error<E: Output>(alloc: Global, error: LiveError, plan: &str, err: &mut E) -> u8
+    ensures { ReportsError (E.takes_all err.old) plan.now error
+        (E.written err.old) (E.written err.new) result }
+{
+    if error == LiveError::Writer {
+        return 1;
+    }
+    if error == LiveError::Memory {
+        return report_memory(err);
+    }
+    match write_line(alloc, err, LiveErrorLine { error, plan }) {
+        Ok(()) => error.status(),
+        Err(OutputFault::Refused) => error.status(),
+        Err(OutputFault::Memory) => report_memory(err),
+    }
+}
