@@ -110,10 +110,10 @@ node_counted {S} {M} is_json g i entered sent received refused t t1 t2 t3 t4 (Er
 
 -- the counts of a cluster, by equal numbers of sections and parcels
 pub cluster_is : {S M : Type 0} (kind_text : M → Text) (words : List Text) (options : Options) (events : ℕ) (g : ClusterState S M) (sections parcels : ℕ) (t t1 t2 t3 : Text)
-    (r : Result ⊤ AllocError) → sections ≡ count_by is_entry g.trace → parcels ≡ length g.sent → t1 ≡ t ++ first_text options.course options.is_json events sections parcels
+    (r : Result ⊤ AllocError) → sections ≡ count_by is_entry g.trace → parcels ≡ length g.sent → t1 ≡ t ++ first_text options.source options.is_json events sections parcels
     → t2 ≡ t1 ++ details_text kind_text words options g sections → OnOk r (t3 ≡ t2 ++ counts_end options.is_json) → OnOk r (t3 ≡ t ++ cluster_text kind_text words options events g)
 cluster_is {S} {M} kind_text words options events g sections parcels t t1 t2 t3 (Ok u) entered sent first second third =
-    let head = first_text options.course options.is_json events in
+    let head = first_text options.source options.is_json events in
     let details = details_text kind_text words options g in
     let end = counts_end options.is_json in
     let all = count_by is_entry g.trace in
@@ -129,7 +129,7 @@ with_counts is_json t t1 t2 t3 a b v sound first second third =
 
 -- counts that were appended after events that lead to this cluster
 pub counted_after : {H S M : Type 0} (core : Core H S M) (kind_text : M → Text) (words : List Text) (options : Options) (p : Fields) (es : List Event) (start g : ClusterState S M)
-    (old new : Text) (r : Result ℕ CommandError) → Leads options.course core start es g → OnOk r (new ≡ old ++ counts_text kind_text words options p (length es) g)
+    (old new : Text) (r : Result ℕ CommandError) → Leads options.source core start es g → OnOk r (new ≡ old ++ counts_text kind_text words options p (length es) g)
     → OnOk r (AddsCounts core kind_text words options p es start old new)
 counted_after {H} {S} {M} core kind_text words options p es start g old new (Ok status) leads is = (g, leads, is)
 counted_after {H} {S} {M} core kind_text words options p es start g old new (Err end) leads is = tt

@@ -13,7 +13,7 @@ use Rattle.mx_commands.specs.Runs.{whole}
 use Rattle.mx_count.specs.Counted.{AddsCountsBy}
 use Rattle.mx_count.specs.Listed.{PrintsCountsOf, PrintsListed, options_of}
 use Rattle.mx_count.specs.declared.counted_run.Options.{Options}
-use Rattle.mx_count.specs.declared.counted_run.Course.TheVariants.{Given}
+use Rattle.mx_count.specs.declared.counted_run.EventSource.TheVariants.{Given}
 
 -- a text that was printed whole, and is the counts
 pub counts_printed : (options : Options) (p : Fields) (es : List Event) (takes : Bool) (a b : Held) (empty text bytes : Text) (r : Result ℕ CommandError) → empty ≡ []

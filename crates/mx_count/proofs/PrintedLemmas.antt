@@ -13,7 +13,7 @@ use Rattle.mx_io.specs.Told.{Telling}
 use Rattle.mx_cli.proofs.OutputLemmas.{Appends-keeps}
 use Rattle.mx_count.specs.Listed.{AreEventsOf, Lists, PrintsCountsOf, PrintsListed, options_of}
 use Rattle.mx_count.specs.declared.counted_run.Options.{Options}
-use Rattle.mx_count.specs.declared.counted_run.Course.TheVariants.{Drawn}
+use Rattle.mx_count.specs.declared.counted_run.EventSource.TheVariants.{Drawn}
 use Rattle.mx_count.specs.CountWords.{Request, given, drawn}
 use Rattle.mx_count.specs.Printed.{PrintsCounts, options_in}
 

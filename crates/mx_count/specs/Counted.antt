@@ -21,9 +21,9 @@ use Rattle.mx_format.specs.Members.{number_member, number_start}
 use Rattle.mx_count.specs.Counts.{tallies_text}
 use Rattle.mx_count.specs.NodeCounts.{nodes_text}
 use Rattle.mx_count.specs.Tallies.{counts_end, first_tally_text, tally_text}
-use Rattle.mx_count.specs.declared.counted_run.Course.{Course}
+use Rattle.mx_count.specs.declared.counted_run.EventSource.{EventSource}
 use Rattle.mx_count.specs.declared.counted_run.Options.{Options}
-use Rattle.mx_count.specs.declared.counted_run.Course.TheVariants.{Given, Drawn}
+use Rattle.mx_count.specs.declared.counted_run.EventSource.TheVariants.{Given, Drawn}
 
 -- how many events, sections and parcels there are, as `count` and as `explore` has them
 abbrev pub head_text : Bool → ℕ → ℕ → ℕ → Text
@@ -41,7 +41,7 @@ abbrev pub explored_head : Bool → ℕ → ℕ → ℕ → Text
 explored_head is_json steps entered sent =
     if is_json then explored_json steps entered sent else explored_line steps entered sent
 
-abbrev pub first_text : Course → Bool → ℕ → ℕ → ℕ → Text
+abbrev pub first_text : EventSource → Bool → ℕ → ℕ → ℕ → Text
 first_text Given is_json events sections parcels = head_text is_json events sections parcels
 first_text Drawn is_json events sections parcels = explored_head is_json events sections parcels
 
@@ -59,7 +59,7 @@ abbrev pub cluster_text : {S M : Type 0} → (M → Text) → List Text → Opti
     → Text
 cluster_text kind_text words options events g =
     let sections = count_by is_entry g.trace in
-    first_text options.course options.is_json events sections (length g.sent)
+    first_text options.source options.is_json events sections (length g.sent)
     ++ details_text kind_text words options g sections ++ counts_end options.is_json
 
 -- the counts of a cluster, those of its nodes, unless they are brief, and the verdict, which is
@@ -72,7 +72,7 @@ counts_text kind_text words options p events g =
 
 -- events lead from one cluster to another: those that were given all happen, and of those that were
 -- drawn the ones that can
-abbrev pub Leads : {H S M : Type 0} → Course → Core H S M → ClusterState S M → List Event
+abbrev pub Leads : {H S M : Type 0} → EventSource → Core H S M → ClusterState S M → List Event
     → ClusterState S M → Type 0
 Leads Given core g es new = RunsTo core g es new
 Leads Drawn core g es new = after_drawn core g es ≡ new
@@ -81,7 +81,7 @@ Leads Drawn core g es new = after_drawn core g es ≡ new
 abbrev pub AddsCounts : {H S M : Type 0} → Core H S M → (M → Text) → List Text → Options → Fields
     → List Event → ClusterState S M → Text → Text → Type 0
 AddsCounts {H} {S} {M} core kind_text words options p es start old new =
-    (g : ClusterState S M) × Leads options.course core start es g
+    (g : ClusterState S M) × Leads options.source core start es g
     × (new ≡ old ++ counts_text kind_text words options p (length es) g)
 
 -- the same of events that lead from the cluster of a plan, at rest, by its algorithm

@@ -8,14 +8,14 @@ use Rattle.mx_plan.specs.Events.{events_at}
 use Rattle.mx_io.specs.Outputs.{Held}
 use Rattle.mx_io.specs.Told.{Telling}
 use Rattle.mx_count.specs.Counted.{AddsCountsBy}
-use Rattle.mx_count.specs.declared.counted_run.Course.{Course}
+use Rattle.mx_count.specs.declared.counted_run.EventSource.{EventSource}
 use Rattle.mx_count.specs.declared.counted_run.Options.{Options}
-use Rattle.mx_count.specs.declared.counted_run.Course.TheVariants.{Given}
+use Rattle.mx_count.specs.declared.counted_run.EventSource.TheVariants.{Given}
 
 -- where the events come from, and whether their counts are printed as JSON, and only the first
-abbrev pub options_of : Course → Bool → Bool → Options
-options_of course is_json is_brief =
-    record { course = course; is_json = is_json; is_brief = is_brief }
+abbrev pub options_of : EventSource → Bool → Bool → Options
+options_of source is_json is_brief =
+    record { source = source; is_json = is_json; is_brief = is_brief }
 
 -- the counts of a cluster to which the events lead were printed, by the plan's algorithm, and
 -- nothing else

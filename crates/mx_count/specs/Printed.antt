@@ -9,7 +9,7 @@ use Rattle.mx_io.specs.Outputs.{Held}
 use Rattle.mx_io.specs.Told.{Telling}
 use Rattle.mx_count.specs.Listed.{AreEventsOf, PrintsCountsOf, options_of}
 use Rattle.mx_count.specs.declared.counted_run.Options.{Options}
-use Rattle.mx_count.specs.declared.counted_run.Course.TheVariants.{Given, Drawn}
+use Rattle.mx_count.specs.declared.counted_run.EventSource.TheVariants.{Given, Drawn}
 use Rattle.mx_count.specs.CountWords.{Request, given, drawn}
 
 -- the plan and the events that the words ask for: those that the source tells of, or the schedule

@@ -8,7 +8,7 @@ ghost use Rattle.mx_count.specs.CountWords.{request_asked, request_of, count_lin
 ghost use Rattle.mx_count.specs.CountWords as wants;
 ghost use Rattle.mx_count.specs.Printed.{PrintsCounts};
 
-use crate::counted_run::{Course, Options};
+use crate::counted_run::{EventSource, Options};
 use crate::printed_counts::{count_listed, count_schedule};
 use crate::words::{Request, parse};
 use mx_cli::{
@@ -120,7 +120,7 @@ fn count_drawn<S: Source, O: Output>(
 {
     let plan = fetch_plan(alloc, source, exploration.plan)?;
     let options = Options {
-        course: Course::Drawn,
+        source: EventSource::Drawn,
         is_json,
         is_brief,
     };

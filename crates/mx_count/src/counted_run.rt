@@ -24,9 +24,9 @@ use mx_nodelaws::Exclusion;
 use mx_plan::Plan;
 use std::alloc::{AllocError, Global};
 
-/// How the events of a run were come by.
+/// Where the events of a run come from.
 #[derive(Clone, Copy)]
-pub enum Course {
+pub enum EventSource {
     /// They were given, and each has to happen.
     Given,
     /// They were drawn: a delivery takes its place among the parcels sent.
@@ -36,7 +36,7 @@ pub enum Course {
 /// How counts are printed, and where their events come from.
 #[derive(Clone, Copy)]
 pub struct Options {
-    pub course: Course,
+    pub source: EventSource,
     /// Whether as JSON.
     pub is_json: bool,
     /// Whether without what `explore` prints with `--count` alone.
@@ -78,7 +78,7 @@ where
         plan.now events.now cluster (string_bytes text.old) (string_bytes text.new)) }
     ensures zero { IfOk result (λ status. status ≡ 0) }
 {
-    apply_events(&mut cluster, events, options.course)?;
+    apply_events(&mut cluster, events, options.source)?;
     add_counts(alloc, plan, &cluster, events.len() as u64, options, text)
 }
 
@@ -86,13 +86,13 @@ where
 fn apply_events<C: Exclusion>(
     cluster: &mut Cluster<C>,
     events: &[Event],
-    course: Course,
+    source: EventSource,
 ) -> Result<(), CommandError>
-    ensures { OnOk result (Leads course C.core cluster.old events.now cluster.new) }
+    ensures { OnOk result (Leads source C.core cluster.old events.now cluster.new) }
 {
-    match course {
-        Course::Given => run_given(cluster, events),
-        Course::Drawn => Ok(happen(cluster, events)?),
+    match source {
+        EventSource::Given => run_given(cluster, events),
+        EventSource::Drawn => Ok(happen(cluster, events)?),
     }
 }
 
@@ -167,11 +167,11 @@ fn add_first(
     text: &mut String,
 ) -> Result<(), AllocError>
     ensures { OnOk result (string_bytes text.new ≡ string_bytes text.old
-        ++ first_text options.course options.is_json events sections parcels) }
+        ++ first_text options.source options.is_json events sections parcels) }
 {
-    match options.course {
-        Course::Given => add_head(options.is_json, events, sections, parcels, text),
-        Course::Drawn => add_explored(options.is_json, events, sections, parcels, text),
+    match options.source {
+        EventSource::Given => add_head(options.is_json, events, sections, parcels, text),
+        EventSource::Drawn => add_explored(options.is_json, events, sections, parcels, text),
     }
 }
 

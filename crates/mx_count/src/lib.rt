@@ -17,4 +17,4 @@ mod waits;
 mod words;
 
 pub use count_command::count;
-pub use counted_run::{Course, Options};
+pub use counted_run::{EventSource, Options};

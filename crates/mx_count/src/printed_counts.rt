@@ -4,7 +4,7 @@ ghost use Rattle.std.specs.Prelude.{◌≡◌, IfOk};
 ghost use Rattle.mx_commands.specs.Explored.{schedule_of};
 ghost use Rattle.mx_count.specs.Listed.{PrintsCountsOf, PrintsListed, options_of};
 
-use crate::counted_run::{Course, Options, add_counts_of};
+use crate::counted_run::{EventSource, Options, add_counts_of};
 use mx_cli::{CommandError, Exploration};
 use mx_commands::print;
 use mx_explorer::schedule;
@@ -27,7 +27,7 @@ pub(crate) fn count_listed<O: Output>(
 {
     let events = read_events(alloc, text, plan)?;
     let options = Options {
-        course: Course::Given,
+        source: EventSource::Given,
         is_json,
         is_brief: false,
     };
