@@ -41,7 +41,7 @@ impl From<CommandError> for LiveError {
     ghost use Rattle.std.specs.Prelude.{◌≡◌};
     ghost use Rattle.mx_live.specs.LiveErrors.{live_error_of};
 
-    ghost from_gives = { λ error error. error ≡ live_error_of error };
+    ghost from_gives = { λ error live. live ≡ live_error_of error };
 
     fn from(error: CommandError) -> LiveError {
         match error {
