@@ -20,6 +20,7 @@ pub use errors::{Expected, LineError, LineFault, OwnWord};
 pub use lines::{Line, first_error, next_error, read_line};
 pub use messages::{FirstWords, message, message_of_line};
 pub use names::{NameLists, Names};
+pub use numbers::number_of;
 pub use orders::{LinkChange, Order, Scope};
 pub use verbs::Verb;
 pub use words::{place_of_word, words_in};

@@ -80,12 +80,8 @@ pub fn next_error<N: Names>(names: &N, words: &[&str], error: &LineError) -> Opt
     match error.expected {
         Expected::Times => error_after_times(names, words),
         Expected::Node | Expected::Register | Expected::Number | Expected::Parcel => {
-            let first = if words.first() == Some(&"times") {
-                2
-            } else {
-                0
-            };
-            error_after(names, words, first, error.word)
+            let is_repeated = words.first() == Some(&"times");
+            error_after(names, words, if is_repeated { 2 } else { 0 }, error.word)
         }
         _ => None,
     }

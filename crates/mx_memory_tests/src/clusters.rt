@@ -1,12 +1,12 @@
-//! A cluster starts, reserves memory, steps, advances and runs, and its journals are merged.
+//! A cluster reserves memory, steps, advances and runs, and its journals are merged.
 
-use crate::members::member_shown;
+use crate::harness::{Outcome, Subject, done, make};
+use crate::members::{MemberShown, member_shown};
 use crate::report::{back, call, expect, refused};
 use anyhow::{Result, bail};
 use mx_journal::Journal;
 use mx_merge::MergeFault;
 use mx_network::{Cluster, Event, RunFault, StepFault};
-use mx_nodelaws::Phase;
 use mx_ricart::{Count, Ricart};
 use mx_stamps::NodeId;
 use std::alloc::{AllocError, Global};
@@ -28,82 +28,109 @@ fn events(zero: NodeId, one: NodeId) -> [Event; 11] {
     ]
 }
 
-/// The state of a cluster: its events and parcels so far, and for each node its phase, the number
-/// of its last section and its records.
-type Shown = (usize, u64, [Option<(Phase, u64, usize)>; 2]);
-
-fn node_shown(cluster: &Cluster<Ricart>, node: NodeId) -> Option<(Phase, u64, usize)> {
-    let shown = member_shown(cluster.member(node)?);
-    Some((shown.phase, shown.mine, shown.records))
+/// A call of a cluster of two nodes.
+#[derive(Drop)]
+enum ClusterCall {
+    Step(Event),
+    Advance(Event),
+    /// It reserves memory for this many events more.
+    MakeRoom(usize),
+    Merged,
 }
 
-/// Returns how many events were applied.
-fn happened(cluster: &Cluster<Ricart>) -> usize {
-    cluster.trace().len()
+use ClusterCall::{Advance, MakeRoom, Merged, Step};
+
+/// A cluster of two nodes.
+#[derive(Drop)]
+struct Pair {
+    alloc: Global,
+    cluster: Cluster<Ricart>,
+    nodes: [NodeId; 2],
 }
 
-fn shown(cluster: &Cluster<Ricart>, nodes: [NodeId; 2]) -> Shown {
-    let [zero, one] = nodes;
-    let both = [node_shown(cluster, zero), node_shown(cluster, one)];
-    (happened(cluster), cluster.sent(), both)
+/// The state of a cluster: its events and parcels so far, and its nodes.
+#[derive(Clone, Copy, Debug, PartialEq, Eq)]
+struct Shown {
+    events: usize,
+    parcels: u64,
+    zero: Option<MemberShown>,
+    one: Option<MemberShown>,
 }
 
-fn started(alloc: Global, shape: &Count) -> Result<Cluster<Ricart>, AllocError> {
-    Cluster::start(alloc, shape, 0, 10, 1)
+fn node_shown(cluster: &Cluster<Ricart>, node: NodeId) -> Option<MemberShown> {
+    Some(member_shown(cluster.member(node)?))
 }
 
-fn start(rt: &HostRuntime, shape: &Count) -> Result<Cluster<Ricart>> {
-    call(rt, "Cluster::start");
-    let answer = started(rt.alloc(), shape);
-    back(rt);
-    match answer {
-        Ok(cluster) => Ok(cluster),
-        Err(AllocError) => {
-            refused(rt, "Cluster::start", true)?;
-            Ok(started(rt.alloc(), shape)?)
+fn outcome_of(fault: Option<StepFault>) -> Outcome {
+    match fault {
+        None => Outcome::Done,
+        Some(StepFault::Memory) => Outcome::Refused,
+        Some(_) => Outcome::Wrong,
+    }
+}
+
+/// Returns the value that section 1 wrote first.
+fn written(journal: &Journal) -> Option<u64> {
+    Some(journal.get(1)?.writes.first()?.value)
+}
+
+/// Merges the journals of both nodes. They have one record.
+fn merged(alloc: Global, cluster: &Cluster<Ricart>, nodes: &[NodeId]) -> Outcome {
+    match cluster.merged(alloc, nodes) {
+        Ok(journal) => done(journal.len() == 1 && written(&journal) == Some(5)),
+        Err(MergeFault::Memory) => Outcome::Refused,
+        Err(MergeFault::Conflict(_)) => Outcome::Wrong,
+    }
+}
+
+impl Subject for Pair {
+    type Call = ClusterCall;
+
+    type Shown = Shown;
+
+    fn shown(&self) -> Shown {
+        let [zero, one] = self.nodes;
+        Shown {
+            events: self.cluster.trace().len(),
+            parcels: self.cluster.sent(),
+            zero: node_shown(&self.cluster, zero),
+            one: node_shown(&self.cluster, one),
+        }
+    }
+
+    fn make(&mut self, call: &ClusterCall, _is_again: bool) -> Outcome {
+        match call {
+            Step(event) => outcome_of(self.cluster.step(*event).err()),
+            Advance(event) => outcome_of(self.cluster.advance(*event).err()),
+            MakeRoom(count) => {
+                if self.cluster.make_room(*count).is_err() {
+                    Outcome::Refused
+                } else {
+                    Outcome::Done
+                }
+            }
+            Merged => merged(self.alloc, &self.cluster, &self.nodes),
+        }
+    }
+
+    fn is_right(&mut self, call: &ClusterCall, before: &Shown) -> bool {
+        let now = self.shown();
+        match call {
+            Step(_) | Advance(_) => now.events == before.events.saturating_add(1),
+            MakeRoom(_) | Merged => now == *before,
         }
     }
 }
 
-/// Reserves memory for this many events more.
-fn make_room(
-    rt: &HostRuntime,
-    cluster: &mut Cluster<Ricart>,
-    events: usize,
-    nodes: [NodeId; 2],
-) -> Result<()> {
-    let before = shown(cluster, nodes);
-    call(rt, "Cluster::make_room");
-    let mut answer = cluster.make_room(events);
-    back(rt);
-    if answer.is_err() {
-        refused(rt, "Cluster::make_room", shown(cluster, nodes) == before)?;
-        answer = cluster.make_room(events);
-    }
-    expect(
-        "Cluster::make_room",
-        answer.is_ok() && shown(cluster, nodes) == before,
-    )
+fn started(alloc: Global, shape: &Count, nodes: [NodeId; 2]) -> Result<Pair, AllocError> {
+    Ok(Pair {
+        alloc,
+        cluster: Cluster::start(alloc, shape, 0, 10, 1)?,
+        nodes,
+    })
 }
 
-/// Returns why a step failed, if it did.
-fn step_fault(cluster: &mut Cluster<Ricart>, event: &Event) -> Option<StepFault> {
-    match cluster.step(*event) {
-        Ok(_) => None,
-        Err(fault) => Some(fault),
-    }
-}
-
-/// Returns why a cluster did not advance, if it did not.
-fn advance_fault(cluster: &mut Cluster<Ricart>, event: &Event) -> Option<StepFault> {
-    match cluster.advance(*event) {
-        Ok(()) => None,
-        Err(fault) => Some(fault),
-    }
-}
-
-/// How the events of a list are applied: one after another, by `step` or by `advance`, or in one
-/// run.
+/// How the events are applied: one after another, by `step` or by `advance`, or in one run.
 #[derive(Clone, Copy)]
 enum Way {
     Steps,
@@ -111,45 +138,30 @@ enum Way {
     Run,
 }
 
-/// Returns why an event failed, if it did.
-fn event_fault(cluster: &mut Cluster<Ricart>, event: &Event, way: Way) -> Option<StepFault> {
-    match way {
-        Way::Advances => advance_fault(cluster, event),
-        _ => step_fault(cluster, event),
+/// Applies the events one after another.
+fn apply_each(rt: &HostRuntime, pair: &mut Pair, list: &[Event], way: Way) -> Result<()> {
+    for event in list {
+        match way {
+            Way::Advances => make(rt, pair, "Cluster::advance", &Advance(*event))?,
+            _ => make(rt, pair, "Cluster::step", &Step(*event))?,
+        }
     }
-}
-
-fn step(
-    rt: &HostRuntime,
-    cluster: &mut Cluster<Ricart>,
-    event: &Event,
-    nodes: [NodeId; 2],
-    name: &str,
-    way: Way,
-) -> Result<()> {
-    let before = shown(cluster, nodes);
-    call(rt, name);
-    let mut fault = event_fault(cluster, event, way);
-    back(rt);
-    if fault == Some(StepFault::Memory) {
-        refused(rt, name, shown(cluster, nodes) == before)?;
-        fault = event_fault(cluster, event, way);
-    }
-    let has_stepped = happened(cluster) == before.0.saturating_add(1);
-    expect(name, fault.is_none() && has_stepped)
+    Ok(())
 }
 
 /// Returns why a list of events was not run to its end, if it was not.
 fn run_fault(cluster: &mut Cluster<Ricart>, list: &[Event]) -> Option<RunFault> {
-    match cluster.run(list) {
-        Ok(()) => None,
-        Err(fault) => Some(fault),
-    }
+    cluster.run(list).err()
+}
+
+/// Returns how many events were applied.
+fn happened(cluster: &Cluster<Ricart>) -> usize {
+    cluster.trace().len()
 }
 
 /// Returns whether exactly the first steps of a list were applied, if memory was refused to a later
 /// one.
-fn stands(cluster: &Cluster<Ricart>, fault: RunFault) -> bool {
+fn only_first_happened(cluster: &Cluster<Ricart>, fault: RunFault) -> bool {
     fault.fault == StepFault::Memory && happened(cluster) as u64 == fault.index
 }
 
@@ -165,102 +177,31 @@ fn run(rt: &HostRuntime, cluster: &mut Cluster<Ricart>, list: &[Event]) -> Resul
     let answer = run_fault(cluster, list);
     back(rt);
     if let Some(fault) = answer {
-        refused(rt, "Cluster::run", stands(cluster, fault))?;
+        refused(rt, "Cluster::run", only_first_happened(cluster, fault))?;
         expect("Cluster::run", run_rest(cluster, list))?;
     }
     expect("Cluster::run", happened(cluster) == list.len())
 }
 
-fn each_step(
-    rt: &HostRuntime,
-    cluster: &mut Cluster<Ricart>,
-    list: &[Event],
-    nodes: [NodeId; 2],
-    name: &str,
-    way: Way,
-) -> Result<()> {
-    for event in list {
-        step(rt, cluster, event, nodes, name, way)?;
+/// Applies the events, reserves memory for more, and merges the journals. Returns the state then.
+fn applied(rt: &HostRuntime, mut pair: Pair, list: &[Event], way: Way) -> Result<Shown> {
+    match way {
+        Way::Run => run(rt, &mut pair.cluster, list)?,
+        _ => apply_each(rt, &mut pair, list, way)?,
+    }
+    make(rt, &mut pair, "Cluster::make_room", &MakeRoom(100))?;
+    make(rt, &mut pair, "Cluster::merged", &Merged)?;
+    Ok(pair.shown())
+}
+
+/// Checks that the state is the same, in whichever way the events are applied.
+fn each_way(rt: &HostRuntime, shape: &Count, list: &[Event], nodes: [NodeId; 2]) -> Result<()> {
+    let wanted = applied(rt, started(rt.alloc(), shape, nodes)?, list, Way::Steps)?;
+    for way in [Way::Advances, Way::Run] {
+        let found = applied(rt, started(rt.alloc(), shape, nodes)?, list, way)?;
+        expect("Cluster::run", found == wanted)?;
     }
     Ok(())
-}
-
-/// Applies the events, and returns the state of the cluster after them.
-fn happen(
-    rt: &HostRuntime,
-    cluster: &mut Cluster<Ricart>,
-    list: &[Event],
-    nodes: [NodeId; 2],
-    way: Way,
-) -> Result<Shown> {
-    match way {
-        Way::Steps => each_step(rt, cluster, list, nodes, "Cluster::step", way)?,
-        Way::Advances => each_step(rt, cluster, list, nodes, "Cluster::advance", way)?,
-        Way::Run => run(rt, cluster, list)?,
-    }
-    Ok(shown(cluster, nodes))
-}
-
-/// Returns the state of the nodes after the events, in a cluster that ends then.
-fn shown_after(
-    rt: &HostRuntime,
-    mut cluster: Cluster<Ricart>,
-    list: &[Event],
-    nodes: [NodeId; 2],
-    way: Way,
-) -> Result<Shown> {
-    happen(rt, &mut cluster, list, nodes, way)
-}
-
-/// Returns their state after the events, by `advance`, in a cluster that reserves memory for more
-/// at the end, and whose journals are merged then.
-fn shown_merged(
-    rt: &HostRuntime,
-    mut cluster: Cluster<Ricart>,
-    list: &[Event],
-    nodes: [NodeId; 2],
-) -> Result<Shown> {
-    let found = happen(rt, &mut cluster, list, nodes, Way::Advances)?;
-    make_room(rt, &mut cluster, 100, nodes)?;
-    merged(rt, &cluster, nodes)?;
-    Ok(found)
-}
-
-/// Returns the merge of these nodes' journals: the number of its records, and the first value that
-/// it wrote.
-fn known(
-    alloc: Global,
-    cluster: &Cluster<Ricart>,
-    nodes: [NodeId; 2],
-) -> Result<(usize, Option<u64>), MergeFault> {
-    let journal = cluster.merged(alloc, &nodes)?;
-    Ok((journal.len(), written(&journal)))
-}
-
-/// Returns the value that section 1 wrote first.
-fn written(journal: &Journal) -> Option<u64> {
-    Some(journal.get(1)?.writes.first()?.value)
-}
-
-fn merged(rt: &HostRuntime, cluster: &Cluster<Ricart>, nodes: [NodeId; 2]) -> Result<()> {
-    let before = shown(cluster, nodes);
-    call(rt, "Cluster::merged");
-    let mut answer = known(rt.alloc(), cluster, nodes);
-    back(rt);
-    if answer == Err(MergeFault::Memory) {
-        refused(rt, "Cluster::merged", shown(cluster, nodes) == before)?;
-        answer = known(rt.alloc(), cluster, nodes);
-    }
-    expect("Cluster::merged", answer == Ok((1, Some(5))))
-}
-
-/// Checks that clusters have the same state, in whichever way the events are applied.
-fn each_way(rt: &HostRuntime, shape: &Count, list: &[Event], nodes: [NodeId; 2]) -> Result<()> {
-    let wanted = shown_after(rt, start(rt, shape)?, list, nodes, Way::Steps)?;
-    let found = shown_after(rt, started(rt.alloc(), shape)?, list, nodes, Way::Run)?;
-    expect("Cluster::run", found == wanted)?;
-    let found = shown_merged(rt, started(rt.alloc(), shape)?, list, nodes)?;
-    expect("Cluster::advance", found == wanted)
 }
 
 pub(crate) fn each(rt: &HostRuntime) -> Result<()> {

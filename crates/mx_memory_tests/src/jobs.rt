@@ -1,4 +1,4 @@
-//! Stations of jobs are created, and run.
+//! Stations of jobs are run.
 
 ghost use Rattle.std.specs.Prelude.{IfOk};
 ghost use Rattle.mx_jobs.specs.Runs.{AreNew};
@@ -65,8 +65,6 @@ impl Job for Numberer {
     }
 }
 
-type Ended = Result<Finished<Numberer>, Unfinished<Ricart, Numberer>>;
-
 fn jobs_of(alloc: Global) -> Result<Vec<Numberer>, AllocError> {
     let mut all = Vec::new(alloc);
     for _node in 0..NODES {
@@ -75,32 +73,28 @@ fn jobs_of(alloc: Global) -> Result<Vec<Numberer>, AllocError> {
     Ok(all)
 }
 
-fn opened(rt: &HostRuntime, shape: &Count) -> Result<Vec<Station<Ricart>>>
-    ensures { IfOk result (λ all. AreNew ricart_core all.items) }
-{
-    call(rt, "stations");
-    let answer = stations::<Ricart>(rt.alloc(), shape, &SETTINGS);
-    back(rt);
-    match answer {
-        Ok(all) => Ok(all),
-        Err(AllocError) => {
-            refused(rt, "stations", true)?;
-            Ok(stations::<Ricart>(rt.alloc(), shape, &SETTINGS)?)
-        }
-    }
+/// New stations, their links and their jobs.
+#[derive(Drop)]
+struct NewRun {
+    stations: Vec<Station<Ricart>>,
+    links: Vec<Fair>,
+    jobs: Vec<Numberer>,
 }
 
-fn linked(rt: &HostRuntime) -> Result<Vec<Fair>> {
-    call(rt, "fair_links");
-    let answer = fair_links(rt.alloc(), usize::from(NODES));
-    back(rt);
-    match answer {
-        Ok(links) => Ok(links),
-        Err(AllocError) => {
-            refused(rt, "fair_links", true)?;
-            Ok(fair_links(rt.alloc(), usize::from(NODES))?)
-        }
-    }
+fn new_run(alloc: Global) -> Result<NewRun>
+    ensures { IfOk result (λ new. AreNew ricart_core new.stations.items) }
+{
+    let Some(shape) = Count::of(NODES) else {
+        bail!("no such cluster");
+    };
+    let stations = stations::<Ricart>(alloc, &shape, &SETTINGS)?;
+    let links = fair_links(alloc, usize::from(NODES))?;
+    let jobs = jobs_of(alloc)?;
+    Ok(NewRun {
+        stations,
+        links,
+        jobs,
+    })
 }
 
 /// Returns whether a complete run has all sections, and the last number was written last.
@@ -120,39 +114,58 @@ fn look(rt: &HostRuntime, name: &str, left: &Unfinished<Ricart, Numberer>) -> Re
     }
 }
 
-/// Runs new stations once more, when nothing is refused.
-fn run_again<R: Threads>(rt: &HostRuntime, threads: &R, shape: &Count) -> Result<()> {
-    let all = stations::<Ricart>(rt.alloc(), shape, &SETTINGS)?;
-    let links = fair_links(rt.alloc(), all.len())?;
-    let jobs = jobs_of(rt.alloc())?;
-    match run(threads, rt.alloc(), all, jobs, links, MANY_TURNS) {
+/// Runs new stations, and checks that all sections were run.
+fn run_again<R: Threads>(rt: &HostRuntime, threads: &R) -> Result<()> {
+    let new = new_run(rt.alloc())?;
+    match run(
+        threads,
+        rt.alloc(),
+        new.stations,
+        new.jobs,
+        new.links,
+        MANY_TURNS,
+    ) {
         Ok(all) => expect("run", has_all(&all)),
         Err(_) => bail!("run"),
     }
 }
 
-fn look_and_run_again<R: Threads>(
-    rt: &HostRuntime,
-    threads: &R,
-    shape: &Count,
-    ended: &Ended,
-) -> Result<()> {
-    match ended {
+/// Runs new stations, and gathers them.
+fn run_gathered<R: Threads>(rt: &HostRuntime, threads: &R, new: NewRun) -> Result<()>
+    requires { AreNew ricart_core new.stations.items }
+{
+    call(rt, "run");
+    let ended = run(
+        threads,
+        rt.alloc(),
+        new.stations,
+        new.jobs,
+        new.links,
+        FEW_TURNS,
+    );
+    back(rt);
+    match &ended {
         Ok(all) => expect("run", has_all(all)),
         Err(left) => {
             look(rt, "run", left)?;
-            run_again(rt, threads, shape)
+            run_again(rt, threads)
         }
     }
 }
 
 /// Runs new stations, and does not gather them.
-fn run_apart<R: Threads>(rt: &HostRuntime, threads: &R, shape: &Count) -> Result<()> {
-    let all = stations::<Ricart>(rt.alloc(), shape, &SETTINGS)?;
-    let links = fair_links(rt.alloc(), all.len())?;
-    let jobs = jobs_of(rt.alloc())?;
+fn run_apart<R: Threads>(rt: &HostRuntime, threads: &R, new: NewRun) -> Result<()>
+    requires { AreNew ricart_core new.stations.items }
+{
     call(rt, "run_stations");
-    let ended = run_stations(threads, rt.alloc(), all, jobs, links, FEW_TURNS);
+    let ended = run_stations(
+        threads,
+        rt.alloc(),
+        new.stations,
+        new.jobs,
+        new.links,
+        FEW_TURNS,
+    );
     back(rt);
     match &ended {
         Ok(ran) => {
@@ -164,21 +177,12 @@ fn run_apart<R: Threads>(rt: &HostRuntime, threads: &R, shape: &Count) -> Result
         }
         Err(left) => {
             look(rt, "run_stations", left)?;
-            run_again(rt, threads, shape)
+            run_again(rt, threads)
         }
     }
 }
 
 pub(crate) fn each<R: Threads>(rt: &HostRuntime, threads: &R) -> Result<()> {
-    let Some(shape) = Count::of(NODES) else {
-        bail!("no such cluster");
-    };
-    let all = opened(rt, &shape)?;
-    let links = linked(rt)?;
-    let jobs = jobs_of(rt.alloc())?;
-    call(rt, "run");
-    let ended = run(threads, rt.alloc(), all, jobs, links, FEW_TURNS);
-    back(rt);
-    look_and_run_again(rt, threads, &shape, &ended)?;
-    run_apart(rt, threads, &shape)
+    run_gathered(rt, threads, new_run(rt.alloc())?)?;
+    run_apart(rt, threads, new_run(rt.alloc())?)
 }

@@ -1,7 +1,8 @@
 //! Puts, merges and joins. Beside each journal there is its twin with the same records, to which no
 //! memory is refused.
 
-use crate::report::{back, call, expect, refused};
+use crate::harness::{Outcome, Subject, make};
+use crate::report::expect;
 use anyhow::Result;
 use mx_journal::{Journal, Put, PutFault, Record, Write};
 use mx_merge::{MergeFault, agree, merge};
@@ -62,11 +63,11 @@ const KNOWN: [(&[u64], u64, &[u64]); 4] = [
 const SOME_NEW: &[u64] = &[2, 4, 7];
 
 /// Numbers of two journals, and the numbers up to which they settle. The second settles further
-/// than the first, and has each record that the first still has.
-const BASES: [(&[u64], u64, &[u64], u64); 3] = [
-    (&[1, 2, 5], 2, &[1, 2, 3, 4, 5], 4),
-    (&[4], 0, &[1, 2, 3], 3),
-    (&[1, 2, 7, 8], 1, &[1, 2, 3, 4, 8], 4),
+/// than the first, and has no record that is new to it. Then how many numbers only the second has.
+const BASES: [(&[u64], u64, &[u64], u64, u64); 3] = [
+    (&[1, 2, 5], 2, &[1, 2, 3, 4, 5], 4, 2),
+    (&[4], 0, &[1, 2, 3], 3, 3),
+    (&[1, 2, 7, 8], 1, &[1, 2, 3, 4, 8], 4, 2),
 ];
 
 /// Returns a record by node 0 that writes its number to register 0.
@@ -97,18 +98,107 @@ fn journal_of(alloc: Global, numbers: &[u64]) -> Result<Journal> {
     Ok(journal)
 }
 
-/// A journal and its twin.
+/// The call that is repeated.
+#[derive(Clone, Copy, Debug, PartialEq, Eq)]
+enum Way {
+    Put,
+    PutAll,
+    Merge,
+    Join,
+}
+
+fn name_of(way: Way) -> &'static str {
+    match way {
+        Way::Put => "Journal::put",
+        Way::PutAll => "Journal::put_all",
+        Way::Merge => "merge",
+        Way::Join => "Journal::join",
+    }
+}
+
+/// A call, with arguments of each kind.
+#[derive(Drop)]
+struct Taking {
+    way: Way,
+    records: Vec<Record>,
+    other: Journal,
+    /// How many numbers are new, if no record is. The call needs no memory then.
+    known: Option<u64>,
+}
+
+fn arguments(alloc: Global, numbers: &[u64], way: Way, known: Option<u64>) -> Result<Taking> {
+    Ok(Taking {
+        way,
+        records: records(alloc, numbers)?,
+        other: journal_of(alloc, numbers)?,
+        known,
+    })
+}
+
+/// Returns whether this many numbers may be new.
+fn may_be_new(taking: &Taking, new: u64) -> bool {
+    match taking.known {
+        Some(count) => new == count,
+        None => new > 0,
+    }
+}
+
+/// Puts the first record alone, or all of them.
+fn put(journal: &mut Journal, taking: &Taking) -> Result<u64, PutFault> {
+    match taking.records.first() {
+        Some(record) if taking.way == Way::Put => {
+            match journal.put(record.copy())? {
+                Put::New => Ok(1),
+                Put::Same => Ok(0),
+            }
+        }
+        _ => journal.put_all(taking.records.as_slice()),
+    }
+}
+
+/// Joins an agreeing journal to another one.
+fn join(journal: &mut Journal, other: &Journal) -> Result<u64, MergeFault> {
+    if !agree(journal, other) {
+        return Err(MergeFault::Conflict(0));
+    }
+    Ok(journal.join(other)?)
+}
+
+/// Adds the other journal.
+fn add(journal: &mut Journal, taking: &Taking) -> Result<u64, MergeFault> {
+    match taking.way {
+        Way::Join => join(journal, &taking.other),
+        _ => merge(journal, &taking.other),
+    }
+}
+
+/// Returns how many numbers are new after a call.
+fn taken(journal: &mut Journal, taking: &Taking) -> Result<u64, Outcome> {
+    match taking.way {
+        Way::Put | Way::PutAll => {
+            match put(journal, taking) {
+                Ok(new) => Ok(new),
+                Err(PutFault::Memory) => Err(Outcome::Refused),
+                Err(_) => Err(Outcome::Wrong),
+            }
+        }
+        Way::Merge | Way::Join => {
+            match add(journal, taking) {
+                Ok(new) => Ok(new),
+                Err(MergeFault::Memory) => Err(Outcome::Refused),
+                Err(_) => Err(Outcome::Wrong),
+            }
+        }
+    }
+}
+
+/// A journal, and its twin with the same records, to which no memory is refused.
 #[derive(Drop)]
 struct Twins {
     journal: Journal,
     twin: Journal,
-}
-
-fn empty_twins(alloc: Global) -> Twins {
-    Twins {
-        journal: Journal::new(alloc),
-        twin: Journal::new(alloc),
-    }
+    /// How many numbers were new to the journal in the last call.
+    new: u64,
 }
 
 /// Returns whether both have the same base, and the same records of numbers below 20.
@@ -123,234 +213,132 @@ fn are_alike(twins: &Twins) -> bool {
         && agree(&twins.journal, &twins.twin)
 }
 
-fn put(rt: &HostRuntime, twins: &mut Twins, number: u64) -> Result<()> {
-    call(rt, "Journal::put");
-    let mut answer = twins.journal.put(record(number));
-    back(rt);
-    if answer == Err(PutFault::Memory) {
-        refused(rt, "Journal::put", are_alike(twins))?;
-        answer = twins.journal.put(record(number));
+impl Subject for Twins {
+    type Call = Taking;
+
+    type Shown = bool;
+
+    fn shown(&self) -> bool {
+        are_alike(self)
     }
-    twins.twin.put(record(number))?;
-    expect("Journal::put", answer == Ok(Put::New) && are_alike(twins))
-}
 
-fn put_all(rt: &HostRuntime, twins: &mut Twins, list: &[Record]) -> Result<()> {
-    call(rt, "Journal::put_all");
-    let mut answer = twins.journal.put_all(list);
-    back(rt);
-    if answer == Err(PutFault::Memory) {
-        refused(rt, "Journal::put_all", are_alike(twins))?;
-        answer = twins.journal.put_all(list);
+    fn make(&mut self, call: &Taking, _is_again: bool) -> Outcome {
+        match taken(&mut self.journal, call) {
+            Ok(new) => {
+                self.new = new;
+                Outcome::Done
+            }
+            Err(_) if call.known.is_some() => Outcome::Wrong,
+            Err(outcome) => outcome,
+        }
     }
-    let new = twins.twin.put_all(list)?;
-    expect("Journal::put_all", answer == Ok(new) && are_alike(twins))
-}
 
-/// Joins an agreeing journal to another one.
-fn join(journal: &mut Journal, other: &Journal) -> Result<u64, MergeFault> {
-    if !agree(journal, other) {
-        return Err(MergeFault::Conflict(0));
-    }
-    Ok(journal.join(other)?)
-}
-
-/// The call that is repeated.
-#[derive(Clone, Copy)]
-enum Way {
-    Put,
-    PutAll,
-    Merge,
-    Join,
-}
-
-/// Adds another journal.
-fn take_in(journal: &mut Journal, other: &Journal, way: Way) -> Result<u64, MergeFault> {
-    match way {
-        Way::Join => join(journal, other),
-        _ => merge(journal, other),
+    fn is_right(&mut self, call: &Taking, _before: &bool) -> bool {
+        match taken(&mut self.twin, call) {
+            Ok(new) => new == self.new && may_be_new(call, new) && are_alike(self),
+            Err(_) => false,
+        }
     }
 }
 
-/// Adds another journal, to the twin too.
-fn take_other(
-    rt: &HostRuntime,
-    twins: &mut Twins,
-    other: &Journal,
-    name: &str,
-    way: Way,
-) -> Result<()> {
-    call(rt, name);
-    let mut answer = take_in(&mut twins.journal, other, way);
-    back(rt);
-    if answer == Err(MergeFault::Memory) {
-        refused(rt, name, are_alike(twins))?;
-        answer = take_in(&mut twins.journal, other, way);
-    }
-    let new = take_in(&mut twins.twin, other, way)?;
-    expect(name, answer == Ok(new) && are_alike(twins))
-}
-
-/// Puts the records of these numbers one by one.
-fn put_each(rt: &HostRuntime, twins: &mut Twins, numbers: &[u64]) -> Result<()> {
-    for number in numbers {
-        put(rt, twins, *number)?;
-    }
-    Ok(())
-}
-
-/// Puts the records of these numbers together.
-fn put_list(rt: &HostRuntime, twins: &mut Twins, numbers: &[u64]) -> Result<()> {
-    put_all(rt, twins, records(rt.alloc(), numbers)?.as_slice())
-}
-
-/// Adds a journal of these numbers.
-fn take_list(
+/// Makes the call with these numbers, some of them new, or all known.
+fn take(
     rt: &HostRuntime,
     twins: &mut Twins,
     numbers: &[u64],
-    name: &str,
     way: Way,
+    known: Option<u64>,
 ) -> Result<()> {
-    take_other(rt, twins, &journal_of(rt.alloc(), numbers)?, name, way)
+    make(
+        rt,
+        twins,
+        name_of(way),
+        &arguments(rt.alloc(), numbers, way, known)?,
+    )
 }
 
-/// Makes the call with these numbers.
-fn take(rt: &HostRuntime, twins: &mut Twins, numbers: &[u64], way: Way) -> Result<()> {
-    match way {
-        Way::Put => put_each(rt, twins, numbers),
-        Way::PutAll => put_list(rt, twins, numbers),
-        Way::Merge => take_list(rt, twins, numbers, "merge", way),
-        Way::Join => take_list(rt, twins, numbers, "Journal::join", way),
-    }
+/// Returns twins that have records of these numbers, and settle up to one of them.
+fn settled_twins(alloc: Global, numbers: &[u64], upto: u64) -> Result<Twins> {
+    let mut twins = Twins {
+        journal: journal_of(alloc, numbers)?,
+        twin: journal_of(alloc, numbers)?,
+        new: 0,
+    };
+    twins.journal.settle(upto)?;
+    twins.twin.take_base(twins.journal.base())?;
+    expect("Journal::settle", are_alike(&twins))?;
+    Ok(twins)
 }
 
-fn take_each(rt: &HostRuntime, twins: &mut Twins, lists: &[&[u64]], way: Way) -> Result<()> {
-    for numbers in lists {
-        take(rt, twins, numbers, way)?;
+fn put_each(rt: &HostRuntime, mut twins: Twins, numbers: &[u64]) -> Result<()> {
+    for number in numbers {
+        take(rt, &mut twins, &[*number], Way::Put, None)?;
     }
     Ok(())
 }
 
-/// Repeats the call, starting with two empty journals.
-fn from_empty(rt: &HostRuntime, lists: &[&[u64]], way: Way) -> Result<()> {
-    take_each(rt, &mut empty_twins(rt.alloc()), lists, way)
+fn take_each(rt: &HostRuntime, mut twins: Twins, lists: &[&[u64]], way: Way) -> Result<()> {
+    for numbers in lists {
+        take(rt, &mut twins, *numbers, way, None)?;
+    }
+    Ok(())
+}
+
+/// Makes the call with numbers that are not new, and then with some that are.
+fn known_first(rt: &HostRuntime, mut twins: Twins, known: &[u64], way: Way) -> Result<()> {
+    take(rt, &mut twins, known, way, Some(0))?;
+    take(rt, &mut twins, SOME_NEW, way, None)
+}
+
+/// Adds a journal with a higher base, whose records are not new.
+fn take_higher(rt: &HostRuntime, mut twins: Twins, mut higher: Taking, upto: u64) -> Result<()> {
+    higher.other.settle(upto)?;
+    make(rt, &mut twins, name_of(higher.way), &higher)?;
+    expect("Journal::settle", twins.journal.base().upto() == upto)
 }
 
 fn each_single(rt: &HostRuntime) -> Result<()> {
     for numbers in SINGLES {
-        from_empty(rt, &[numbers], Way::Put)?;
+        put_each(rt, settled_twins(rt.alloc(), &[], 0)?, numbers)?;
     }
     Ok(())
 }
 
 fn each_list(rt: &HostRuntime, way: Way) -> Result<()> {
     for lists in LISTS {
-        from_empty(rt, lists, way)?;
+        take_each(rt, settled_twins(rt.alloc(), &[], 0)?, lists, way)?;
     }
     Ok(())
 }
 
-/// Settles the journal up to a number, and gives its base to the twin.
-fn settle(twins: &mut Twins, upto: u64) -> Result<()> {
-    twins.journal.settle(upto)?;
-    twins.twin.take_base(twins.journal.base())?;
-    expect("Journal::settle", are_alike(twins))
-}
-
-/// Returns twins that have records of these numbers, and settle up to one of them.
-fn settled_twins(rt: &HostRuntime, numbers: &[u64], upto: u64) -> Result<Twins> {
-    let mut twins = Twins {
-        journal: journal_of(rt.alloc(), numbers)?,
-        twin: journal_of(rt.alloc(), numbers)?,
-    };
-    settle(&mut twins, upto)?;
-    Ok(twins)
-}
-
-/// Puts records that are not new. That takes no memory.
-fn put_known(rt: &HostRuntime, twins: &mut Twins, list: &[Record]) -> Result<()> {
-    call(rt, "Journal::put_all");
-    let answer = twins.journal.put_all(list);
-    back(rt);
-    expect("Journal::put_all", answer == Ok(0) && are_alike(twins))
-}
-
-/// Adds another journal without a new record. That takes no memory.
-fn take_known(
-    rt: &HostRuntime,
-    twins: &mut Twins,
-    other: &Journal,
-    name: &str,
-    way: Way,
-) -> Result<()> {
-    call(rt, name);
-    let answer = take_in(&mut twins.journal, other, way);
-    back(rt);
-    let new = take_in(&mut twins.twin, other, way)?;
-    expect(name, answer == Ok(new) && are_alike(twins))
-}
-
-/// Makes the call with numbers that are not new, and then with some that are.
-fn known_first(
-    rt: &HostRuntime,
-    twins: &mut Twins,
-    numbers: &[u64],
-    name: &str,
-    way: Way,
-) -> Result<()> {
-    match way {
-        Way::PutAll => put_known(rt, twins, records(rt.alloc(), numbers)?.as_slice())?,
-        _ => take_known(rt, twins, &journal_of(rt.alloc(), numbers)?, name, way)?,
-    }
-    take(rt, twins, SOME_NEW, way)
-}
-
-fn each_known(rt: &HostRuntime, name: &str, way: Way) -> Result<()> {
+fn each_known(rt: &HostRuntime, way: Way) -> Result<()> {
     for (numbers, upto, known) in &KNOWN {
-        known_first(
-            rt,
-            &mut settled_twins(rt, numbers, *upto)?,
-            known,
-            name,
-            way,
-        )?;
+        known_first(rt, settled_twins(rt.alloc(), *numbers, *upto)?, *known, way)?;
     }
     Ok(())
 }
 
-/// Adds a higher base, with records that are not new.
-fn take_higher(
-    rt: &HostRuntime,
-    twins: &mut Twins,
-    numbers: &[u64],
-    upto: u64,
-    name: &str,
-    way: Way,
-) -> Result<()> {
-    let mut other = journal_of(rt.alloc(), numbers)?;
-    other.settle(upto)?;
-    take_known(rt, twins, &other, name, way)?;
-    expect(name, twins.journal.base().upto() == upto)
-}
-
-fn each_base(rt: &HostRuntime, name: &str, way: Way) -> Result<()> {
-    for (numbers, upto, others, higher) in &BASES {
-        let mut twins = settled_twins(rt, numbers, *upto)?;
-        take_higher(rt, &mut twins, others, *higher, name, way)?;
+fn each_base(rt: &HostRuntime, way: Way) -> Result<()> {
+    for (numbers, upto, others, higher, new) in &BASES {
+        let base = arguments(rt.alloc(), *others, way, Some(*new))?;
+        take_higher(
+            rt,
+            settled_twins(rt.alloc(), *numbers, *upto)?,
+            base,
+            *higher,
+        )?;
     }
     Ok(())
 }
 
 pub(crate) fn each(rt: &HostRuntime) -> Result<()> {
     each_single(rt)?;
-    each_list(rt, Way::PutAll)?;
-    each_list(rt, Way::Merge)?;
-    each_list(rt, Way::Join)?;
-    each_known(rt, "Journal::put_all", Way::PutAll)?;
-    for (name, way) in &[("merge", Way::Merge), ("Journal::join", Way::Join)] {
-        each_known(rt, name, *way)?;
-        each_base(rt, name, *way)?;
+    for way in [Way::PutAll, Way::Merge, Way::Join] {
+        each_list(rt, way)?;
+        each_known(rt, way)?;
+    }
+    for way in [Way::Merge, Way::Join] {
+        each_base(rt, way)?;
     }
     Ok(())
 }

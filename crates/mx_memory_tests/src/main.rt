@@ -6,13 +6,13 @@
 #![tactic(auto)]
 
 mod clusters;
+mod harness;
 mod jobs;
 mod journals;
 mod members;
-mod readers;
 mod report;
 mod stations;
-mod texts;
+mod values;
 
 use anyhow::Result;
 
@@ -22,5 +22,5 @@ fn main(rt: HostRuntime) -> Result<()> {
     clusters::each(&rt)?;
     stations::each(&rt)?;
     jobs::each(&rt, &rt)?;
-    readers::each(&rt)
+    values::each(&rt)
 }

@@ -2,8 +2,8 @@
 
 ghost use Rattle.std.specs.Prelude.{◌≡◌, []};
 
+use crate::harness::{Outcome, Subject, done, make, make_each};
 use crate::journals::record;
-use crate::report::{back, call, expect, refused};
 use anyhow::{Result, bail};
 use arrayvec::ArrayVec;
 use mx_journal::Receipt;
@@ -13,15 +13,6 @@ use mx_nodelaws::{Exclusion, Phase};
 use mx_ricart::{Count, Ricart};
 use mx_stamps::NodeId;
 use std::alloc::{AllocError, Global};
-
-/// Numbers of records that come in one parcel.
-const PARCELS: [&[u64]; 3] = [&[2, 4, 7], &[9, 3, 4], &[1, 5, 6, 8]];
-
-/// The number up to which a member settles once these have come.
-const SETTLED: u64 = 5;
-
-/// Numbers of records that come then; none of them is new.
-const KNOWN: [&[u64]; 2] = [&[], &[2, 9, 5]];
 
 /// Creates node 0 of one node, with one register.
 pub(crate) fn started(alloc: Global) -> Result<Member<Ricart>> {
@@ -34,13 +25,52 @@ pub(crate) fn started(alloc: Global) -> Result<Member<Ricart>> {
     Ok(Member::start(alloc, &shape, NodeId::default(), 0, 10, 1))
 }
 
+/// A call by which a member leaves, or takes the records of these numbers.
+#[derive(Clone, Copy)]
+pub(crate) enum MemberCall {
+    Leave,
+    Perform,
+    Deliver(&'static [u64]),
+    Receive(&'static [u64]),
+    /// Nothing in it is new, so it takes no memory.
+    DeliverKnown(&'static [u64]),
+    ReceiveKnown(&'static [u64]),
+}
+
+use MemberCall::{Deliver, DeliverKnown, Leave, Perform, Receive, ReceiveKnown};
+
+/// Records that come in parcels.
+const DELIVERIES: [(&str, MemberCall); 3] = [
+    ("Member::deliver", Deliver(&[2, 4, 7])),
+    ("Member::deliver", Deliver(&[9, 3, 4])),
+    ("Member::deliver", Deliver(&[1, 5, 6, 8])),
+];
+
+/// The same by the other call.
+const RECEIPTS: [(&str, MemberCall); 3] = [
+    ("Member::receive", Receive(&[2, 4, 7])),
+    ("Member::receive", Receive(&[9, 3, 4])),
+    ("Member::receive", Receive(&[1, 5, 6, 8])),
+];
+
+/// The number up to which a member settles once these have come.
+const SETTLED: u64 = 5;
+
+/// Records that come then; none of them is new.
+const KNOWN: [(&str, MemberCall); 4] = [
+    ("Member::deliver", DeliverKnown(&[])),
+    ("Member::deliver", DeliverKnown(&[2, 9, 5])),
+    ("Member::receive", ReceiveKnown(&[])),
+    ("Member::receive", ReceiveKnown(&[2, 9, 5])),
+];
+
 /// The state of a member: its phase, the number of its last section, the number of its records and
 /// the greatest of their numbers, and its register.
-#[derive(Clone, Copy)]
+#[derive(Clone, Copy, Debug, PartialEq, Eq)]
 pub(crate) struct MemberShown {
-    pub(crate) phase: Phase,
-    pub(crate) mine: u64,
-    pub(crate) records: usize,
+    phase: Phase,
+    mine: u64,
+    records: usize,
     top: u64,
     value: Option<u64>,
 }
@@ -56,77 +86,6 @@ pub(crate) fn member_shown(member: &Member<Ricart>) -> MemberShown {
     }
 }
 
-/// Returns whether the member is inside section 1, and its journal is empty.
-fn is_inside(member: &Member<Ricart>) -> bool {
-    let shown = member_shown(member);
-    shown.phase == Phase::Inside(1) && shown.mine == 1 && shown.records == 0
-}
-
-/// Enters, writes and reads. A refused act is missing from the receipt.
-fn enter(member: &mut Member<Ricart>) {
-    let _ = member.ask(&mut Outbox::new());
-    let _ = member.enter();
-    let _ = member.write(0, 7);
-    let _ = member.read(0);
-}
-
-/// The call by which a member leaves.
-#[derive(Clone, Copy)]
-enum Leaving {
-    Leave,
-    Perform,
-}
-
-/// Returns whether the receipt is that of section 1, complete.
-fn is_whole(receipt: &Receipt) -> bool {
-    receipt.number == 1 && receipt.reads.len() == 1 && receipt.writes.len() == 1
-}
-
-/// Leaves, and returns whether the receipt is complete.
-fn close(
-    member: &mut Member<Ricart>,
-    out: &mut Outbox<Parcel<RicartMsg>>,
-) -> Result<bool, CloseFault>
-    requires { out.old ≡ [] }
-{
-    let receipt = member.leave(out)?;
-    Ok(is_whole(&receipt))
-}
-
-/// Leaves by an act, and returns whether the receipt is complete.
-fn act(member: &mut Member<Ricart>, out: &mut Outbox<Parcel<RicartMsg>>) -> Result<bool, CloseFault>
-    requires { out.old ≡ [] }
-{
-    match perform(member, Act::Leave, out) {
-        Ok(Answer::Left(Ok(receipt))) => Ok(is_whole(&receipt)),
-        Ok(_) => Err(CloseFault::NotInside),
-        Err(AllocError) => Err(CloseFault::Memory),
-    }
-}
-
-/// Leaves. Returns whether the receipt is complete, and whether nothing is sent.
-fn left(member: &mut Member<Ricart>, by: Leaving) -> (Result<bool, CloseFault>, bool) {
-    let mut out = Outbox::new();
-    let answer = match by {
-        Leaving::Leave => close(member, &mut out),
-        Leaving::Perform => act(member, &mut out),
-    };
-    (answer, out.is_empty())
-}
-
-/// Leaves section 1.
-fn leave(rt: &HostRuntime, member: &mut Member<Ricart>, name: &str, by: Leaving) -> Result<()> {
-    call(rt, name);
-    let (mut answer, is_quiet) = left(member, by);
-    back(rt);
-    if answer == Err(CloseFault::Memory) {
-        refused(rt, name, is_inside(member) && is_quiet)?;
-        answer = left(member, by).0;
-    }
-    let has_written = member_shown(member).value == Some(7);
-    expect(name, answer == Ok(true) && has_written)
-}
-
 pub(crate) fn parcel_of(numbers: &[u64]) -> Parcel<RicartMsg> {
     let mut records = ArrayVec::new();
     for number in numbers {
@@ -137,68 +96,67 @@ pub(crate) fn parcel_of(numbers: &[u64]) -> Parcel<RicartMsg> {
     Parcel::Records(records)
 }
 
-/// The call by which a member takes a parcel.
-#[derive(Clone, Copy)]
-enum Taking {
-    Deliver,
-    Receive,
+/// Returns whether the receipt is that of section 1, complete.
+fn is_whole(receipt: &Receipt) -> bool {
+    receipt.number == 1 && receipt.reads.len() == 1 && receipt.writes.len() == 1
 }
 
-/// Takes the records of these numbers. Returns the result, and whether nothing is sent.
-fn delivered(
-    member: &mut Member<Ricart>,
-    numbers: &[u64],
-    by: Taking,
-) -> (Result<(), DeliverFault>, bool) {
-    let mut out = Outbox::new();
-    let node = NodeId::default();
-    let answer = match by {
-        Taking::Deliver => member.deliver(node, parcel_of(numbers), &mut out),
-        Taking::Receive => member.receive(node, &parcel_of(numbers), &mut out),
-    };
-    (answer, out.is_empty())
-}
-
-/// Returns whether the member's journal and its register are unchanged.
-fn is_as_before(member: &Member<Ricart>, before: &MemberShown) -> bool {
-    let shown = member_shown(member);
-    shown.records == before.records && shown.top == before.top && shown.value == before.value
-}
-
-fn deliver(
-    rt: &HostRuntime,
-    member: &mut Member<Ricart>,
-    numbers: &[u64],
-    name: &str,
-    by: Taking,
-) -> Result<()> {
-    let before = member_shown(member);
-    call(rt, name);
-    let (mut answer, is_quiet) = delivered(member, numbers, by);
-    back(rt);
-    if answer == Err(DeliverFault::Memory) {
-        refused(rt, name, is_as_before(member, &before) && is_quiet)?;
-        answer = delivered(member, numbers, by).0;
+/// Leaves, and returns the outcome.
+fn close(member: &mut Member<Ricart>, out: &mut Outbox<Parcel<RicartMsg>>) -> Outcome
+    requires { out.old ≡ [] }
+{
+    match member.leave(out) {
+        Ok(receipt) => done(is_whole(&receipt)),
+        Err(CloseFault::Memory) => Outcome::Refused,
+        Err(CloseFault::NotInside) => Outcome::Wrong,
     }
-    expect(name, answer == Ok(()) && has_all(member, numbers))
 }
 
-/// Delivers records that are not new. That takes no memory.
-fn deliver_known(
-    rt: &HostRuntime,
+/// Leaves by an act, and returns the outcome.
+fn act(member: &mut Member<Ricart>, out: &mut Outbox<Parcel<RicartMsg>>) -> Outcome
+    requires { out.old ≡ [] }
+{
+    match perform(member, Act::Leave, out) {
+        Ok(Answer::Left(Ok(receipt))) => done(is_whole(&receipt)),
+        Ok(_) => Outcome::Wrong,
+        Err(AllocError) => Outcome::Refused,
+    }
+}
+
+/// Returns the outcome of a delivery.
+fn outcome_of(answer: Result<(), DeliverFault>) -> Outcome {
+    match answer {
+        Ok(()) => Outcome::Done,
+        Err(DeliverFault::Memory) => Outcome::Refused,
+        Err(_) => Outcome::Wrong,
+    }
+}
+
+/// Returns the outcome of a call that takes no memory.
+fn without_memory(outcome: Outcome) -> Outcome {
+    done(outcome == Outcome::Done)
+}
+
+fn made(
     member: &mut Member<Ricart>,
-    numbers: &[u64],
-    name: &str,
-    by: Taking,
-) -> Result<()> {
-    let before = member_shown(member);
-    call(rt, name);
-    let (answer, is_quiet) = delivered(member, numbers, by);
-    back(rt);
-    expect(
-        name,
-        answer == Ok(()) && is_quiet && is_as_before(member, &before),
-    )
+    call: &MemberCall,
+    out: &mut Outbox<Parcel<RicartMsg>>,
+) -> Outcome
+    requires { out.old ≡ [] }
+{
+    let node = NodeId::default();
+    match call {
+        Leave => close(member, out),
+        Perform => act(member, out),
+        Deliver(numbers) => outcome_of(member.deliver(node, parcel_of(numbers), out)),
+        Receive(numbers) => outcome_of(member.receive(node, &parcel_of(numbers), out)),
+        DeliverKnown(numbers) => {
+            without_memory(outcome_of(member.deliver(node, parcel_of(numbers), out)))
+        }
+        ReceiveKnown(numbers) => {
+            without_memory(outcome_of(member.receive(node, &parcel_of(numbers), out)))
+        }
+    }
 }
 
 fn has_all(member: &Member<Ricart>, numbers: &[u64]) -> bool {
@@ -210,55 +168,63 @@ fn has_all(member: &Member<Ricart>, numbers: &[u64]) -> bool {
     true
 }
 
-fn each_leaving(
+impl Subject for Member<Ricart> {
+    type Call = MemberCall;
+
+    type Shown = MemberShown;
+
+    fn shown(&self) -> MemberShown {
+        member_shown(self)
+    }
+
+    /// None of these calls sends anything.
+    fn make(&mut self, call: &MemberCall, _is_again: bool) -> Outcome {
+        let mut out = Outbox::new();
+        let outcome = made(self, call, &mut out);
+        if out.is_empty() {
+            outcome
+        } else {
+            Outcome::Wrong
+        }
+    }
+
+    fn is_right(&mut self, call: &MemberCall, before: &MemberShown) -> bool {
+        match call {
+            Leave | Perform => member_shown(self).value == Some(7),
+            Deliver(numbers) | Receive(numbers) => has_all(self, numbers),
+            DeliverKnown(_) | ReceiveKnown(_) => member_shown(self) == *before,
+        }
+    }
+}
+
+/// Enters section 1, writes and reads, and leaves. A refused act is missing from the receipt.
+fn have_section(
     rt: &HostRuntime,
     mut member: Member<Ricart>,
     name: &str,
-    by: Leaving,
+    leaving: MemberCall,
 ) -> Result<()> {
-    enter(&mut member);
-    leave(rt, &mut member, name, by)
+    let _ = member.ask(&mut Outbox::new());
+    let _ = member.enter();
+    let _ = member.write(0, 7);
+    let _ = member.read(0);
+    make(rt, &mut member, name, &leaving)
 }
 
+/// Takes records, settles, and takes records without anything new.
 fn deliver_each(
     rt: &HostRuntime,
-    member: &mut Member<Ricart>,
-    name: &str,
-    by: Taking,
-) -> Result<()> {
-    for numbers in PARCELS {
-        deliver(rt, member, numbers, name, by)?;
-    }
-    Ok(())
-}
-
-/// Settles, and takes parcels without anything new.
-fn deliver_settled(
-    rt: &HostRuntime,
-    member: &mut Member<Ricart>,
-    name: &str,
-    by: Taking,
-) -> Result<()> {
-    member.settle(SETTLED)?;
-    for numbers in KNOWN {
-        deliver_known(rt, member, numbers, name, by)?;
-    }
-    Ok(())
-}
-
-fn each_delivery(
-    rt: &HostRuntime,
     mut member: Member<Ricart>,
-    name: &str,
-    by: Taking,
+    deliveries: &[(&str, MemberCall)],
 ) -> Result<()> {
-    deliver_each(rt, &mut member, name, by)?;
-    deliver_settled(rt, &mut member, name, by)
+    make_each(rt, &mut member, deliveries)?;
+    member.settle(SETTLED)?;
+    make_each(rt, &mut member, &KNOWN)
 }
 
 pub(crate) fn each(rt: &HostRuntime) -> Result<()> {
-    each_leaving(rt, started(rt.alloc())?, "Member::leave", Leaving::Leave)?;
-    each_leaving(rt, started(rt.alloc())?, "perform", Leaving::Perform)?;
-    each_delivery(rt, started(rt.alloc())?, "Member::deliver", Taking::Deliver)?;
-    each_delivery(rt, started(rt.alloc())?, "Member::receive", Taking::Receive)
+    have_section(rt, started(rt.alloc())?, "Member::leave", Leave)?;
+    have_section(rt, started(rt.alloc())?, "perform", Perform)?;
+    deliver_each(rt, started(rt.alloc())?, &DELIVERIES)?;
+    deliver_each(rt, started(rt.alloc())?, &RECEIPTS)
 }

@@ -14,9 +14,9 @@ pub(crate) fn back(rt: &HostRuntime) {
 }
 
 /// Reports that memory was refused, and checks whether the promises of the call hold.
-pub(crate) fn refused(rt: &HostRuntime, name: &str, stands: bool) -> Result<()> {
+pub(crate) fn refused(rt: &HostRuntime, name: &str, holds: bool) -> Result<()> {
     let _ = println!(rt; "refused {name}");
-    expect(name, stands)
+    expect(name, holds)
 }
 
 /// Checks a promise of the call of this name.

@@ -1,8 +1,9 @@
-//! Stations are created, watched, leave, take parcels in, take turns and are gathered.
+//! Stations leave, take parcels in, take turns, are watched and gathered.
 
 ghost use Rattle.std.specs.Prelude.{◌≡◌, length};
 ghost use Rattle.mx_stations.specs.Gathered.{OfOneTable};
 
+use crate::harness::{Outcome, Subject, done, make};
 use crate::report::{back, call, expect, refused};
 use anyhow::{Result, bail};
 use mx_letters::{Fate, Fates};
@@ -11,28 +12,38 @@ use mx_nodelaws::Phase;
 use mx_ricart::{Count, Ricart};
 use mx_stamps::NodeId;
 use mx_stations::{
-    Field, GatherFault, Gathered, PutOut, Station, TakeFault, Taken, TurnReport, Ungathered, Watch,
-    gather,
+    Field, GatherFault, Gathered, PutOut, Station, TakeFault, Taken, Ungathered, Watch, gather,
 };
 use std::alloc::{AllocError, Global};
 
-fn stations_of(alloc: Global, shape: &Count) -> Result<Vec<Station<Ricart>>, AllocError> {
-    Field::<Ricart>::stations(alloc, shape, 0, 10, 1)
+/// A call of a station.
+#[derive(Drop)]
+pub(crate) enum StationCall {
+    /// It leaves the section of this number, in which it wrote once.
+    Leave(u64),
+    /// It takes in the record that this node has sent, followed by a request.
+    TakeIn(NodeId),
+    /// It takes in the record, and after a refusal the request too.
+    Turn,
 }
 
-fn opened(rt: &HostRuntime, nodes: u8) -> Result<Vec<Station<Ricart>>> {
-    let Some(shape) = Count::of(nodes) else {
-        bail!("no such cluster");
-    };
-    call(rt, "Field::stations");
-    let answer = stations_of(rt.alloc(), &shape);
-    back(rt);
-    match answer {
-        Ok(stations) => Ok(stations),
-        Err(AllocError) => {
-            refused(rt, "Field::stations", true)?;
-            Ok(stations_of(rt.alloc(), &shape)?)
-        }
+use StationCall::{Leave, TakeIn, Turn};
+
+/// The state of a station: its phase, its receipts and records, and the number of waiting parcels.
+#[derive(Clone, Copy, Debug, PartialEq, Eq)]
+pub(crate) struct StationShown {
+    phase: Phase,
+    receipts: usize,
+    records: usize,
+    waits: usize,
+}
+
+/// Leaves, and returns whether the receipt is that of section `number`, with one write.
+fn left(station: &mut Station<Ricart>, number: u64) -> Outcome {
+    match station.leave() {
+        Ok(receipt) => done(receipt.number == number && receipt.writes.len() == 1),
+        Err(CloseFault::Memory) => Outcome::Refused,
+        Err(CloseFault::NotInside) => Outcome::Wrong,
     }
 }
 
@@ -42,6 +53,88 @@ fn take_from(station: &mut Station<Ricart>, from: NodeId) -> Result<Taken, TakeF
         return Ok(Taken::Empty);
     }
     station.take_in(from)
+}
+
+/// Returns whether a parcel was taken in.
+fn taken(station: &mut Station<Ricart>, from: NodeId) -> Outcome {
+    match take_from(station, from) {
+        Ok(taken) => done(taken == Taken::Got),
+        Err(TakeFault::Memory) => Outcome::Refused,
+    }
+}
+
+/// A network that loses nothing, and counts how often a fate is drawn.
+#[derive(Drop)]
+struct Asked(u32);
+
+impl Fates for Asked {
+    fn fate(&mut self) -> Fate {
+        self.0 = self.0.saturating_add(1);
+        Fate::Pass
+    }
+}
+
+/// Takes a turn, which draws one fate: the record in hand needs no second one.
+fn turned(station: &mut Station<Ricart>, parcels: u32) -> Outcome {
+    let mut fates = Asked(0);
+    let report = station.turn(&mut fates);
+    if fates.0 != 1 {
+        return Outcome::Wrong;
+    }
+    match report {
+        Ok(report) => done(report.taken == parcels && !report.ticked),
+        Err(TakeFault::Memory) => Outcome::Refused,
+    }
+}
+
+/// Returns whether the next call takes the request, and the one after takes nothing.
+fn request_is_last(station: &mut Station<Ricart>, from: NodeId) -> bool {
+    take_from(station, from) == Ok(Taken::Got)
+        && (station.journal().len(), station.waits()) == (1, 1)
+        && take_from(station, from) == Ok(Taken::Empty)
+}
+
+impl Subject for Station<Ricart> {
+    type Call = StationCall;
+
+    type Shown = StationShown;
+
+    fn shown(&self) -> StationShown {
+        StationShown {
+            phase: self.phase(),
+            receipts: self.receipts().len(),
+            records: self.journal().len(),
+            waits: self.waits(),
+        }
+    }
+
+    fn make(&mut self, call: &StationCall, is_again: bool) -> Outcome {
+        match call {
+            Leave(number) => left(self, *number),
+            TakeIn(from) => taken(self, *from),
+            Turn => turned(self, if is_again { 2 } else { 1 }),
+        }
+    }
+
+    /// A record in hand is delivered, and no other parcel, so that the next call takes the request.
+    fn is_right(&mut self, call: &StationCall, before: &StationShown) -> bool {
+        let now = self.shown();
+        let is_one_more = now.records == before.records.saturating_add(1);
+        match call {
+            Leave(_) => is_one_more && now.receipts == before.receipts.saturating_add(1),
+            TakeIn(from) => {
+                is_one_more && now.waits == before.waits && request_is_last(self, *from)
+            }
+            Turn => is_one_more,
+        }
+    }
+}
+
+fn opened(alloc: Global, nodes: u8) -> Result<Vec<Station<Ricart>>> {
+    let Some(shape) = Count::of(nodes) else {
+        bail!("no such cluster");
+    };
+    Ok(Field::<Ricart>::stations(alloc, &shape, 0, 10, 1)?)
 }
 
 /// Sends the first waiting parcel of the station.
@@ -62,70 +155,11 @@ fn ask(station: &mut Station<Ricart>) -> Result<()> {
     expect("Station::ask", station.ask().is_ok())
 }
 
-/// Enters, and writes a value.
-fn enter(station: &mut Station<Ricart>, value: u64) -> Result<()> {
-    let has_entered = station.enter().is_ok();
-    expect(
-        "Station::enter",
-        has_entered && station.write(0, value).is_ok(),
-    )
-}
-
-/// The state of a station: its phase, its receipts and records, and the number of waiting parcels.
-#[derive(Clone, Copy)]
-struct StationShown {
-    phase: Phase,
-    receipts: usize,
-    records: usize,
-    waits: usize,
-}
-
-fn station_shown(station: &Station<Ricart>) -> StationShown {
-    StationShown {
-        phase: station.phase(),
-        receipts: station.receipts().len(),
-        records: station.journal().len(),
-        waits: station.waits(),
-    }
-}
-
-/// Returns whether a station is inside a section, with this many receipts and records.
-fn is_inside(station: &Station<Ricart>, number: u64, receipts: usize) -> bool {
-    let shown = station_shown(station);
-    shown.phase == Phase::Inside(number) && shown.receipts == receipts && shown.records == receipts
-}
-
-/// Leaves, and returns whether the receipt is that of section `number`, with one write.
-fn left(station: &mut Station<Ricart>, number: u64) -> Result<bool, CloseFault> {
-    let receipt = station.leave()?;
-    Ok(receipt.number == number && receipt.writes.len() == 1)
-}
-
-/// Leaves section `number`, the station's own next one.
-fn leave(rt: &HostRuntime, station: &mut Station<Ricart>, number: u64) -> Result<()> {
-    let receipts = station_shown(station).receipts;
-    call(rt, "Station::leave");
-    let mut answer = left(station, number);
-    back(rt);
-    if answer == Err(CloseFault::Memory) {
-        refused(rt, "Station::leave", is_inside(station, number, receipts))?;
-        answer = left(station, number);
-    }
-    let has_one_more = station_shown(station).receipts == receipts.saturating_add(1);
-    expect("Station::leave", answer == Ok(true) && has_one_more)
-}
-
-/// Runs a section of node 0, to which node 1 replies.
-fn have_first(
-    rt: &HostRuntime,
-    zero: &mut Station<Ricart>,
-    one: &mut Station<Ricart>,
-) -> Result<()> {
-    ask(zero)?;
-    hand_on(zero, one)?;
-    hand_on(one, zero)?;
-    enter(zero, 5)?;
-    leave(rt, zero, 1)
+/// Enters section `number`, writes and leaves.
+fn have_section(rt: &HostRuntime, station: &mut Station<Ricart>, number: u64) -> Result<()> {
+    let has_entered = station.enter() == Ok(number);
+    expect("Station::enter", has_entered && station.write(0, 5).is_ok())?;
+    make(rt, station, "Station::leave", &Leave(number))
 }
 
 /// Asks a node for the records that the station lacks.
@@ -137,105 +171,41 @@ fn want(station: &mut Station<Ricart>, from: NodeId) -> Result<()> {
     Ok(())
 }
 
-/// Runs a section of node 0, whose record it sends to node 1, followed by a request.
-fn send_record(
+/// Runs a section of node 0, to which node 1 replies.
+fn have_first(
     rt: &HostRuntime,
     zero: &mut Station<Ricart>,
     one: &mut Station<Ricart>,
+) -> Result<()> {
+    ask(zero)?;
+    hand_on(zero, one)?;
+    hand_on(one, zero)?;
+    have_section(rt, zero, 1)
+}
+
+/// Sends the record of node 0, followed by a request, to node 1, which takes them by a call.
+fn send_and_take(
+    rt: &HostRuntime,
+    zero: &mut Station<Ricart>,
+    one: &mut Station<Ricart>,
+    name: &str,
+    taking: &StationCall,
 ) -> Result<()> {
     have_first(rt, zero, one)?;
     want(one, zero.node())?;
     hand_on(one, zero)?;
     send(zero)?;
     ask(zero)?;
-    send(zero)
+    send(zero)?;
+    make(rt, one, name, taking)
 }
 
-/// Returns whether a station has these numbers of records and of waiting parcels.
-fn has(station: &Station<Ricart>, records: usize, waits: usize) -> bool {
-    let shown = station_shown(station);
-    shown.records == records && shown.waits == waits
-}
-
-/// Returns whether the next call takes the request, and the one after takes nothing.
-fn request_is_last(station: &mut Station<Ricart>, from: NodeId) -> bool {
-    take_from(station, from) == Ok(Taken::Got)
-        && has(station, 1, 1)
-        && take_from(station, from) == Ok(Taken::Empty)
-}
-
-/// Takes in the record that was sent. If memory was refused it is in hand, and the next call
-/// delivers it and takes no other, so that the one after takes the request.
-fn take_record(rt: &HostRuntime, station: &mut Station<Ricart>, from: NodeId) -> Result<()> {
-    call(rt, "Station::take_in");
-    let mut answer = take_from(station, from);
-    back(rt);
-    if answer == Err(TakeFault::Memory) {
-        refused(rt, "Station::take_in", has(station, 0, 0))?;
-        answer = take_from(station, from);
+/// Runs two stations; the second takes in what the first has sent.
+fn each_taking(rt: &HostRuntime, name: &str, taking: &StationCall) -> Result<()> {
+    match opened(rt.alloc(), 2)?.as_mut_slice() {
+        [zero, one] => send_and_take(rt, zero, one, name, taking),
+        _ => bail!("not two stations"),
     }
-    expect(
-        "Station::take_in",
-        answer == Ok(Taken::Got) && has(station, 1, 0),
-    )?;
-    expect("Station::take_in", request_is_last(station, from))
-}
-
-/// A network that loses nothing, and counts how often a fate is drawn.
-#[derive(Drop)]
-struct Asked(u32);
-
-impl Fates for Asked {
-    fn fate(&mut self) -> Fate {
-        self.0 = self.0.saturating_add(1);
-        Fate::Pass
-    }
-}
-
-fn turn(station: &mut Station<Ricart>, fates: &mut Asked) -> Result<TurnReport, TakeFault> {
-    station.turn(fates)
-}
-
-/// Returns whether a turn took the record and the request.
-fn has_taken_both(answer: &Result<TurnReport, TakeFault>) -> bool {
-    match answer {
-        Ok(report) => report.taken == 2,
-        Err(_) => false,
-    }
-}
-
-/// Returns whether a turn found something to do.
-fn has_not_ticked(answer: &Result<TurnReport, TakeFault>) -> bool {
-    match answer {
-        Ok(report) => !report.ticked,
-        Err(_) => false,
-    }
-}
-
-/// Takes a turn, and after a refusal of memory another one, which delivers the record first. The
-/// record is in hand then, and no second fate is drawn for it.
-fn take_turn(rt: &HostRuntime, station: &mut Station<Ricart>) -> Result<()> {
-    let mut fates = Asked(0);
-    call(rt, "Station::turn");
-    let mut answer = turn(station, &mut fates);
-    back(rt);
-    expect("Station::turn", fates.0 == 1)?;
-    if answer == Err(TakeFault::Memory) {
-        refused(rt, "Station::turn", station_shown(station).records == 0)?;
-        answer = turn(station, &mut fates);
-        expect("Station::turn", has_taken_both(&answer) && fates.0 == 2)?;
-    }
-    expect(
-        "Station::turn",
-        has_not_ticked(&answer) && station_shown(station).records == 1,
-    )
-}
-
-/// Runs a section of a single station.
-fn have_section(rt: &HostRuntime, station: &mut Station<Ricart>, number: u64) -> Result<()> {
-    ask(station)?;
-    enter(station, number)?;
-    leave(rt, station, number)
 }
 
 /// Gathers stations, again if memory was refused: they have come back with this many receipts.
@@ -252,9 +222,9 @@ fn gather_again(
     match answer {
         Ok(all) => Ok(all),
         Err(back) => {
-            let stands = back.fault == GatherFault::Memory
+            let is_as_before = back.fault == GatherFault::Memory
                 && has_receipts(&back.stations, receipts);
-            refused(rt, "gather", stands)?;
+            refused(rt, "gather", is_as_before)?;
             gathered(rt.alloc(), back.stations)
         }
     }
@@ -263,7 +233,7 @@ fn gather_again(
 /// Returns whether the first of these stations has this many receipts.
 fn has_receipts(stations: &[Station<Ricart>], receipts: usize) -> bool {
     match stations.first() {
-        Some(station) => station_shown(station).receipts == receipts,
+        Some(station) => station.receipts().len() == receipts,
         None => false,
     }
 }
@@ -291,6 +261,7 @@ fn watch(rt: &HostRuntime, station: &Station<Ricart>) -> Result<Watch<Ricart>> {
 /// Runs three sections of a station.
 fn have_three(rt: &HostRuntime, station: &mut Station<Ricart>) -> Result<()> {
     for number in 1..=3 {
+        ask(station)?;
         have_section(rt, station, number)?;
     }
     Ok(())
@@ -330,44 +301,15 @@ fn gathered_alone(rt: &HostRuntime, mut stations: Vec<Station<Ricart>>) -> Resul
 }
 
 fn gather_one(rt: &HostRuntime) -> Result<()> {
-    let all = gathered_alone(rt, opened(rt, 1)?)?;
+    let all = gathered_alone(rt, opened(rt.alloc(), 1)?)?;
     expect(
         "gather",
         all.receipts.len() == 3 && all.journal.gapless_to() == 3,
     )
 }
 
-/// How a sent parcel comes in.
-#[derive(Clone, Copy)]
-enum Way {
-    TakeIn,
-    Turn,
-}
-
-/// Takes in, at node 1, the parcels that node 0 has sent.
-fn send_and_take(
-    rt: &HostRuntime,
-    way: Way,
-    zero: &mut Station<Ricart>,
-    one: &mut Station<Ricart>,
-) -> Result<()> {
-    send_record(rt, zero, one)?;
-    match way {
-        Way::TakeIn => take_record(rt, one, zero.node()),
-        Way::Turn => take_turn(rt, one),
-    }
-}
-
-/// Runs two stations; the second takes in the parcels that the first has sent.
-fn each_way(rt: &HostRuntime, way: Way) -> Result<()> {
-    match opened(rt, 2)?.as_mut_slice() {
-        [zero, one] => send_and_take(rt, way, zero, one),
-        _ => bail!("not two stations"),
-    }
-}
-
 pub(crate) fn each(rt: &HostRuntime) -> Result<()> {
-    each_way(rt, Way::TakeIn)?;
-    each_way(rt, Way::Turn)?;
+    each_taking(rt, "Station::take_in", &TakeIn(NodeId::default()))?;
+    each_taking(rt, "Station::turn", &Turn)?;
     gather_one(rt)
 }

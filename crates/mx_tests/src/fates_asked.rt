@@ -8,9 +8,15 @@ use std::test::Fail;
 
 /// A network with one fate for all parcels, which counts how often a fate is drawn.
 #[derive(Drop)]
-struct Asked {
+pub(crate) struct Asked {
     fate: Fate,
-    times: u32,
+    pub(crate) times: u32,
+}
+
+impl Asked {
+    pub(crate) fn new(fate: Fate) -> Asked {
+        Asked { fate, times: 0 }
+    }
 }
 
 impl Fates for Asked {
@@ -44,7 +50,7 @@ fn times_after_a_turn(station: &mut Station<Ricart>, fates: &mut Asked) -> Optio
 
 /// Returns how many fates a station has drawn after each of three turns.
 fn times_in_three_turns(station: &mut Station<Ricart>, fate: Fate) -> Option<(u32, u32, u32)> {
-    let mut fates = Asked { fate, times: 0 };
+    let mut fates = Asked::new(fate);
     let first = times_after_a_turn(station, &mut fates)?;
     let second = times_after_a_turn(station, &mut fates)?;
     let third = times_after_a_turn(station, &mut fates)?;

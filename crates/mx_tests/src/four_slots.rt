@@ -1,111 +1,17 @@
-//! Two stations whose links have four slots each: the result of each call, and of gathering.
+//! Two stations whose links have four slots each: their calls, and what gathering them returns.
 
-ghost use Rattle.std.specs.Prelude.{◌≡◌, ◌<◌, IfOk, IfSome};
+ghost use Rattle.std.specs.Prelude.{◌≡◌, IfOk, IfSome};
 ghost use Rattle.mx_stations.specs.Gathered.{KeepsTable, OfOneTable};
 
 use crate::given::node;
+use crate::station_calls::{Call, Calls, GOT, SENT, assert_calls, leaves};
 use crate::stations::{last, last_two, two};
-use mx_journal::Receipt;
-use mx_member::CloseFault;
+use Call::{Ask, Enter, PutsOut, TakesIn, Tick};
 use mx_nodelaws::Phase;
 use mx_ricart::Ricart;
-use mx_stamps::NodeId;
 use mx_stations::{GatherFault, Gathered, PutOut, Station, Taken, Ungathered, gather};
 use std::alloc::{AllocError, Global};
-use std::process::Abort;
 use std::test::Fail;
-
-/// A call of a station, with its result.
-#[derive(Drop)]
-enum Call {
-    Ask,
-    PutOut(PutOut),
-    /// It ticks first, so that the outstanding letters wait again.
-    PutOutAgain(PutOut),
-    /// It takes from the other node.
-    TakeIn(Taken),
-    Enter(u64),
-}
-
-/// Returns whether the call has that result.
-fn answers(station: &mut Station<Ricart>, call: &Call) -> bool
-    ensures { KeepsTable station.old station.new }
-{
-    match call {
-        Call::Ask => station.ask().is_ok(),
-        Call::PutOut(answer) => station.put_out() == *answer,
-        Call::PutOutAgain(answer) => {
-            station.tick();
-            station.put_out() == *answer
-        }
-        Call::TakeIn(answer) => takes_from_other(station, *answer),
-        Call::Enter(number) => station.enter() == Ok(*number),
-    }
-}
-
-/// Returns the other of two nodes.
-pub(crate) fn other_of(station: &Station<Ricart>) -> Option<NodeId>
-    ensures { IfSome result (λ i. i < station.now.nodes) }
-{
-    let other = if station.node().get() == 0 { 1 } else { 0 };
-    if other < station.nodes() {
-        Some(node(other))
-    } else {
-        None
-    }
-}
-
-/// Returns whether taking a parcel in from the other of two nodes has that result.
-pub(crate) fn takes_from_other(station: &mut Station<Ricart>, answer: Taken) -> bool
-    ensures { KeepsTable station.old station.new }
-{
-    match other_of(station) {
-        Some(from) => station.take_in(from) == Ok(answer),
-        None => false,
-    }
-}
-
-/// Returns whether a section of this number was left.
-fn bears(left: &Result<Receipt, CloseFault>, number: u64) -> bool {
-    match left {
-        Ok(receipt) => receipt.number == number,
-        Err(_) => false,
-    }
-}
-
-/// Returns whether the station leaves a section of this number.
-fn leaves(station: &mut Station<Ricart>, number: u64) -> bool
-    ensures { KeepsTable station.old station.new }
-{
-    let left = station.leave();
-    bears(&left, number)
-}
-
-/// Returns whether the call has that result, at the station of this node.
-fn one_answers(zero: &mut Station<Ricart>, one: &mut Station<Ricart>, node: u8, call: &Call) -> bool
-    ensures { KeepsTable zero.old zero.new × KeepsTable one.old one.new }
-{
-    if node == 0 {
-        answers(zero, call)
-    } else {
-        answers(one, call)
-    }
-}
-
-/// Asserts that all calls have their results, one after another.
-fn assert_calls(
-    rt: &impl Abort,
-    zero: &mut Station<Ricart>,
-    one: &mut Station<Ricart>,
-    calls: &[(u8, Call)],
-)
-    ensures { KeepsTable zero.old zero.new × KeepsTable one.old one.new }
-{
-    for (i, (node, call)) in calls.iter().enumerate() {
-        let is_so = one_answers(zero, one, *node, call);
-        assert!(rt; is_so, "call {i}");
-    }
-}
 
 /// Returns whether one section of node 0 was gathered, and nothing else.
 fn is_first(gathered: Result<Gathered, Ungathered<Ricart>>) -> bool {
@@ -236,33 +142,37 @@ fn are_gathered_later(
     Ok(is_left && are_gathered(alloc, both)?)
 }
 
-/// Calls of both, each with its node, up to the section of node 0.
-const CALLS: [(u8, Call); 19] = [
-    (0, Call::Ask),
-    (0, Call::PutOut(PutOut::Sent)),
-    (0, Call::PutOut(PutOut::Nothing)),
-    (0, Call::PutOutAgain(PutOut::Sent)),
-    (0, Call::PutOutAgain(PutOut::Sent)),
-    (0, Call::PutOutAgain(PutOut::Sent)),
-    (0, Call::PutOutAgain(PutOut::Full)),
-    (1, Call::TakeIn(Taken::Got)),
-    (1, Call::TakeIn(Taken::Got)),
-    (1, Call::TakeIn(Taken::Got)),
-    (1, Call::TakeIn(Taken::Got)),
-    (1, Call::TakeIn(Taken::Empty)),
-    (1, Call::PutOut(PutOut::Sent)),
-    (1, Call::PutOut(PutOut::Sent)),
-    (1, Call::PutOut(PutOut::Sent)),
-    (1, Call::PutOut(PutOut::Sent)),
-    (1, Call::PutOut(PutOut::Nothing)),
-    (0, Call::TakeIn(Taken::Got)),
-    (0, Call::Enter(1)),
+/// Calls of both up to the section of node 0. Each tick lets the request wait again.
+const CALLS: Calls = &[
+    (0, Ask),
+    (0, SENT),
+    (0, PutsOut(PutOut::Nothing)),
+    (0, Tick),
+    (0, SENT),
+    (0, Tick),
+    (0, SENT),
+    (0, Tick),
+    (0, SENT),
+    (0, Tick),
+    (0, PutsOut(PutOut::Full)),
+    (1, GOT),
+    (1, GOT),
+    (1, GOT),
+    (1, GOT),
+    (1, TakesIn(Taken::Empty)),
+    (1, SENT),
+    (1, SENT),
+    (1, SENT),
+    (1, SENT),
+    (1, PutsOut(PutOut::Nothing)),
+    (0, GOT),
+    (0, Enter(1)),
 ];
 
 #[test]
 fn stations_four_slots(rt: HostRuntime) -> Result<(), Fail> {
     let mut both = two(rt.alloc())?;
-    assert_calls(&rt, &mut both.0, &mut both.1, &CALLS);
+    assert_calls(&rt, &mut both.0, &mut both.1, CALLS);
     match all_come_back(rt.alloc(), both)? {
         Some(back) => assert!(rt; are_gathered_later(rt.alloc(), back)?),
         None => Err("not refused as it should be")?,

@@ -16,8 +16,6 @@ mod given;
 #[cfg(test)]
 mod journals;
 #[cfg(test)]
-mod lost_letters;
-#[cfg(test)]
 mod members;
 #[cfg(test)]
 mod registers;
@@ -35,6 +33,8 @@ mod sizes;
 mod stamps;
 #[cfg(test)]
 mod station_calls;
+#[cfg(test)]
+mod station_rows;
 #[cfg(test)]
 mod stations;
 #[cfg(test)]

@@ -37,22 +37,42 @@ pub(crate) fn event_of(step: &Step) -> Event {
     }
 }
 
+/// Returns whether a receipt has these reads.
+fn has_read(receipt: &Receipt, reads: Reads) -> bool {
+    for (read, (register, value, after)) in receipt.reads.iter().zip(reads) {
+        if read.register != *register || read.value != *value || read.after != *after {
+            return false;
+        }
+    }
+    receipt.reads.len() == reads.len()
+}
+
+/// Returns whether a receipt has these writes.
+fn has_written(receipt: &Receipt, writes: Writes) -> bool {
+    for (write, (register, value)) in receipt.writes.iter().zip(writes) {
+        if write.register != *register || write.value != *value {
+            return false;
+        }
+    }
+    receipt.writes.len() == writes.len()
+}
+
 /// Returns whether this is the receipt of a section of a node.
-fn tells(receipt: &Receipt, of: (&u8, &u64), reads: Reads, writes: Writes) -> bool {
+fn is_receipt(receipt: &Receipt, of: (&u8, &u64), reads: Reads, writes: Writes) -> bool {
     receipt.node == name(of.0)
         && receipt.number == *of.1
-        && receipt.reads.as_slice() == reads
-        && receipt.writes.as_slice() == writes
+        && has_read(receipt, reads)
+        && has_written(receipt, writes)
 }
 
 /// Returns whether an outcome has the stamp or the receipt of a step.
-fn is_told(step: &Step, outcome: &Outcome) -> bool {
+fn has_outcome(step: &Step, outcome: &Outcome) -> bool {
     match (step, outcome) {
         (Ask(i, number), Outcome::Asked(stamp)) => {
             stamp.number == *number && stamp.node == name(i)
         }
         (Leave(i, number, reads, writes), Outcome::Left(receipt)) => {
-            tells(receipt, (i, number), *reads, *writes)
+            is_receipt(receipt, (i, number), *reads, *writes)
         }
         (Ask(..) | Leave(..), _) => false,
         (AskInVain(_) | LeaveInVain(_), _) => matches!(outcome, Outcome::Refused(_)),
@@ -85,7 +105,7 @@ fn goes_so<C: Exclusion>(
     for step in steps {
         let outcome = cluster.step(event_of(step))?;
         left = left_after(step, left);
-        if !is_told(step, &outcome) || !merge(alloc, cluster, left)? {
+        if !has_outcome(step, &outcome) || !merge(alloc, cluster, left)? {
             return Ok(false);
         }
     }

@@ -1,11 +1,12 @@
-//! Five threads that count to one hundred by each algorithm. After each tenth of their sections
-//! they settle all that their journals have without gaps: as workers, and by direct calls.
+//! Nodes in threads. Five count to one hundred by each algorithm, and after each tenth of their
+//! sections settle all that their journals have without gaps: as workers, and by direct calls. Of
+//! three, all letters are lost.
 
 ghost use Rattle.std.specs.Prelude.{IfOk};
 ghost use Rattle.mx_stations.specs.Gathered.{KeepsTable, OfOneTable};
 
-use crate::given::{lists, node};
-use crate::workers::Assembly;
+use crate::given::node;
+use crate::workers::{Assembly, Open};
 use mx_explorer::Weather;
 use mx_letters::Fates;
 use mx_maekawa::Maekawa;
@@ -16,7 +17,8 @@ use mx_raymond::Raymond;
 use mx_registers::view;
 use mx_ricart::{Count, Ricart};
 use mx_stations::{
-    Field, Gate, Gathered, Script, Station, TakeFault, TurnReport, gather, work_settling,
+    Field, Gate, Gathered, Script, Station, TakeFault, TurnReport, Worked, gather, work,
+    work_settling,
 };
 use mx_trees::Tree;
 use std::alloc::{AllocError, Global};
@@ -154,38 +156,47 @@ fn count_as_worker<C: Exclusion>(station: Station<C>, gate: &Assembly) -> Statio
     work_settling(station, script, 10, gate, weather, 100_000_000).0
 }
 
-/// Counts at a station in one of the two ways.
-fn count_on<C: Exclusion>(station: Station<C>, gate: &Assembly, by_calls: bool) -> Station<C>
+/// Works for a section that no node permits. Notes at the gate if it has spent all its turns.
+fn work_in_vain<C: Exclusion>(station: Station<C>, gate: &Assembly) -> Station<C>
     ensures { KeepsTable station result }
 {
-    if by_calls {
-        count_by_calls(station, gate)
-    } else {
-        count_as_worker(station, gate)
+    let script = Script {
+        register: 0,
+        sections: 1,
+    };
+    let open = Open { may_stop: true };
+    let (station, ended) = work(station, script, &open, Weather::of(1, 256, 0), 1000);
+    if ended == Worked::NotYet(1000) {
+        gate.note_gone();
+    }
+    station
+}
+
+/// What a thread does at its station.
+#[derive(Clone, Copy)]
+enum Manner {
+    Calls,
+    Worker,
+    LostLetters,
+}
+
+/// Does that at a station.
+fn do_at<C: Exclusion>(station: Station<C>, gate: &Assembly, manner: Manner) -> Station<C>
+    ensures { KeepsTable station result }
+{
+    match manner {
+        Manner::Calls => count_by_calls(station, gate),
+        Manner::Worker => count_as_worker(station, gate),
+        Manner::LostLetters => work_in_vain(station, gate),
     }
 }
 
-/// Gives each station to a new thread, and returns them all when the threads have ended.
-fn in_threads<C: Exclusion + Send, R: Threads + Sync>(
-    rt: &R,
-    stations: Vec<Station<C>>,
-    by_calls: bool,
-) -> Result<Vec<Station<C>>, AllocError>
-where
-    C::Msg: Send,
-    C::Shape: Send,
-    requires { OfOneTable stations.items }
+/// Creates the stations of a cluster with one register.
+fn created<C: Exclusion>(alloc: Global, shape: &C::Shape) -> Result<Vec<Station<C>>, AllocError>
     ensures { IfOk result (λ all. OfOneTable all.items) }
 {
-    let gate = Assembly::new(5, 100_000_000);
-    let back = thread::map_vec(
-        rt,
-        stations,
-        &|station: Station<C>| -> Station<C>
-            ensures { KeepsTable station result }
-        { count_on(station, &gate, by_calls) },
-    )?;
-    Ok(back)
+    let all = Field::<C>::stations(alloc, shape, 0, 1000, 1)?;
+    Ok(all)
 }
 
 /// Returns whether exactly one hundred sections were gathered, and all of them are settled.
@@ -198,70 +209,96 @@ fn is_settled(all: &Gathered) -> bool {
         && view(journal, 1).value(0) == Some(100)
 }
 
-/// Returns whether gathering the stations has the right result. Section 100 is the twentieth of its
-/// node, which knows all sections before it, since it read inside. So it has settled them all.
-fn is_counted<C: Exclusion>(alloc: Global, stations: Vec<Station<C>>) -> bool
+/// Returns whether no section was left.
+fn is_empty(all: &Gathered) -> bool {
+    all.receipts.is_empty()
+        && all.journal.is_empty()
+        && all.journal.top() == 0
+        && all.journal.base().upto() == 0
+}
+
+/// Returns whether this was gathered after such threads. Section 100 is the twentieth of its node,
+/// which knows all sections before it, since it read inside. So it has settled them all.
+fn is_right(all: &Gathered, manner: Manner) -> bool {
+    match manner {
+        Manner::LostLetters => is_empty(all),
+        Manner::Calls | Manner::Worker => is_settled(all),
+    }
+}
+
+/// Returns whether gathering the stations has the right result.
+fn are_gathered<C: Exclusion>(alloc: Global, stations: Vec<Station<C>>, manner: Manner) -> bool
     requires { OfOneTable stations.items }
 {
     match gather(alloc, stations) {
-        Ok(all) => is_settled(&all),
+        Ok(all) => is_right(&all, manner),
         Err(_) => false,
     }
 }
 
-/// Returns whether five nodes count to one hundred by Ricart and Agrawala's algorithm.
-fn is_counted_by_ricart<R: Threads + Sync>(
+/// Gives each station to a new thread, and gathers them when the threads have ended. Returns whether
+/// they have the right sections, and how many of them have spent all their turns.
+fn worked<C: Exclusion + Send, R: Threads + Sync>(
     rt: &R,
     alloc: Global,
-    by_calls: bool,
-) -> Result<bool, Fail> {
-    let shape = Count::of(5).ok_or("count")?;
-    let stations = Field::<Ricart>::stations(alloc, &shape, 0, 1000, 1)?;
-    Ok(is_counted(alloc, in_threads(rt, stations, by_calls)?))
+    stations: Vec<Station<C>>,
+    manner: Manner,
+) -> Result<(bool, u64), AllocError>
+where
+    C::Msg: Send,
+    C::Shape: Send,
+    requires { OfOneTable stations.items }
+{
+    let gate = Assembly::new(5, 100_000_000);
+    let back = thread::map_vec(
+        rt,
+        stations,
+        &|station: Station<C>| -> Station<C>
+            ensures { KeepsTable station result }
+        { do_at(station, &gate, manner) },
+    )?;
+    Ok((are_gathered(alloc, back, manner), gate.gone()))
 }
+
+/// The manners in which nodes count to one hundred.
+const COUNTING: [Manner; 2] = [Manner::Worker, Manner::Calls];
 
 #[test]
 fn settling_nodes_count_by_ricart(rt: HostRuntime) -> Result<(), Fail> {
-    for by_calls in [false, true] {
-        assert!(rt; is_counted_by_ricart(&rt, rt.alloc(), by_calls)?);
+    let shape = Count::of(5).ok_or("count")?;
+    for manner in COUNTING {
+        let stations = created::<Ricart>(rt.alloc(), &shape)?;
+        assert!(rt; worked(&rt, rt.alloc(), stations, manner)? == (true, 0));
     }
     Ok(())
 }
 
-/// Returns whether they do by Maekawa's algorithm, each with all nodes as arbiters.
-fn is_counted_by_maekawa<R: Threads + Sync>(
-    rt: &R,
-    alloc: Global,
-    by_calls: bool,
-) -> Result<bool, Fail> {
-    let shape = Quorums::grid(1, 5)?;
-    let stations = Field::<Maekawa>::stations(alloc, &shape, 0, 1000, 1)?;
-    Ok(is_counted(alloc, in_threads(rt, stations, by_calls)?))
-}
-
+/// Each node has all nodes as arbiters.
 #[test]
 fn settling_nodes_count_by_maekawa(rt: HostRuntime) -> Result<(), Fail> {
-    for by_calls in [false, true] {
-        assert!(rt; is_counted_by_maekawa(&rt, rt.alloc(), by_calls)?);
+    let shape = Quorums::grid(1, 5)?;
+    for manner in COUNTING {
+        let stations = created::<Maekawa>(rt.alloc(), &shape)?;
+        assert!(rt; worked(&rt, rt.alloc(), stations, manner)? == (true, 0));
     }
     Ok(())
 }
 
-/// Returns whether they do by Raymond's algorithm, in a line.
-fn is_counted_by_raymond<R: Threads + Sync>(
-    rt: &R,
-    alloc: Global,
-    by_calls: bool,
-) -> Result<bool, Fail> {
+/// The nodes are in a line.
+#[test]
+fn settling_nodes_count_by_raymond(rt: HostRuntime) -> Result<(), Fail> {
     let shape = Tree::of(5, &[(0, 1), (1, 2), (2, 3), (3, 4)], 0)?;
-    let stations = Field::<Raymond>::stations(alloc, &shape, 0, 1000, 1)?;
-    Ok(is_counted(alloc, in_threads(rt, stations, by_calls)?))
+    for manner in COUNTING {
+        let stations = created::<Raymond>(rt.alloc(), &shape)?;
+        assert!(rt; worked(&rt, rt.alloc(), stations, manner)? == (true, 0));
+    }
+    Ok(())
 }
 
 #[test]
-fn settling_nodes_count_by_raymond(rt: HostRuntime) -> Result<(), Fail> {
-    for by_calls in [false, true] {
-        assert!(rt; is_counted_by_raymond(&rt, rt.alloc(), by_calls)?);
-    }
+fn lost_letters_leave_no_section(rt: HostRuntime) -> Result<(), Fail> {
+    let shape = Count::of(3).ok_or("count")?;
+    let stations = created::<Ricart>(rt.alloc(), &shape)?;
+    assert!(rt; worked(&rt, rt.alloc(), stations, Manner::LostLetters)? == (true, 3));
     Ok(())
 }

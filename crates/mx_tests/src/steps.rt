@@ -1,12 +1,10 @@
 //! Events of small clusters, as values, each with the parts of its outcome that print omits.
 
-use mx_journal::{Read, Write};
+/// The reads of a receipt: the register, the value, and the number of writes before.
+pub(crate) type Reads = &'static [(u8, u64, u8)];
 
-/// The reads of a receipt.
-pub(crate) type Reads = &'static [Read];
-
-/// The writes of a receipt.
-pub(crate) type Writes = &'static [Write];
+/// The writes of a receipt: the register and the value.
+pub(crate) type Writes = &'static [(u8, u64)];
 
 /// An event, with the parts of its outcome that print omits.
 #[derive(Clone, Copy)]
@@ -55,43 +53,19 @@ pub(crate) const READ_WAITS: Run = Run {
         Deliver(1),
         Enter(0),
         Step::Write(0, 0, 10),
-        Leave(
-            0,
-            1,
-            &[],
-            &[Write {
-                register: 0,
-                value: 10,
-            }],
-        ),
+        Leave(0, 1, &[], &[(0, 10)]),
         Ask(1, 2),
         Deliver(2),
         Deliver(3),
         Enter(1),
         Step::Write(1, 0, 20),
-        Leave(
-            1,
-            2,
-            &[],
-            &[Write {
-                register: 0,
-                value: 20,
-            }],
-        ),
+        Leave(1, 2, &[], &[(0, 20)]),
         Ask(0, 3),
         Deliver(4),
         Deliver(5),
         Enter(0),
         Step::Write(0, 1, 5),
-        Leave(
-            0,
-            3,
-            &[],
-            &[Write {
-                register: 1,
-                value: 5,
-            }],
-        ),
+        Leave(0, 3, &[], &[(1, 5)]),
         Ask(0, 4),
         Deliver(6),
         Deliver(7),
@@ -103,26 +77,7 @@ pub(crate) const READ_WAITS: Run = Run {
         Step::Read(0, 0),
         Step::Write(0, 0, 21),
         Step::Read(0, 0),
-        Leave(
-            0,
-            4,
-            &[
-                Read {
-                    register: 0,
-                    value: 20,
-                    after: 0,
-                },
-                Read {
-                    register: 0,
-                    value: 21,
-                    after: 1,
-                },
-            ],
-            &[Write {
-                register: 0,
-                value: 21,
-            }],
-        ),
+        Leave(0, 4, &[(0, 20, 0), (0, 21, 1)], &[(0, 21)]),
     ],
 };
 
@@ -137,40 +92,9 @@ pub(crate) const ALONE: Run = Run {
 };
 
 /// Runs by Ricart and Agrawala's algorithm.
-pub(crate) const RICART: [Run; 8] = [
+pub(crate) const RICART: [Run; 6] = [
     READ_WAITS,
     ALONE,
-    Run {
-        name: "three_nodes_uncontended",
-        nodes: 3,
-        steps: &[
-            Ask(0, 1),
-            Deliver(0),
-            Deliver(1),
-            Deliver(2),
-            Deliver(3),
-            Enter(0),
-        ],
-        ..ALONE
-    },
-    Run {
-        name: "repeated_reply_ignored",
-        nodes: 2,
-        steps: &[
-            Ask(0, 1),
-            Deliver(0),
-            Deliver(1),
-            Enter(0),
-            Leave(0, 1, &[], &[]),
-            Ask(0, 2),
-            Deliver(1),
-            Enter(0),
-            Deliver(2),
-            Deliver(3),
-            Enter(0),
-        ],
-        ..ALONE
-    },
     Run {
         name: "last_stamp_drawn",
         origin: 18446744073709551614,
@@ -192,16 +116,7 @@ pub(crate) const RICART: [Run; 8] = [
             Step::Read(0, 0),
             Restart(0),
             Step::Read(0, 0),
-            Leave(
-                0,
-                1,
-                &[Read {
-                    register: 0,
-                    value: 0,
-                    after: 0,
-                }],
-                &[],
-            ),
+            Leave(0, 1, &[(0, 0, 0)], &[]),
         ],
         ..ALONE
     },
@@ -234,15 +149,7 @@ pub(crate) const RICART: [Run; 8] = [
             Deliver(1),
             Enter(0),
             Step::Write(0, 0, 5),
-            Leave(
-                0,
-                1,
-                &[],
-                &[Write {
-                    register: 0,
-                    value: 5,
-                }],
-            ),
+            Leave(0, 1, &[], &[(0, 5)]),
             Settle(0, 1),
             Ask(1, 2),
             Deliver(2),

@@ -18,7 +18,7 @@ pub(crate) struct Assembly {
     looks: u64,
     arrived: AtomicU64,
     finished: AtomicU64,
-    /// How many have checked too often.
+    /// How many have checked too often, or have spent all their turns.
     gone: AtomicU64,
     /// How many parcels were delivered before all had arrived.
     early: AtomicU64,
@@ -36,6 +36,14 @@ impl Assembly {
         }
     }
 
+    pub(crate) fn gone(&self) -> u64 {
+        self.gone.load(Ordering::SeqCst)
+    }
+
+    pub(crate) fn note_gone(&self) {
+        self.gone.fetch_add(1, Ordering::SeqCst);
+    }
+
     fn is_open(&self) -> bool {
         self.arrived.load(Ordering::SeqCst) == self.nodes
     }
@@ -45,7 +53,7 @@ impl Gate for Assembly {
     fn arrive(&self, _node: NodeId) -> bool {
         self.arrived.fetch_add(1, Ordering::SeqCst);
         for _look in 0..self.looks {
-            if self.gone.load(Ordering::SeqCst) > 0 {
+            if self.gone() > 0 {
                 return false;
             }
             if self.is_open() {
@@ -53,7 +61,7 @@ impl Gate for Assembly {
             }
             yield_now();
         }
-        self.gone.fetch_add(1, Ordering::SeqCst);
+        self.note_gone();
         false
     }
 

@@ -2,4 +2,3 @@ pub mod ExploredLemmas
 pub mod ParcelLemmas
 pub mod StepLemmas
 pub mod SeedsLemmas
-pub mod NumberLemmas

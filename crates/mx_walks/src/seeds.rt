@@ -1,8 +1,9 @@
 //! The seeds that a text names.
 
-ghost use Rattle.std.specs.Prelude.{◌≡◌, IfSome};
-ghost use Rattle.mx_lines.specs.Numbers.{number_of};
+ghost use Rattle.std.specs.Prelude.{IfSome};
 ghost use Rattle.mx_walks.specs.Seeds.{IsRange};
+
+use mx_lines::number_of;
 
 /// The most seeds that are explored one after another.
 const MAX_SEEDS: u64 = 1_000_000;
@@ -34,14 +35,4 @@ pub fn seeds_in(text: &str) -> Option<Seeds>
         first,
         count: last - first + 1,
     })
-}
-
-/// Parses a whole number of 64 bits.
-fn number_of(text: &str) -> Option<u64>
-    ensures { result ≡ number_of text.now }
-{
-    match text.parse::<u64>() {
-        Ok(number) => Some(number),
-        Err(_) => None,
-    }
 }

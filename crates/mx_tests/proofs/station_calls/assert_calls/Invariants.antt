@@ -1,5 +1,5 @@
 use Rattle.mx_stations.specs.Gathered.{KeepsTable}
-use Rattle.mx_tests.proofs.four_slots.assert_calls.Given as goal
+use Rattle.mx_tests.proofs.station_calls.assert_calls.Given as goal
 
 abbrev pub invariant-loop-i : goal.invariant-loop-i
 invariant-loop-i g l = record { zero : KeepsTable l.fn.zero l.zero; one : KeepsTable l.fn.one l.one }

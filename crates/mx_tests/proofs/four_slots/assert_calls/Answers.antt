@@ -1,8 +1,0 @@
-use Rattle.mx_stations.proofs.SameTable.{kept_on}
-use Rattle.mx_tests.proofs.four_slots.assert_calls.Goals as goal
-
-pub loop-i-preserved : goal.loop-i-preserved
-loop-i-preserved g c = record {
-  zero = kept_on c.args.zero.now c.loop-i.zero c.one_answers-is_so.new.zero c.loop-i.invariant.zero c.one_answers-is_so.ensures.0;
-  one = kept_on c.args.one.now c.loop-i.one c.one_answers-is_so.new.one c.loop-i.invariant.one c.one_answers-is_so.ensures.1;
-}
