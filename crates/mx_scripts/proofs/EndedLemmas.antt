@@ -16,8 +16,8 @@ use Rattle.mx_commands.specs.Ran.{Ran}
 use Rattle.mx_commands.specs.Runs.{whole}
 use Rattle.mx_scripts.specs.declared.halts.Halt.{Halt}
 use Rattle.mx_scripts.specs.declared.halts.Halt.TheVariants as halt
-use Rattle.mx_scripts.specs.Ended.{ClosesScript, EndsScript, IsFileOfNames, IsHalt, IsLineHalt, IsPrintHalt, ScriptsOf}
-use Rattle.mx_scripts.specs.Played.{IsEventFile}
+use Rattle.mx_scripts.specs.Ended.{ClosesScript, EndsScript, IsFileOfNames, IsHalt, IsLineHalt, IsPrintHalt, IsScriptOf, ScriptsOf}
+use Rattle.mx_scripts.specs.ScriptFiles.{IsScriptFile}
 use Rattle.mx_scripts.specs.Printed.{HasDone, Scripts}
 use Rattle.mx_scripts.specs.Requests.{Request, draw, walk, script}
 
@@ -25,10 +25,10 @@ use Rattle.mx_scripts.specs.Requests.{Request, draw, walk, script}
 
 module _ (told : Text → Option Telling) (names : Text × Text) where
   -- a file of the plan that was read
-  pub file_read : {T E : Type 0} (bytes : T → Text) (p : Fields) (r : Result T E) → IsPlanOf (plan_told told names) p → IfOk r (λ t. IsEventFile p (bytes t) p.shape)
-      → IfOk r (λ t. IsFileOfNames told names (bytes t))
-  file_read bytes p (Ok t) read h = (p, read, h)
-  file_read bytes p (Err e) read h = tt
+  pub file_read : {T E : Type 0} (bytes : T → Text) (p : Fields) (script : Text) (r : Result T E) → IsPlanOf (plan_told told names) p → IsScriptOf told names script
+      → IfOk r (λ t. IsScriptFile p script (bytes t) p.shape) → IfOk r (λ t. IsFileOfNames told names (bytes t))
+  file_read bytes p lines (Ok t) read of h = (p, lines, read, of, h)
+  file_read bytes p lines (Err e) read of h = tt
 
   -- the lines of a plan that was read give none
   pub line_halts : {T : Type 0} (p : Fields) (r : Result T Halt) → IsPlanOf (plan_told told names) p → IfErr r IsLineHalt → IfErr r (IsHalt told names)
@@ -39,7 +39,7 @@ module _ (told : Text → Option Telling) (names : Text × Text) where
   -- the file was printed
   pub file_done : {E : Type 0} (text : Text) (a b : Held) (r : Result ℕ E) → IsFileOfNames told names text → IfOk r (λ _. Appends a b text)
       → IfOk r (λ _. HasDone told (script names) a b)
-  file_done text a b (Ok status) file h = (file.0, file.1, (text, file.2, h))
+  file_done text a b (Ok status) file h = (file.0, file.2, (file.1, text, file.3, file.4, h))
   file_done text a b (Err e) file h = tt
 
   -- and so the script has ended

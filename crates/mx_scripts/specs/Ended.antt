@@ -1,5 +1,5 @@
 -- How a script ends, and how that is told.
-use Rattle.std.specs.Prelude.{◌≡◌, ◌⊎◌, ◌&&◌, ⊤, ℕ, Bool, false, Option, Result, Ok, Err, string_bytes}
+use Rattle.std.specs.Prelude.{◌≡◌, ◌⊎◌, ◌&&◌, ⊤, ℕ, Bool, false, Option, Some, Result, Ok, Err, IfSome, string_bytes}
 use Rattle.mx_plan.specs.Text.{Text}
 use Rattle.mx_plan.specs.Fields.{Fields}
 use Rattle.mx_io.specs.Told.{Telling}
@@ -7,11 +7,11 @@ use Rattle.mx_io.specs.Outputs.{Held}
 use Rattle.mx_cli.specs.declared.faults.CommandError.TheVariants as command_error
 use Rattle.mx_cli.specs.Closed.{Closes}
 use Rattle.mx_cli.specs.Naming.{IsUnread}
-use Rattle.mx_cli.specs.Reading.{IsPlanOf, plan_told}
+use Rattle.mx_cli.specs.Reading.{IsPlanOf, plan_told, text_told}
 use Rattle.mx_cli.specs.Reports.{ReportsFault}
 use Rattle.mx_scripts.specs.declared.halts.Halt.{Halt}
 use Rattle.mx_scripts.specs.declared.halts.Halt.TheVariants as halt
-use Rattle.mx_scripts.specs.Played.{IsEventFile}
+use Rattle.mx_scripts.specs.ScriptFiles.{IsScriptFile}
 use Rattle.mx_scripts.specs.Scripts.{script_line}
 
 -- why there is no file of the events of a script: plan or script can't be read, or memory ran out;
@@ -20,11 +20,16 @@ abbrev pub IsHalt : (Text → Option Telling) → Text × Text → Halt → Type
 IsHalt told names (halt.Command end) = (end ≡ command_error.Memory) ⊎ IsUnread told names end
 IsHalt told names (halt.AtLine line) = (p : Fields) × IsPlanOf (plan_told told names) p
 
--- the text is the file of a script's events over the names of the plan, which can happen in its
--- cluster
+-- the script was read, where the source tells of it
+abbrev pub IsScriptOf : (Text → Option Telling) → Text × Text → Text → Type 0
+IsScriptOf told names script =
+    IfSome (text_told told names) (λ telling. telling ≡ Some script)
+
+-- the text is the file of what the lines of the script do in the cluster of the plan
 abbrev pub IsFileOfNames : (Text → Option Telling) → Text × Text → Text → Type 0
 IsFileOfNames told names text =
-    (p : Fields) × IsPlanOf (plan_told told names) p × IsEventFile p text p.shape
+    (p : Fields) × (script : Text) × IsPlanOf (plan_told told names) p
+    × IsScriptOf told names script × IsScriptFile p script text p.shape
 
 -- why the lines of a script give no file: memory ran out, or a line is refused
 abbrev pub IsLineHalt : Halt → Type 0

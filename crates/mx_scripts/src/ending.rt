@@ -5,10 +5,10 @@ ghost use Rattle.std.specs.Io.KnownBytes.{Keeps};
 ghost use Rattle.mx_cli.specs.Closed.{IsRunStatus, PassesOn};
 ghost use Rattle.mx_cli.specs.Words.{names_of};
 ghost use Rattle.mx_scripts.specs.Ended.{ClosesScript, IsFileOfNames, IsHalt, IsLineHalt};
-ghost use Rattle.mx_scripts.specs.Played.{IsEventFile};
+ghost use Rattle.mx_scripts.specs.ScriptFiles.{IsScriptFile};
 
 use crate::halts::Halt;
-use crate::scripting::script_file;
+use crate::script::script_file;
 use crate::texts::text_in;
 use mx_cli::{CommandError, Names, close, close_with, fetch_named};
 use mx_io::{Output, Source};
@@ -34,7 +34,8 @@ pub fn file_of_names<S: Source>(
 /// The file of the events that the bytes of a script ask for. Where no line is refused, only memory
 /// can be at fault.
 fn file_of_bytes(alloc: Global, plan: &Plan, script: &[u8]) -> Result<String, Halt>
-    ensures ok { IfOk result (λ text. IsEventFile plan.now (string_bytes text) plan.now.shape) }
+    ensures ok { IfOk result (λ text.
+        IsScriptFile plan.now script.now (string_bytes text) plan.now.shape) }
     ensures err { IfErr result IsLineHalt }
 {
     match file_of_text(alloc, plan, script) {
@@ -45,9 +46,11 @@ fn file_of_bytes(alloc: Global, plan: &Plan, script: &[u8]) -> Result<String, Ha
 }
 
 fn file_of_text(alloc: Global, plan: &Plan, script: &[u8]) -> Result<String, Halt>
-    ensures { IfOk result (λ text. IsEventFile plan.now (string_bytes text) plan.now.shape) }
+    ensures { IfOk result (λ text.
+        IsScriptFile plan.now script.now (string_bytes text) plan.now.shape) }
 {
-    script_file(alloc, plan, text_in(alloc, script)?)
+    let text = text_in(alloc, script)?;
+    script_file(alloc, plan, text)
 }
 
 /// Flushes the output, reports why there is no file, and returns the status: that of the end, 1

@@ -42,6 +42,17 @@ impl<T: Drop> From<AllocFailed<T>> for LineStop {
     }
 }
 
+impl From<LineFault> for LineStop {
+    ghost use Rattle.std.specs.Prelude.{◌≡◌};
+    ghost use Rattle.mx_scripts.specs.declared.halts.LineStop.TheVariants.{Undone};
+
+    ghost from_gives = { λ fault stop. stop ≡ Undone fault };
+
+    fn from(fault: LineFault) -> LineStop {
+        LineStop::Undone(fault)
+    }
+}
+
 impl From<StepFault> for LineStop {
     ghost use Rattle.std.specs.Prelude.{◌≡◌};
     ghost use Rattle.mx_scripts.specs.Scripts.{stop_of_step};

@@ -1,7 +1,7 @@
 //! Which parcels are under way.
 
 ghost use Rattle.std.specs.Prelude.{◌≡◌, ◌≤◌, ℕ, false, IfNone, IfSome, IsTrue, None, OnOk, slice_get, slice_index_or};
-ghost use Rattle.mx_scripts.specs.Fates.{NoneArrives, NoneWaits, arrived, at_first, can_arrive, can_pass, delivered, grown, is_held, is_in, is_under_way, is_waiting, is_within, lost, noted, relinked};
+ghost use Rattle.mx_scripts.specs.Fates.{AreGone, IsFirstFrom, IsOldest, NoneArrives, NoneWaits, arrived, at_first, can_arrive, can_pass, delivered, grown, is_held, is_in, is_under_way, is_waiting, is_within, lost, noted, relinked};
 ghost use Rattle.mx_scripts.specs.Links.{is_cut, link_of};
 
 use crate::links::{LINKS, Links, link};
@@ -12,35 +12,26 @@ use mx_stamps::NodeId;
 use std::alloc::{AllocError, Global};
 use std::marker::Model;
 
-/// Which parcels were delivered or lost, where to look for the next one of each link, and which
-/// links are cut.
+/// Which parcels were delivered or lost, and which links are cut.
 #[derive(Drop)]
 pub struct Mail {
     /// Whether a parcel is under way no more.
     gone: Vec<bool>,
-    /// No parcel below this number is under way over a link that is not cut.
+    /// No parcel below this number is under way.
     first: u64,
-    /// No parcel of the link below this number is under way.
-    firsts: [u64; LINKS],
     /// The parcel of the link that was delivered last.
     last: [Option<u64>; LINKS],
     links: Links,
 }
 
 impl Model for Mail {
-    ghost use Rattle.mx_scripts.specs.Fates.{Fates};
+    ghost use Rattle.mx_scripts.specs.Fates.{AreGone, Fates};
 
     ghost Value = { Fates };
 
     ghost view = { λ m. record { gone = m.gone.items; last = m.last; links = m.links } };
-}
 
-/// Whether a parcel goes from one node to another.
-fn is_between<C: Exclusion>(cluster: &Cluster<C>, number: u64, from: NodeId, to: NodeId) -> bool {
-    match cluster.sent_parcel(number) {
-        Some(sent) => sent.from == from && sent.to == to,
-        None => false,
-    }
+    ghost invariant = { λ m. AreGone m.first m.gone.items };
 }
 
 /// Whether a parcel was sent, and is one of these.
@@ -65,12 +56,26 @@ fn is_within(scope: &Scope, from: NodeId, to: NodeId) -> bool
 
 /// Takes in that each parcel up to this number was sent.
 fn grow(gone: &mut Vec<bool>, sent: u64) -> Result<(), AllocError>
-    ensures { OnOk result (gone.new.items ≡ grown sent gone.old.items) }
+    ensures ok { OnOk result (gone.new.items ≡ grown sent gone.old.items) }
+    ensures kept { (first : ℕ) → AreGone first gone.old.items → AreGone first gone.new.items }
 {
     for number in gone.len() as u64..sent {
         gone.push(false)?;
     }
     Ok(())
+}
+
+/// The first parcel under way from this number on, or how many there are.
+fn first_left(gone: &[bool], first: u64) -> u64
+    requires { AreGone first gone.now }
+    ensures { AreGone result gone.now }
+{
+    for number in first..gone.len() as u64 {
+        if !gone[number as usize] {
+            return number;
+        }
+    }
+    gone.len() as u64
 }
 
 impl Mail {
@@ -81,7 +86,6 @@ impl Mail {
         Mail {
             gone: Vec::new(alloc),
             first: 0,
-            firsts: [0; LINKS],
             last: [None; LINKS],
             links: Links::uncut(),
         }
@@ -126,6 +130,7 @@ impl Mail {
         let place = number as usize;
         if place < self.gone.len() {
             self.gone[place] = true;
+            self.first = first_left(self.gone.as_slice(), self.first);
         }
     }
 
@@ -146,7 +151,6 @@ impl Mail {
         ensures { self.new ≡ relinked change.now self.old }
     {
         self.links.change(change);
-        self.first = 0;
     }
 
     /// Whether the link from one node to another is cut.
@@ -198,8 +202,8 @@ impl Mail {
         scope: &Scope,
         begin: u64,
     ) -> Option<u64>
-        ensures some { IfSome result (λ k.
-            IsTrue (can_arrive self.now cluster.now.sent scope.now k)) }
+        ensures some { IfSome result
+            (IsFirstFrom begin (can_arrive self.now cluster.now.sent scope.now)) }
         ensures none { IfNone result
             ((k : ℕ) → begin ≤ k → can_arrive self.now cluster.now.sent scope.now k ≡ false) }
     {
@@ -211,26 +215,55 @@ impl Mail {
         None
     }
 
-    /// Where to look first for the next of these parcels.
-    fn begin(&self, scope: &Scope) -> u64 {
-        match scope {
-            Scope::All => self.first,
-            Scope::Link(from, to) => self.firsts[link(*from, *to)],
-        }
-    }
-
-    /// The next look for one of these parcels begins here.
-    fn begin_at(&mut self, scope: &Scope, number: u64)
-        ensures { self.new ≡ self.old }
+    /// The oldest of these parcels that is under way over a link that is not cut. Looks at all that
+    /// were sent after the oldest one under way.
+    pub(crate) fn oldest_arriving<C: Exclusion>(
+        &self,
+        cluster: &Cluster<C>,
+        scope: &Scope,
+    ) -> Option<u64>
+        ensures some { IfSome result
+            (IsOldest (can_arrive self.now cluster.now.sent scope.now)) }
+        ensures none { IfNone result (NoneArrives self.now cluster.now.sent scope.now) }
     {
-        match scope {
-            Scope::All => self.first = number,
-            Scope::Link(from, to) => self.firsts[link(*from, *to)] = number,
-        }
+        self.arriving_from(cluster, scope, self.first)
     }
 
-    /// The oldest of these parcels that is under way over a link that is not cut. Looks at all
-    /// parcels if there is none.
+    /// The first of these parcels, from this number on, that is under way.
+    fn waiting_from<C: Exclusion>(
+        &self,
+        cluster: &Cluster<C>,
+        scope: &Scope,
+        begin: u64,
+    ) -> Option<u64>
+        ensures some { IfSome result
+            (IsFirstFrom begin (is_waiting self.now cluster.now.sent scope.now)) }
+        ensures none { IfNone result
+            ((k : ℕ) → begin ≤ k → is_waiting self.now cluster.now.sent scope.now k ≡ false) }
+    {
+        for number in begin..cluster.sent() {
+            if self.is_waiting(cluster, scope, number) {
+                return Some(number);
+            }
+        }
+        None
+    }
+
+    /// The oldest of these parcels that is under way. Looks at all that were sent after the oldest
+    /// one under way.
+    pub(crate) fn oldest_waiting<C: Exclusion>(
+        &self,
+        cluster: &Cluster<C>,
+        scope: &Scope,
+    ) -> Option<u64>
+        ensures some { IfSome result
+            (IsOldest (is_waiting self.now cluster.now.sent scope.now)) }
+        ensures none { IfNone result (NoneWaits self.now cluster.now.sent scope.now) }
+    {
+        self.waiting_from(cluster, scope, self.first)
+    }
+
+    /// The oldest of these parcels that is under way over a link that is not cut.
     pub fn next_to_arrive<C: Exclusion>(
         &mut self,
         cluster: &Cluster<C>,
@@ -241,34 +274,7 @@ impl Mail {
             IsTrue (can_arrive self.old cluster.now.sent scope.now k)) }
         ensures none { IfNone result (NoneArrives self.old cluster.now.sent scope.now) }
     {
-        let begin = self.begin(scope);
-        match self.arriving_from(cluster, scope, begin) {
-            Some(number) => {
-                self.begin_at(scope, number);
-                Some(number)
-            }
-            None => self.arriving_from(cluster, scope, 0),
-        }
-    }
-
-    /// All these parcels are lost.
-    pub(crate) fn lose_all<C: Exclusion>(&mut self, cluster: &Cluster<C>, scope: &Scope)
-        ensures { NoneWaits self.new cluster.now.sent scope.now }
-    {
-        for number in 0..cluster.sent() {
-            self.lose_if_waiting(cluster, scope, number);
-        }
-    }
-
-    /// A parcel is lost if it is under way, and one of these.
-    fn lose_if_waiting<C: Exclusion>(&mut self, cluster: &Cluster<C>, scope: &Scope, number: u64)
-        ensures here { is_waiting self.new cluster.now.sent scope.now number ≡ false }
-        ensures others { (k : ℕ) → is_waiting self.old cluster.now.sent scope.now k ≡ false
-            → is_waiting self.new cluster.now.sent scope.now k ≡ false }
-    {
-        if self.is_waiting(cluster, scope, number) {
-            self.lose(number);
-        }
+        self.oldest_arriving(cluster, scope)
     }
 
     /// The oldest parcel under way from one node to another.
@@ -281,15 +287,7 @@ impl Mail {
         ensures same { self.new ≡ self.old }
         ensures some { IfSome result (λ k. IsTrue (is_under_way self.old k)) }
     {
-        let link = link(from, to);
-        for number in self.firsts[link]..cluster.sent() {
-            if self.is_under_way(number) && is_between(cluster, number, from, to) {
-                self.firsts[link] = number;
-                return Some(number);
-            }
-        }
-        self.firsts[link] = cluster.sent();
-        None
+        self.oldest_waiting(cluster, &Scope::Link(from, to))
     }
 
     /// The parcel from one node to another that was delivered last.

@@ -1,5 +1,7 @@
 //! The text of a script.
 
+ghost use Rattle.std.specs.Prelude.{◌≡◌, IfOk};
+
 use crate::halts::{BadLine, Halt};
 use mx_lines::LineFault;
 use std::alloc::Global;
@@ -7,7 +9,9 @@ use std::str;
 
 /// The text that bytes are. Where they are not in UTF-8, the line of the first that is not is at
 /// fault.
-pub(crate) fn text_in(alloc: Global, bytes: &[u8]) -> Result<&str, Halt> {
+pub(crate) fn text_in(alloc: Global, bytes: &[u8]) -> Result<&str, Halt>
+    ensures { IfOk result (λ text. text.now ≡ bytes.now) }
+{
     match str::from_utf8(bytes) {
         Ok(text) => Ok(text),
         Err(e) => Err(Halt::AtLine(BadLine {

@@ -1,7 +1,7 @@
-use Rattle.std.proofs.Common.{◌≡◌, ◌<◌, ◌+◌, ◌++◌, ◌∷◌, [], ◌∙◌, ℕ, Bool, false, List, ap, arith, length, subst}
+use Rattle.std.proofs.Common.{◌≡◌, ◌<◌, ◌+◌, ◌++◌, ◌∷◌, [], ◌∙◌, ℕ, Bool, false, List, ap, arith, length, subst, sym}
 use Rattle.std.proofs.lemmas.List.{length-append}
-use Rattle.mx_scripts.specs.Fates.{grown}
-use Rattle.mx_scripts.proofs.FateLemmas.{grown_more}
+use Rattle.mx_scripts.specs.Fates.{AreGone, grown}
+use Rattle.mx_scripts.proofs.FateLemmas.{gone_more, grown_more}
 use Rattle.mx_scripts.proofs.mail.grow.Goals as goal
 
 pub loop-number-preserved : goal.loop-number-preserved
@@ -14,4 +14,5 @@ loop-number-preserved c =
     record {
       count = omega (arith, one, count);
       whole = ap (grown c.args.sent) more ∙ grown_more c.args.sent gone lt ∙ c.loop-number.invariant.whole;
+      kept = λ first h. subst (λ (l : List Bool). AreGone first l) (sym more) (gone_more first gone (c.loop-number.invariant.kept first h));
     }

@@ -11,6 +11,9 @@ loop-number-preserved g c =
     below_more (λ k. can_arrive c.args.self.now c.args.cluster.now.sent c.args.scope.now k ≡ false) c.args.begin c.loop-number.number
     c.loop-number.invariant (sym c.can_arrive.ensures ∙ c.if-can_arrive.false)
 
+pub returns-then-can_arrive-clause-some : goal.returns-then-can_arrive-clause-some
+returns-then-can_arrive-clause-some g c = (sym c.can_arrive.ensures ∙ c.if-can_arrive.true, c.loop-number.invariant)
+
 pub returns-clause-none : goal.returns-clause-none
 returns-clause-none g c =
     let count : c.sent-number-end.result ≡ length c.args.cluster.now.sent = c.sent-number-end.ensures in

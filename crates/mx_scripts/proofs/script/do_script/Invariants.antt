@@ -1,0 +1,6 @@
+use Rattle.mx_lines.specs.Names.{texts_of}
+use Rattle.mx_scripts.specs.Lines.{DoesAll}
+use Rattle.mx_scripts.proofs.script.do_script.Given as goal
+
+abbrev pub invariant-loop-line : goal.invariant-loop-line
+invariant-loop-line g l = DoesAll g.C.Exclusion.core l.plan (texts_of l.yielded) l.initial.state l.state

@@ -1,0 +1,109 @@
+//! A cluster, and what has become of its parcels.
+
+ghost use Rattle.std.specs.Prelude.{◌≡◌, IsTrue, OnOk};
+ghost use Rattle.mx_scripts.specs.Fates.{can_pass, is_under_way};
+ghost use Rattle.mx_scripts.specs.States.{Brings, IsAllowed, before_any};
+
+use crate::halts::LineStop;
+use crate::mail::Mail;
+use crate::session_event::SessionEvent;
+use mx_lines::LinkChange;
+use mx_network::{Cluster, Event};
+use mx_nodelaws::Exclusion;
+use std::alloc::Global;
+use std::marker::Model;
+
+/// A cluster, and what has become of its parcels.
+#[derive(Drop)]
+pub struct State<C: Exclusion> {
+    pub(crate) cluster: Cluster<C>,
+    pub(crate) mail: Mail,
+}
+
+impl<C: Exclusion> Model for State<C> {
+    ghost use Rattle.mx_scripts.specs.States.{RunState};
+
+    ghost Value = { RunState C C.Msg };
+
+    ghost view = { λ s. record { cluster = s.cluster; fates = s.mail } };
+}
+
+impl<C: Exclusion> State<C> {
+    /// A cluster before any parcel was sent.
+    pub fn of(alloc: Global, cluster: Cluster<C>) -> Self
+        ensures { result ≡ before_any cluster }
+    {
+        State {
+            cluster,
+            mail: Mail::new(alloc),
+        }
+    }
+
+    pub fn cluster(&self) -> &Cluster<C>
+        ensures { result.now ≡ self.now.cluster }
+    {
+        &self.cluster
+    }
+
+    /// Whether a parcel was neither delivered nor lost.
+    pub fn is_under_way(&self, number: u64) -> bool
+        ensures { result ≡ is_under_way self.now.fates number }
+    {
+        self.mail.is_under_way(number)
+    }
+
+    /// Whether an event delivers no parcel over a link that is cut.
+    pub(crate) fn can_pass(&self, event: &Event) -> bool
+        ensures { result ≡ can_pass self.now.fates self.now.cluster.sent event.now }
+    {
+        self.mail.can_pass(event, &self.cluster)
+    }
+
+    /// Does what was asked for.
+    ///
+    /// # Errors
+    ///
+    /// `Undone` if the cluster has no such node or parcel, `Memory` if it runs out.
+    pub fn apply(&mut self, event: &SessionEvent) -> Result<(), LineStop>
+        requires { IsAllowed self.old event.now }
+        ensures { OnOk result (Brings C.core self.old event.now self.new) }
+    {
+        match event {
+            SessionEvent::Happens(event) => self.advance(event),
+            SessionEvent::IsLost(number) => {
+                self.lose(*number);
+                Ok(())
+            }
+            SessionEvent::LinksChange(change) => {
+                self.change(change);
+                Ok(())
+            }
+        }
+    }
+
+    /// A parcel that is under way is lost.
+    fn lose(&mut self, number: u64)
+        requires { IsTrue (is_under_way self.old.fates number) }
+        ensures { Brings C.core self.old (SessionEvent.IsLost number) self.new }
+    {
+        self.mail.lose(number);
+    }
+
+    /// Links are cut, or heal.
+    fn change(&mut self, change: &LinkChange)
+        ensures { Brings C.core self.old (SessionEvent.LinksChange change.now) self.new }
+    {
+        self.mail.change(change);
+    }
+
+    /// An event happens.
+    fn advance(&mut self, event: &Event) -> Result<(), LineStop>
+        requires { IsTrue (can_pass self.old.fates self.old.cluster.sent event.now) }
+        ensures { OnOk result
+            (Brings C.core self.old (SessionEvent.Happens event.now) self.new) }
+    {
+        self.cluster.advance(*event)?;
+        self.mail.note(event, &self.cluster)?;
+        Ok(())
+    }
+}
