@@ -11,7 +11,7 @@ use mx_lines::{Line, LineFault, Order, Scope, read_line, words_in};
 use mx_network::{Cluster, Event, StepFault};
 use mx_nodelaws::Exclusion;
 use mx_plan::{Plan, read_plan};
-use mx_scripts::{BadLine, Mail};
+use mx_scripts::{InFlight, RefusedLine};
 use mx_stamps::{MAX_EVENTS, NodeId};
 use mx_trace::{Cause, Outcome};
 use std::alloc::{AllocError, Global};
@@ -24,7 +24,7 @@ pub(crate) fn explain_script_run<'a>(
     plan: &[u8],
     script: &'a [u8],
     above: usize,
-    refused: Option<&BadLine>,
+    refused: Option<&RefusedLine>,
 ) -> Result<FileReport<'a>, AllocError> {
     let mut lines = FileReport::new(alloc, file);
     lines.look_at(script, above);
@@ -41,7 +41,7 @@ fn run_by_shape(
     lines: &mut FileReport<'_>,
     plan: &Plan,
     script: &str,
-    refused: Option<&BadLine>,
+    refused: Option<&RefusedLine>,
 ) -> Result<(), AllocError> {
     by_shape!(
         lines.alloc(),
@@ -56,12 +56,12 @@ fn run_all<C: Exclusion + Knowledge>(
     plan: &Plan,
     mut cluster: Cluster<C>,
     script: &str,
-    refused: Option<&BadLine>,
+    refused: Option<&RefusedLine>,
 ) -> Result<(), AllocError>
 where
     C::Msg: Letter,
 {
-    let mut mail = Mail::new(lines.alloc());
+    let mut mail = InFlight::new(lines.alloc());
     run_lines(lines, plan, &mut cluster, &mut mail, script)?;
     match refused {
         Some(line) => tell_refused(lines, plan, &cluster, &mail, line),
@@ -73,7 +73,7 @@ fn run_lines<C: Exclusion + Knowledge>(
     lines: &mut FileReport<'_>,
     plan: &Plan,
     cluster: &mut Cluster<C>,
-    mail: &mut Mail,
+    mail: &mut InFlight,
     script: &str,
 ) -> Result<(), AllocError> {
     let mut number = 0u64;
@@ -92,7 +92,7 @@ fn run_line<C: Exclusion + Knowledge>(
     lines: &mut FileReport<'_>,
     plan: &Plan,
     cluster: &mut Cluster<C>,
-    mail: &mut Mail,
+    mail: &mut InFlight,
     number: u64,
     line: &str,
 ) -> Result<bool, AllocError> {
@@ -118,7 +118,7 @@ fn repeat<C: Exclusion + Knowledge>(
     lines: &mut FileReport<'_>,
     plan: &Plan,
     cluster: &mut Cluster<C>,
-    mail: &mut Mail,
+    mail: &mut InFlight,
     number: u64,
     line: &Line,
 ) -> Result<bool, AllocError> {
@@ -134,7 +134,7 @@ fn obey<C: Exclusion + Knowledge>(
     lines: &mut FileReport<'_>,
     plan: &Plan,
     cluster: &mut Cluster<C>,
-    mail: &mut Mail,
+    mail: &mut InFlight,
     number: u64,
     order: &Order,
 ) -> Result<bool, AllocError> {
@@ -167,7 +167,7 @@ fn deliver_all<C: Exclusion + Knowledge>(
     lines: &mut FileReport<'_>,
     plan: &Plan,
     cluster: &mut Cluster<C>,
-    mail: &mut Mail,
+    mail: &mut InFlight,
     number: u64,
     scope: &Scope,
 ) -> Result<bool, AllocError> {
@@ -188,7 +188,7 @@ fn deliver<C: Exclusion + Knowledge>(
     lines: &mut FileReport<'_>,
     plan: &Plan,
     cluster: &mut Cluster<C>,
-    mail: &mut Mail,
+    mail: &mut InFlight,
     number: u64,
     parcel: Option<u64>,
 ) -> Result<bool, AllocError> {
@@ -199,7 +199,7 @@ fn deliver<C: Exclusion + Knowledge>(
 }
 
 /// Loses the oldest parcel under way from one node to another. Returns whether there is one.
-fn lose<C: Exclusion>(cluster: &Cluster<C>, mail: &mut Mail, from: NodeId, to: NodeId) -> bool {
+fn lose<C: Exclusion>(cluster: &Cluster<C>, mail: &mut InFlight, from: NodeId, to: NodeId) -> bool {
     match mail.oldest_between(cluster, from, to) {
         Some(parcel) => {
             mail.lose(parcel);
@@ -210,7 +210,7 @@ fn lose<C: Exclusion>(cluster: &Cluster<C>, mail: &mut Mail, from: NodeId, to: N
 }
 
 /// Loses the parcels under way that a line means.
-fn lose_all<C: Exclusion>(cluster: &Cluster<C>, mail: &mut Mail, scope: &Scope) {
+fn lose_all<C: Exclusion>(cluster: &Cluster<C>, mail: &mut InFlight, scope: &Scope) {
     for parcel in 0..cluster.sent() {
         if mail.is_waiting(cluster, scope, parcel) {
             mail.lose(parcel);
@@ -223,7 +223,7 @@ fn happen<C: Exclusion + Knowledge>(
     lines: &mut FileReport<'_>,
     plan: &Plan,
     cluster: &mut Cluster<C>,
-    mail: &mut Mail,
+    mail: &mut InFlight,
     number: u64,
     event: &Event,
 ) -> Result<bool, AllocError> {
@@ -264,8 +264,8 @@ fn tell_refused<C: Exclusion>(
     lines: &mut FileReport<'_>,
     plan: &Plan,
     cluster: &Cluster<C>,
-    mail: &Mail,
-    line: &BadLine,
+    mail: &InFlight,
+    line: &RefusedLine,
 ) -> Result<(), AllocError>
 where
     C::Msg: Letter,
@@ -284,7 +284,7 @@ fn warn_of_parcels<C: Exclusion>(
     lines: &mut FileReport<'_>,
     plan: &Plan,
     cluster: &Cluster<C>,
-    mail: &Mail,
+    mail: &InFlight,
     number: u64,
 ) -> Result<(), AllocError>
 where

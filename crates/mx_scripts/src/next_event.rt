@@ -66,7 +66,7 @@ impl<C: Exclusion> State<C> {
         ensures { Finds (can_arrive self.now.fates self.now.cluster.sent scope.now)
             arrival result }
     {
-        match self.mail.oldest_arriving(&self.cluster, scope) {
+        match self.in_flight.oldest_arriving(&self.cluster, scope) {
             Some(number) => Some(arrival(number)),
             None => None,
         }
@@ -77,7 +77,7 @@ impl<C: Exclusion> State<C> {
         ensures { Finds (is_waiting self.now.fates self.now.cluster.sent scope.now)
             SessionEvent.IsLost result }
     {
-        match self.mail.oldest_waiting(&self.cluster, scope) {
+        match self.in_flight.oldest_waiting(&self.cluster, scope) {
             Some(number) => Some(SessionEvent::IsLost(number)),
             None => None,
         }
@@ -143,7 +143,7 @@ impl<C: Exclusion> State<C> {
             × NoneWaits self.now.fates self.now.cluster.sent (Scope.Link from to)) }
     {
         match self
-            .mail
+            .in_flight
             .oldest_waiting(&self.cluster, &Scope::Link(from, to))
         {
             Some(number) => Ok(number),
@@ -158,7 +158,7 @@ impl<C: Exclusion> State<C> {
         ensures none { IfErr result (λ fault. (fault ≡ LineFault.NotDelivered)
             × (slice_index_or self.now.fates.last (link_of from to) None ≡ None)) }
     {
-        match self.mail.last_between(from, to) {
+        match self.in_flight.last_between(from, to) {
             Some(number) => Ok(number),
             None => Err(LineFault::NotDelivered),
         }

@@ -8,7 +8,7 @@ ghost use Rattle.mx_scripts.specs.States.{before_any};
 ghost use Rattle.mx_scripts.specs.declared.session_event.SessionEvent.{SessionEvent};
 
 use crate::files::file_of;
-use crate::halts::{Halt, LineStop};
+use crate::script_error::{LineFailure, ScriptError};
 use crate::state::State;
 use mx_commands::by_shape;
 use mx_lines::{Line, LineFault, Order, read_line, words_in};
@@ -17,7 +17,7 @@ use mx_plan::Plan;
 use std::alloc::Global;
 
 /// The file of the events of a script, by the plan's algorithm.
-pub(crate) fn script_file(alloc: Global, plan: &Plan, script: &str) -> Result<String, Halt>
+pub(crate) fn script_file(alloc: Global, plan: &Plan, script: &str) -> Result<String, ScriptError>
     ensures { IfOk result (λ text.
         IsScriptFile plan.now script.now (string_bytes text) plan.now.shape) }
 {
@@ -34,7 +34,7 @@ fn file_of_script<C: Exclusion>(
     plan: &Plan,
     mut state: State<C>,
     script: &str,
-) -> Result<String, Halt>
+) -> Result<String, ScriptError>
     requires fresh { state ≡ before_any state.cluster }
     requires empty { state.cluster.trace ≡ [] }
     ensures { IfOk result (λ text.
@@ -51,14 +51,14 @@ fn do_script<C: Exclusion>(
     plan: &Plan,
     script: &str,
     state: &mut State<C>,
-) -> Result<(), Halt>
+) -> Result<(), ScriptError>
     ensures { OnOk result (DoesAll C.core plan.now (lines script.now) state.old state.new) }
 {
     let mut number = 0u64;
     for line in script.lines() {
         number = number.saturating_add(1);
         if let Err(fault) = do_line(alloc, plan, line, state) {
-            return Err(Halt::at_line(alloc, plan, number, fault, line));
+            return Err(ScriptError::at_line(alloc, plan, number, fault, line));
         }
     }
     Ok(())
@@ -70,7 +70,7 @@ fn do_line<C: Exclusion>(
     plan: &Plan,
     line: &str,
     state: &mut State<C>,
-) -> Result<(), LineStop>
+) -> Result<(), LineFailure>
     ensures { OnOk result (DoesText C.core plan.now line.now state.old state.new) }
 {
     match line_in(alloc, plan, line)? {
@@ -80,18 +80,18 @@ fn do_line<C: Exclusion>(
 }
 
 /// What a line asks for.
-fn line_in(alloc: Global, plan: &Plan, line: &str) -> Result<Option<Line>, LineStop>
+fn line_in(alloc: Global, plan: &Plan, line: &str) -> Result<Option<Line>, LineFailure>
     ensures { IfOk result (Reads plan.now line.now) }
 {
     let words = words_in(alloc, line)?;
     match read_line(plan, words.as_slice()) {
         Ok(line) => Ok(line),
-        Err(error) => Err(LineStop::Unread(error)),
+        Err(error) => Err(LineFailure::WrongWord(error)),
     }
 }
 
 /// Does what a line asks for, as often as it says.
-fn repeat<C: Exclusion>(line: &Line, state: &mut State<C>) -> Result<(), LineStop>
+fn repeat<C: Exclusion>(line: &Line, state: &mut State<C>) -> Result<(), LineFailure>
     ensures { OnOk result (Does C.core line.now state.old state.new) }
 {
     for _count in 0..line.times {
@@ -101,7 +101,7 @@ fn repeat<C: Exclusion>(line: &Line, state: &mut State<C>) -> Result<(), LineSto
 }
 
 /// Does what an order asks for, once.
-fn perform<C: Exclusion>(order: &Order, state: &mut State<C>) -> Result<(), LineStop>
+fn perform<C: Exclusion>(order: &Order, state: &mut State<C>) -> Result<(), LineFailure>
     ensures { OnOk result ((es : List SessionEvent)
         × Performs C.core order.now 0 state.old es state.new) }
 {
@@ -112,5 +112,5 @@ fn perform<C: Exclusion>(order: &Order, state: &mut State<C>) -> Result<(), Line
             None => return Ok(()),
         }
     }
-    Err(LineStop::Undone(LineFault::TooMany))
+    Err(LineFailure::Refused(LineFault::TooMany))
 }

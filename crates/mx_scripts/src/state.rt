@@ -4,8 +4,8 @@ ghost use Rattle.std.specs.Prelude.{◌≡◌, IsTrue, OnOk};
 ghost use Rattle.mx_scripts.specs.Fates.{can_pass, is_under_way};
 ghost use Rattle.mx_scripts.specs.States.{Brings, IsAllowed, before_any};
 
-use crate::halts::LineStop;
-use crate::mail::Mail;
+use crate::in_flight::InFlight;
+use crate::script_error::LineFailure;
 use crate::session_event::SessionEvent;
 use mx_lines::LinkChange;
 use mx_network::{Cluster, Event};
@@ -17,7 +17,7 @@ use std::marker::Model;
 #[derive(Drop)]
 pub struct State<C: Exclusion> {
     pub(crate) cluster: Cluster<C>,
-    pub(crate) mail: Mail,
+    pub(crate) in_flight: InFlight,
 }
 
 impl<C: Exclusion> Model for State<C> {
@@ -25,7 +25,7 @@ impl<C: Exclusion> Model for State<C> {
 
     ghost Value = { RunState C C.Msg };
 
-    ghost view = { λ s. record { cluster = s.cluster; fates = s.mail } };
+    ghost view = { λ s. record { cluster = s.cluster; fates = s.in_flight } };
 }
 
 impl<C: Exclusion> State<C> {
@@ -35,7 +35,7 @@ impl<C: Exclusion> State<C> {
     {
         State {
             cluster,
-            mail: Mail::new(alloc),
+            in_flight: InFlight::new(alloc),
         }
     }
 
@@ -49,22 +49,22 @@ impl<C: Exclusion> State<C> {
     pub fn is_under_way(&self, number: u64) -> bool
         ensures { result ≡ is_under_way self.now.fates number }
     {
-        self.mail.is_under_way(number)
+        self.in_flight.is_under_way(number)
     }
 
     /// Whether an event delivers no parcel over a link that is cut.
     pub(crate) fn can_pass(&self, event: &Event) -> bool
         ensures { result ≡ can_pass self.now.fates self.now.cluster.sent event.now }
     {
-        self.mail.can_pass(event, &self.cluster)
+        self.in_flight.can_pass(event, &self.cluster)
     }
 
     /// Does what was asked for.
     ///
     /// # Errors
     ///
-    /// `Undone` if the cluster has no such node or parcel, `Memory` if it runs out.
-    pub fn apply(&mut self, event: &SessionEvent) -> Result<(), LineStop>
+    /// `Refused` if the cluster has no such node or parcel, `Memory` if it runs out.
+    pub fn apply(&mut self, event: &SessionEvent) -> Result<(), LineFailure>
         requires { IsAllowed self.old event.now }
         ensures { OnOk result (Brings C.core self.old event.now self.new) }
     {
@@ -86,24 +86,24 @@ impl<C: Exclusion> State<C> {
         requires { IsTrue (is_under_way self.old.fates number) }
         ensures { Brings C.core self.old (SessionEvent.IsLost number) self.new }
     {
-        self.mail.lose(number);
+        self.in_flight.lose(number);
     }
 
     /// Links are cut, or heal.
     fn change(&mut self, change: &LinkChange)
         ensures { Brings C.core self.old (SessionEvent.LinksChange change.now) self.new }
     {
-        self.mail.change(change);
+        self.in_flight.change(change);
     }
 
     /// An event happens.
-    fn advance(&mut self, event: &Event) -> Result<(), LineStop>
+    fn advance(&mut self, event: &Event) -> Result<(), LineFailure>
         requires { IsTrue (can_pass self.old.fates self.old.cluster.sent event.now) }
         ensures { OnOk result
             (Brings C.core self.old (SessionEvent.Happens event.now) self.new) }
     {
         self.cluster.advance(*event)?;
-        self.mail.note(event, &self.cluster)?;
+        self.in_flight.note(event, &self.cluster)?;
         Ok(())
     }
 }
