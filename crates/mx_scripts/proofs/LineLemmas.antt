@@ -1,6 +1,6 @@
 -- What the lines of a script do.
 use Rattle.std.proofs.Common.{◌≡◌, ◌≤◌, ◌<◌, ◌∙◌, ℕ, zero, suc, List, [], ◌∷◌, ◌++◌, Option, Some, None, Result, Ok, Err, OnOk, IfOk, IfSome, length, add-one, ◌+◌, ◌-◌, refl, sym, ap, subst, arith, inl, inr}
-use Rattle.std.specs.Prelude.{IsTrue}
+use Rattle.std.specs.Prelude.{IfErr, IsErrAnd, IsTrue}
 use Rattle.std.specs.Borrow.{Bor}
 use Rattle.std.proofs.lemmas.List.{length-append, length-map, map-append}
 use Rattle.std.specs.Str.Lines.{lines}
@@ -118,11 +118,20 @@ module _ {H S M : Type 0} (core : Core H S M) (o : Order) where
 
 -- ---- why an event is not applied
 
-module _ {H S M : Type 0} (core : Core H S M) where
-  pub not_applied : (old new : RunState S M) (e : Event) (fault : StepFault) (why : LineFailure) → IsFaultOf (step_of core old.cluster e) fault → why ≡ failure_of_step fault → new ≡ old
-      → IsNotApplied core old (Happens e) new why
-  not_applied old new e fault why (inl x) is same = inl (is ∙ ap failure_of_step x.0)
-  not_applied old new e fault why (inr x) is same = inr (same, fault, x, is)
+module _ {H S M : Type 0} (core : Core H S M) (fates : Fates) where
+  abbrev with_cluster : ClusterState S M → RunState S M
+  with_cluster g = record { cluster = g; fates = fates }
+
+  refused_by : (old new : ClusterState S M) (e : Event) (fault : StepFault) → IsFaultOf (step_of core old e) fault → new ≡ old
+      → IsNotApplied core (with_cluster old) (Happens e) (with_cluster new) (failure_of_step fault)
+  refused_by old new e fault (inl x) same = inl (ap failure_of_step x.0)
+  refused_by old new e fault (inr x) same = inr (ap with_cluster same, fault, x, refl)
+
+  pub not_applied : {T : Type 0} (r : Result T LineFailure) (old new : ClusterState S M) (e : Event) (fault : StepFault) → IsErrAnd r (λ why. why ≡ failure_of_step fault)
+      → IsFaultOf (step_of core old e) fault → new ≡ old → IfErr r (IsNotApplied core (with_cluster old) (Happens e) (with_cluster new))
+  not_applied (Ok t) old new e fault h is same = tt
+  not_applied (Err why) old new e fault h is same =
+      subst (λ (w : LineFailure). IsNotApplied core (with_cluster old) (Happens e) (with_cluster new) w) (sym h) (refused_by old new e fault is same)
 
 -- ---- the events of the lines lead from one cluster to another
 
