@@ -1,5 +1,5 @@
 -- What a line of a script does.
-use Rattle.std.specs.Prelude.{ℕ, zero, suc, ◌≡◌, Bool, false, List, [], ◌∷◌, ◌++◌, Option, Some, None, Ok, slice_index_or}
+use Rattle.std.specs.Prelude.{ℕ, zero, suc, ◌≡◌, ◌⊎◌, Bool, false, List, [], ◌∷◌, ◌++◌, Option, Some, None, Ok, slice_index_or}
 use Rattle.std.specs.Borrow.{Bor}
 use Rattle.mx_nodelaws.specs.Core.{Core}
 use Rattle.mx_events.specs.declared.event.Event.TheVariants.{Deliver}
@@ -8,13 +8,15 @@ use Rattle.mx_plan.specs.Fields.{Fields}
 use Rattle.mx_lines.specs.Lines.{line_of}
 use Rattle.mx_lines.specs.Names.{known_of, texts_of}
 use Rattle.mx_lines.specs.Words.{AreWords, before_comment}
+use Rattle.mx_lines.specs.declared.errors.LineFault.{LineFault}
+use Rattle.mx_lines.specs.declared.errors.LineFault.TheVariants.{NotUnderWay, NotDelivered}
 use Rattle.mx_lines.specs.declared.lines.Line.{Line}
 use Rattle.mx_lines.specs.declared.orders.Order.{Order}
 use Rattle.mx_lines.specs.declared.orders.Order.TheVariants as order
 use Rattle.mx_lines.specs.declared.orders.Scope.TheVariants.{Link}
-use Rattle.mx_scripts.specs.Fates.{Fates, IsOldest, can_arrive, is_waiting}
+use Rattle.mx_scripts.specs.Fates.{Fates, IsOldest, NoneWaits, can_arrive, is_waiting}
 use Rattle.mx_scripts.specs.Links.{link_of}
-use Rattle.mx_scripts.specs.States.{Brings, IsAllowed, RunState}
+use Rattle.mx_scripts.specs.States.{Bars, Brings, IsAllowed, RunState}
 use Rattle.mx_scripts.specs.declared.session_event.SessionEvent.{SessionEvent}
 use Rattle.mx_scripts.specs.declared.session_event.SessionEvent.TheVariants.{Happens, IsLost, LinksChange}
 
@@ -50,6 +52,25 @@ module _ {P : Type 0} (d : Fates) (sent : List (ℕ × ℕ × P)) where
   IsNext (order.AllAreLost scope) done next = Finds (is_waiting d sent scope) IsLost next
   IsNext (order.ArrivesAgain from to) done next = Once done (λ e. IsAgain d from to e) next
   IsNext (order.LinksChange change) done next = Once done (λ e. e ≡ LinksChange change) next
+
+  -- an order has no next event, since there is no such parcel
+  abbrev pub Misses : Order → ℕ → LineFault → Type 0
+  Misses (order.Arrives from to) done fault =
+      (done ≡ 0) × (fault ≡ NotUnderWay) × NoneWaits d sent (Link from to)
+  Misses (order.IsLost from to) done fault =
+      (done ≡ 0) × (fault ≡ NotUnderWay) × NoneWaits d sent (Link from to)
+  Misses (order.ArrivesAgain from to) done fault =
+      (done ≡ 0) × (fault ≡ NotDelivered)
+      × (slice_index_or d.last (link_of from to) None ≡ None)
+  Misses _ done fault = ⊥
+
+-- why an order, of which so many events have happened, asks for nothing that can happen: there is no
+-- such parcel, or the next event is held up
+abbrev pub IsNoNext : {S M : Type 0} → RunState S M → Order → ℕ → LineFault → Type 0
+IsNoNext s order done fault =
+    Misses s.fates s.cluster.sent order done fault
+    ⊎ ((next : Option SessionEvent) × IsNext s.fates s.cluster.sent order done next
+    × Bars s next fault)
 
 -- the words of a line ask for this
 abbrev pub Reads : Fields → Text → Option Line → Type 0
