@@ -1,14 +1,16 @@
 //! `script`: the events that the lines of a script ask for, as a file.
 
-ghost use Rattle.std.specs.Prelude.{◌≡◌, List, [], string_bytes, IfOk, OnOk};
+ghost use Rattle.std.specs.Prelude.{◌≡◌, ◌⊎◌, List, [], string_bytes, IfErr, IfOk, OnOk};
 ghost use Rattle.std.specs.Str.Lines.{lines};
-ghost use Rattle.mx_scripts.specs.Lines.{Does, DoesAll, DoesText, Performs, Reads};
-ghost use Rattle.mx_scripts.specs.ScriptFiles.{IsFileOfScript, IsScriptFile};
+ghost use Rattle.mx_scripts.specs.Lines.{Does, DoesAll, DoesText, IsNotDone, Misreads, Performs, Reads, StopsAfter, StopsBy, StopsWithin};
+ghost use Rattle.mx_scripts.specs.ScriptFiles.{IsFileOfScript, IsScriptFailure, IsScriptFile};
+ghost use Rattle.mx_scripts.specs.States.{before_any};
 ghost use Rattle.mx_scripts.specs.declared.session_event.SessionEvent.{SessionEvent};
 
 use crate::files::file_of;
 use crate::script_error::{LineFailure, ScriptError};
 use crate::state::State;
+use mx_cli::CommandError;
 use mx_commands::by_shape;
 use mx_lines::{Line, LineFault, Order, read_line, words_in};
 use mx_network::Cluster;
@@ -18,8 +20,9 @@ use std::alloc::Global;
 
 /// The file of the events of a script, by the plan's algorithm.
 pub(crate) fn script_file(alloc: Global, plan: &Plan, script: &str) -> Result<String, ScriptError>
-    ensures { IfOk result (λ text.
+    ensures ok { IfOk result (λ text.
         IsScriptFile plan.now script.now (string_bytes text) plan.now.shape) }
+    ensures err { IfErr result (IsScriptFailure plan.now script.now plan.now.shape) }
 {
     by_shape!(
         alloc,
@@ -36,8 +39,10 @@ fn file_of_script<C: Exclusion>(
     script: &str,
 ) -> Result<String, ScriptError>
     requires { cluster.trace ≡ [] }
-    ensures { IfOk result (λ text.
+    ensures ok { IfOk result (λ text.
         IsFileOfScript C.core plan.now cluster script.now (string_bytes text)) }
+    ensures err { IfErr result (λ error. (error ≡ ScriptError.Command CommandError.Memory)
+        ⊎ StopsBy C.core plan.now (lines script.now) (before_any cluster) error) }
 {
     let mut state = State::of(alloc, cluster);
     do_script(alloc, plan, script, &mut state)?;
@@ -52,7 +57,8 @@ fn do_script<C: Exclusion>(
     script: &str,
     state: &mut State<C>,
 ) -> Result<(), ScriptError>
-    ensures { OnOk result (DoesAll C.core plan.now (lines script.now) state.old state.new) }
+    ensures ok { OnOk result (DoesAll C.core plan.now (lines script.now) state.old state.new) }
+    ensures err { IfErr result (StopsBy C.core plan.now (lines script.now) state.old) }
 {
     let mut number = 0u64;
     for line in script.lines() {
@@ -71,7 +77,8 @@ fn do_line<C: Exclusion>(
     line: &str,
     state: &mut State<C>,
 ) -> Result<(), LineFailure>
-    ensures { OnOk result (DoesText C.core plan.now line.now state.old state.new) }
+    ensures ok { OnOk result (DoesText C.core plan.now line.now state.old state.new) }
+    ensures err { IfErr result (IsNotDone C.core plan.now line.now state.old) }
 {
     match line_in(alloc, plan, line)? {
         Some(line) => repeat(&line, state),
@@ -81,7 +88,9 @@ fn do_line<C: Exclusion>(
 
 /// What a line asks for.
 fn line_in(alloc: Global, plan: &Plan, line: &str) -> Result<Option<Line>, LineFailure>
-    ensures { IfOk result (Reads plan.now line.now) }
+    ensures ok { IfOk result (Reads plan.now line.now) }
+    ensures err { IfErr result (λ why.
+        (why ≡ LineFailure.Memory) ⊎ Misreads plan.now line.now why) }
 {
     let words = words_in(alloc, line)?;
     match read_line(plan, words.as_slice()) {
@@ -92,7 +101,9 @@ fn line_in(alloc: Global, plan: &Plan, line: &str) -> Result<Option<Line>, LineF
 
 /// Does what a line asks for, as often as it says.
 fn repeat<C: Exclusion>(line: &Line, state: &mut State<C>) -> Result<(), LineFailure>
-    ensures { OnOk result (Does C.core line.now state.old state.new) }
+    ensures ok { OnOk result (Does C.core line.now state.old state.new) }
+    ensures err { IfErr result
+        (StopsWithin C.core line.now.order line.now.times state.old) }
 {
     for _count in 0..line.times {
         perform(&line.order, state)?;
@@ -102,8 +113,10 @@ fn repeat<C: Exclusion>(line: &Line, state: &mut State<C>) -> Result<(), LineFai
 
 /// Does what an order asks for, once.
 fn perform<C: Exclusion>(order: &Order, state: &mut State<C>) -> Result<(), LineFailure>
-    ensures { OnOk result ((es : List SessionEvent)
+    ensures ok { OnOk result ((es : List SessionEvent)
         × Performs C.core order.now 0 state.old es state.new) }
+    ensures err { IfErr result (λ why. (es : List SessionEvent)
+        × StopsAfter C.core order.now 0 state.old es why) }
 {
     for count in 0..u64::MAX {
         let next = state.next_event(order, count)?;
