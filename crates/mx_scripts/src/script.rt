@@ -13,7 +13,6 @@ use crate::state::State;
 use mx_cli::CommandError;
 use mx_commands::by_shape;
 use mx_lines::{Line, LineFault, Order, read_line, words_in};
-use mx_network::Cluster;
 use mx_nodelaws::Exclusion;
 use mx_plan::Plan;
 use std::alloc::Global;
@@ -27,24 +26,24 @@ pub(crate) fn script_file(alloc: Global, plan: &Plan, script: &str) -> Result<St
     by_shape!(
         alloc,
         plan,
-        |cluster| file_of_script(alloc, plan, cluster, script)
+        |cluster| file_of_script(alloc, plan, State::of(alloc, cluster), script)
     )
 }
 
-/// Does the lines in a cluster at rest; then makes the file of what happened.
+/// Does the lines from before any parcel was sent; then makes the file of what happened.
 fn file_of_script<C: Exclusion>(
     alloc: Global,
     plan: &Plan,
-    cluster: Cluster<C>,
+    mut state: State<C>,
     script: &str,
 ) -> Result<String, ScriptError>
-    requires { cluster.trace ≡ [] }
+    requires fresh { state ≡ before_any state.cluster }
+    requires empty { state.cluster.trace ≡ [] }
     ensures ok { IfOk result (λ text.
-        IsFileOfScript C.core plan.now cluster script.now (string_bytes text)) }
+        IsFileOfScript C.core plan.now state.cluster script.now (string_bytes text)) }
     ensures err { IfErr result (λ error. (error ≡ ScriptError.Command CommandError.Memory)
-        ⊎ StopsBy C.core plan.now (lines script.now) (before_any cluster) error) }
+        ⊎ StopsBy C.core plan.now (lines script.now) (before_any state.cluster) error) }
 {
-    let mut state = State::of(alloc, cluster);
     do_script(alloc, plan, script, &mut state)?;
     let text = file_of(alloc, plan, state.cluster().trace())?;
     Ok(text)
