@@ -1,6 +1,5 @@
 -- How a script ends.
-use Rattle.std.proofs.Common.{◌≡◌, ◌∙◌, ℕ, Bool, Option, Some, None, Result, Ok, Err, IfErr, IfOk, refl, subst, sym, inl, inr}
-use Rattle.std.specs.Prelude.{IsErrAnd}
+use Rattle.std.proofs.Common.{◌≡◌, ◌∙◌, ℕ, Bool, Option, Some, None, Result, Ok, Err, IfErr, IfOk, refl, subst, inl, inr}
 use Rattle.std.specs.Io.KnownBytes.{Appends}
 use Rattle.mx_stamps.proofs.Lists.{append_nil}
 use Rattle.mx_plan.specs.Text.{Text}
@@ -15,11 +14,10 @@ use Rattle.mx_io.specs.Outputs.{Held}
 use Rattle.mx_io.specs.Told.{Telling}
 use Rattle.mx_commands.specs.Ran.{Ran}
 use Rattle.mx_commands.specs.Runs.{whole}
-use Rattle.mx_scripts.specs.declared.script_error.RefusedLine.{RefusedLine}
 use Rattle.mx_scripts.specs.declared.script_error.ScriptError.{ScriptError}
 use Rattle.mx_scripts.specs.declared.script_error.ScriptError.TheVariants as script_error
 use Rattle.mx_scripts.specs.Ended.{ClosesScript, EndsScript, IsFileOfNames, IsScriptError, IsLineError, IsPrintError, IsScriptOf, ScriptsOf}
-use Rattle.mx_scripts.specs.ScriptFiles.{IsNotText, IsScriptFailure, IsScriptFile}
+use Rattle.mx_scripts.specs.ScriptFiles.{IsScriptFile}
 use Rattle.mx_scripts.specs.Printed.{HasDone, Scripts}
 use Rattle.mx_scripts.specs.Requests.{Request, draw, walk, script}
 
@@ -33,11 +31,10 @@ module _ (told : Text → Option Telling) (names : Text × Text) where
   file_read bytes p lines (Err e) read of h = tt
 
   -- the lines of a plan that was read give none
-  pub line_fails : {T : Type 0} (p : Fields) (script : Text) (r : Result T ScriptError) → IsPlanOf (plan_told told names) p → IsScriptOf told names script
-      → IfErr r (IsLineError p script) → IfErr r (IsScriptError told names)
-  line_fails p lines (Ok t) read of h = tt
-  line_fails p lines (Err (script_error.Command end)) read of h = inl h
-  line_fails p lines (Err (script_error.AtLine line)) read of h = (p, lines, read, of, h)
+  pub line_fails : {T : Type 0} (p : Fields) (r : Result T ScriptError) → IsPlanOf (plan_told told names) p → IfErr r IsLineError → IfErr r (IsScriptError told names)
+  line_fails p (Ok t) read h = tt
+  line_fails p (Err (script_error.Command end)) read h = inl h
+  line_fails p (Err (script_error.AtLine line)) read h = (p, read)
 
   -- the file was printed
   pub file_done : {E : Type 0} (text : Text) (a b : Held) (r : Result ℕ E) → IsFileOfNames told names text → IfOk r (λ _. Appends a b text)
@@ -50,29 +47,6 @@ module _ (told : Text → Option Telling) (names : Text × Text) where
       → EndsScript takes told names r
   file_ends takes text (Ok status) file zero fails = (zero, (text, file))
   file_ends takes text (Err h) file zero fails = inr fails
-
--- ---- a line at fault
-
--- why a text has no file
-abbrev pub IsTextError : Fields → Text → ScriptError → Type 0
-IsTextError p script error = IsNotText script error ⊎ IsScriptFailure p script p.shape error
-
-not_memory : (line : RefusedLine) → script_error.AtLine line ≡ script_error.Command command_error.Memory → ⊥
-not_memory line e = cc
-
-pub at_line : (p : Fields) (script : Text) (line : RefusedLine) → IsTextError p script (script_error.AtLine line) → IsLineError p script (script_error.AtLine line)
-at_line p script line (inl h) = inl h
-at_line p script line (inr (inl e)) = absurd (not_memory line e)
-at_line p script line (inr (inr h)) = inr h
-
-pub not_text : {T : Type 0} (p : Fields) (script : Text) (r : Result T ScriptError) (why : ScriptError) → IsErrAnd r (λ e. e ≡ why) → IsNotText script why
-    → IfErr r (IsTextError p script)
-not_text p script (Ok t) why h is = tt
-not_text p script (Err e) why h is = inl (subst (λ (x : ScriptError). IsNotText script x) (sym h) is)
-
-pub text_fails : {T : Type 0} (p : Fields) (text script : Text) (r : Result T ScriptError) → text ≡ script → IfErr r (IsScriptFailure p text p.shape) → IfErr r (IsTextError p script)
-text_fails p text script (Ok t) is h = tt
-text_fails p text script (Err e) is h = inr (subst (λ (x : Text). IsScriptFailure p x p.shape e) is h)
 
 -- ---- a file is printed
 

@@ -12,7 +12,6 @@ use Rattle.mx_network.specs.declared.faults.StepFault.{StepFault}
 use Rattle.mx_trace.specs.declared.outcome.Entry.{Entry}
 use Rattle.mx_events.specs.declared.event.Event.{Event}
 use Rattle.mx_events.specs.declared.event.Event.TheVariants.{Deliver}
-use Rattle.mx_cli.specs.declared.faults.CommandError.TheVariants as command_error
 use Rattle.mx_plan.specs.Text.{Text}
 use Rattle.mx_plan.specs.Fields.{Fields}
 use Rattle.mx_explorer.specs.Drawn.{IsDrawn}
@@ -23,7 +22,7 @@ use Rattle.mx_lines.specs.declared.orders.Order.TheVariants as order
 use Rattle.mx_lines.specs.declared.orders.Scope.{Scope}
 use Rattle.mx_lines.specs.declared.orders.Scope.TheVariants.{Link}
 use Rattle.mx_scripts.specs.Fates.{Fates, is_waiting, is_under_way}
-use Rattle.mx_scripts.specs.Lines.{Does, DoesAll, DoesIfSome, DoesText, IsNext, Once, Performs, IsNotDone, Misreads, Reads, Repeats, StopsAfter, StopsAt, StopsBy, StopsWithin}
+use Rattle.mx_scripts.specs.Lines.{Does, DoesAll, DoesIfSome, DoesText, IsNext, Once, Performs, IsNotDone, Misreads, Reads, Repeats, StopsAfter, StopsAt, StopsWithin}
 use Rattle.mx_scripts.specs.Files.{file_text}
 use Rattle.mx_scripts.specs.Played.{Plays, events_of}
 use Rattle.mx_scripts.specs.ScriptFiles.{IsFileOfScript}
@@ -34,7 +33,6 @@ use Rattle.mx_scripts.specs.States.{Admits, Brings, IsAllowed, IsDrawnOf, IsNotA
 use Rattle.mx_scripts.specs.declared.script_error.LineFailure.{LineFailure}
 use Rattle.mx_scripts.specs.declared.script_error.LineFailure.TheVariants as failure
 use Rattle.mx_scripts.specs.declared.script_error.ScriptError.{ScriptError}
-use Rattle.mx_scripts.specs.declared.script_error.ScriptError.TheVariants as script_error
 use Rattle.mx_scripts.specs.declared.session_event.SessionEvent.{SessionEvent}
 use Rattle.mx_scripts.specs.declared.session_event.SessionEvent.TheVariants.{Happens, IsLost, LinksChange}
 use Rattle.mx_scripts.proofs.FateLemmas.{waiting_under_way}
@@ -276,6 +274,12 @@ module _ {H S M : Type 0} (core : Core H S M) (p : Fields) where
     file = file_of_played core p start last.cluster trace text empty (all_plays (lines script) (before_any start) last does) same is;
   }
 
+  pub file_from : {T : Type 0} (bytes : T → Text) (script : Text) (start : ClusterState S M) (old last : RunState S M) (r : Result T ScriptError) → old ≡ before_any start → start.trace ≡ []
+      → OnOk r (DoesAll core p (lines script) old last) → IfOk r (λ t. bytes t ≡ file_text p (events_of last.cluster.trace)) → IfOk r (λ t. IsFileOfScript core p start script (bytes t))
+  file_from bytes script start old last (Ok t) fresh empty does is =
+      file_of_lines script start last last.cluster.trace (bytes t) empty (subst (λ (s : RunState S M). DoesAll core p (lines script) s last) fresh does) refl is
+  file_from bytes script start old last (Err e) fresh empty does is = tt
+
   -- ---- a loop over the lines
 
   all_more : (texts : List Text) (text : Text) (old mid new : RunState S M) → DoesAll core p texts old mid → DoesText core p text mid new → DoesAll core p (texts ++ text ∷ []) old new
@@ -311,10 +315,3 @@ module _ {H S M : Type 0} (core : Core H S M) (p : Fields) where
     slice_get_read texts (length texts) (length yielded) text refl turn.0 turn.1,
     not,
   )
-
-  -- the error of a line is handed on
-  pub stopped : {T : Type 0} (texts : List Text) (old start : RunState S M) (r : Result T ScriptError) (why : ScriptError) → IsErrAnd r (λ e. e ≡ why) → old ≡ start
-      → StopsBy core p texts old why → IfErr r (λ error. (error ≡ script_error.Command command_error.Memory) ⊎ StopsBy core p texts start error)
-  stopped texts old start (Ok t) why h is x = tt
-  stopped texts old start (Err e) why h is x =
-      inr (subst (λ (error : ScriptError). StopsBy core p texts start error) (sym h) (subst (λ (s : RunState S M). StopsBy core p texts s why) is x))

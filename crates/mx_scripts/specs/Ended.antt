@@ -1,5 +1,5 @@
 -- How a script ends, and how that is told.
-use Rattle.std.specs.Prelude.{◌≡◌, ◌⊎◌, ◌&&◌, ℕ, Bool, false, Option, Some, Result, Ok, Err, IfSome, string_bytes}
+use Rattle.std.specs.Prelude.{◌≡◌, ◌⊎◌, ◌&&◌, ⊤, ℕ, Bool, false, Option, Some, Result, Ok, Err, IfSome, string_bytes}
 use Rattle.mx_plan.specs.Text.{Text}
 use Rattle.mx_plan.specs.Fields.{Fields}
 use Rattle.mx_io.specs.Told.{Telling}
@@ -11,8 +11,14 @@ use Rattle.mx_cli.specs.Reading.{IsPlanOf, plan_told, text_told}
 use Rattle.mx_cli.specs.Reports.{ReportsFault}
 use Rattle.mx_scripts.specs.declared.script_error.ScriptError.{ScriptError}
 use Rattle.mx_scripts.specs.declared.script_error.ScriptError.TheVariants as script_error
-use Rattle.mx_scripts.specs.ScriptFiles.{IsNotText, IsScriptFile, StopsInShape}
+use Rattle.mx_scripts.specs.ScriptFiles.{IsScriptFile}
 use Rattle.mx_scripts.specs.Scripts.{script_line}
+
+-- why there is no file of the events of a script: plan or script can't be read, or memory ran out;
+-- or the plan was read, and a line is refused
+abbrev pub IsScriptError : (Text → Option Telling) → Text × Text → ScriptError → Type 0
+IsScriptError told names (script_error.Command end) = (end ≡ command_error.Memory) ⊎ IsUnread told names end
+IsScriptError told names (script_error.AtLine line) = (p : Fields) × IsPlanOf (plan_told told names) p
 
 -- the script was read, where the source tells of it
 abbrev pub IsScriptOf : (Text → Option Telling) → Text × Text → Text → Type 0
@@ -25,22 +31,10 @@ IsFileOfNames told names text =
     (p : Fields) × (script : Text) × IsPlanOf (plan_told told names) p
     × IsScriptOf told names script × IsScriptFile p script text p.shape
 
--- why the lines of a script give no file: memory ran out; or a line is refused, since it is no text,
--- or as the first that is not done
-abbrev pub IsLineError : Fields → Text → ScriptError → Type 0
-IsLineError p script (script_error.Command end) = end ≡ command_error.Memory
-IsLineError p script (script_error.AtLine line) =
-    IsNotText script (script_error.AtLine line)
-    ⊎ StopsInShape p script p.shape (script_error.AtLine line)
-
--- why there is no file of the events of a script: plan or script can't be read, or memory ran out;
--- or the plan was read, and a line is refused
-abbrev pub IsScriptError : (Text → Option Telling) → Text × Text → ScriptError → Type 0
-IsScriptError told names (script_error.Command end) =
-    (end ≡ command_error.Memory) ⊎ IsUnread told names end
-IsScriptError told names (script_error.AtLine line) =
-    (p : Fields) × (script : Text) × IsPlanOf (plan_told told names) p
-    × IsScriptOf told names script × IsLineError p script (script_error.AtLine line)
+-- why the lines of a script give no file: memory ran out, or a line is refused
+abbrev pub IsLineError : ScriptError → Type 0
+IsLineError (script_error.Command end) = end ≡ command_error.Memory
+IsLineError (script_error.AtLine line) = ⊤
 
 -- why a text was not printed: memory ran out, or the output refused, which one that takes all bytes
 -- never does

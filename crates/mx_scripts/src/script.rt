@@ -2,15 +2,16 @@
 
 ghost use Rattle.std.specs.Prelude.{◌≡◌, ◌⊎◌, List, [], string_bytes, IfErr, IfOk, OnOk};
 ghost use Rattle.std.specs.Str.Lines.{lines};
+ghost use Rattle.mx_scripts.specs.Files.{file_text};
 ghost use Rattle.mx_scripts.specs.Lines.{Does, DoesAll, DoesText, IsNotDone, Misreads, Performs, Reads, StopsAfter, StopsBy, StopsWithin};
-ghost use Rattle.mx_scripts.specs.ScriptFiles.{IsFileOfScript, IsScriptFailure, IsScriptFile};
+ghost use Rattle.mx_scripts.specs.Played.{events_of};
+ghost use Rattle.mx_scripts.specs.ScriptFiles.{IsFileOfScript, IsScriptFile};
 ghost use Rattle.mx_scripts.specs.States.{before_any};
 ghost use Rattle.mx_scripts.specs.declared.session_event.SessionEvent.{SessionEvent};
 
 use crate::files::file_of;
 use crate::script_error::{LineFailure, ScriptError};
 use crate::state::State;
-use mx_cli::CommandError;
 use mx_commands::by_shape;
 use mx_lines::{Line, LineFault, Order, read_line, words_in};
 use mx_nodelaws::Exclusion;
@@ -19,33 +20,43 @@ use std::alloc::Global;
 
 /// The file of the events of a script, by the plan's algorithm.
 pub(crate) fn script_file(alloc: Global, plan: &Plan, script: &str) -> Result<String, ScriptError>
-    ensures ok { IfOk result (λ text.
+    ensures { IfOk result (λ text.
         IsScriptFile plan.now script.now (string_bytes text) plan.now.shape) }
-    ensures err { IfErr result (IsScriptFailure plan.now script.now plan.now.shape) }
 {
-    by_shape!(
-        alloc,
-        plan,
-        |cluster| file_of_script(alloc, plan, State::of(alloc, cluster), script)
-    )
+    by_shape!(alloc, plan, |cluster| {
+        let mut state = State::of(alloc, cluster);
+        file_of_script(alloc, plan, script, &mut state)
+    })
 }
 
-/// Does the lines from before any parcel was sent; then makes the file of what happened.
+/// The file of what the lines do, from before any parcel was sent.
 fn file_of_script<C: Exclusion>(
     alloc: Global,
     plan: &Plan,
-    mut state: State<C>,
     script: &str,
+    state: &mut State<C>,
 ) -> Result<String, ScriptError>
-    requires fresh { state ≡ before_any state.cluster }
-    requires empty { state.cluster.trace ≡ [] }
-    ensures ok { IfOk result (λ text.
-        IsFileOfScript C.core plan.now state.cluster script.now (string_bytes text)) }
-    ensures err { IfErr result (λ error. (error ≡ ScriptError.Command CommandError.Memory)
-        ⊎ StopsBy C.core plan.now (lines script.now) (before_any state.cluster) error) }
+    requires fresh { state.old ≡ before_any state.old.cluster }
+    requires empty { state.old.cluster.trace ≡ [] }
+    ensures { IfOk result (λ text.
+        IsFileOfScript C.core plan.now state.old.cluster script.now (string_bytes text)) }
 {
-    do_script(alloc, plan, script, &mut state)?;
-    let text = file_of(alloc, plan, state.cluster().trace())?;
+    file_after(alloc, plan, script, state)
+}
+
+/// Does the lines; then makes the file of all that has happened.
+fn file_after<C: Exclusion>(
+    alloc: Global,
+    plan: &Plan,
+    script: &str,
+    state: &mut State<C>,
+) -> Result<String, ScriptError>
+    ensures does { OnOk result (DoesAll C.core plan.now (lines script.now) state.old state.new) }
+    ensures file { IfOk result (λ text.
+        string_bytes text ≡ file_text plan.now (events_of state.new.cluster.trace)) }
+{
+    do_script(alloc, plan, script, state)?;
+    let text = file_of(alloc, plan, state.trace())?;
     Ok(text)
 }
 

@@ -1,11 +1,11 @@
 //! How a script ends, and how that is told.
 
-ghost use Rattle.std.specs.Prelude.{◌≡◌, ◌⊎◌, ◌&&◌, false, string_bytes, IfErr, IfOk};
+ghost use Rattle.std.specs.Prelude.{◌≡◌, ◌&&◌, false, string_bytes, IfErr, IfOk};
 ghost use Rattle.std.specs.Io.KnownBytes.{Keeps};
 ghost use Rattle.mx_cli.specs.Closed.{IsRunStatus, PassesOn};
 ghost use Rattle.mx_cli.specs.Words.{names_of};
 ghost use Rattle.mx_scripts.specs.Ended.{ClosesScript, IsFileOfNames, IsScriptError, IsLineError};
-ghost use Rattle.mx_scripts.specs.ScriptFiles.{IsNotText, IsScriptFailure, IsScriptFile};
+ghost use Rattle.mx_scripts.specs.ScriptFiles.{IsScriptFile};
 
 use crate::script::script_file;
 use crate::script_error::ScriptError;
@@ -36,7 +36,7 @@ pub fn file_of_names<S: Source>(
 fn file_of_bytes(alloc: Global, plan: &Plan, script: &[u8]) -> Result<String, ScriptError>
     ensures ok { IfOk result (λ text.
         IsScriptFile plan.now script.now (string_bytes text) plan.now.shape) }
-    ensures err { IfErr result (IsLineError plan.now script.now) }
+    ensures err { IfErr result IsLineError }
 {
     match file_of_text(alloc, plan, script) {
         Ok(file) => Ok(file),
@@ -46,10 +46,8 @@ fn file_of_bytes(alloc: Global, plan: &Plan, script: &[u8]) -> Result<String, Sc
 }
 
 fn file_of_text(alloc: Global, plan: &Plan, script: &[u8]) -> Result<String, ScriptError>
-    ensures ok { IfOk result (λ text.
+    ensures { IfOk result (λ text.
         IsScriptFile plan.now script.now (string_bytes text) plan.now.shape) }
-    ensures err { IfErr result (λ error. IsNotText script.now error
-        ⊎ IsScriptFailure plan.now script.now plan.now.shape error) }
 {
     let text = text_in(alloc, script)?;
     script_file(alloc, plan, text)

@@ -8,7 +8,7 @@ use crate::in_flight::InFlight;
 use crate::script_error::LineFailure;
 use crate::session_event::SessionEvent;
 use mx_lines::LinkChange;
-use mx_network::{Cluster, Event};
+use mx_network::{Cluster, Entry, Event};
 use mx_nodelaws::Exclusion;
 use std::alloc::Global;
 use std::marker::Model;
@@ -43,6 +43,13 @@ impl<C: Exclusion> State<C> {
         ensures { result.now ≡ self.now.cluster }
     {
         &self.cluster
+    }
+
+    /// The events so far, with their outcomes.
+    pub(crate) fn trace(&self) -> &[Entry]
+        ensures { result.now ≡ self.now.cluster.trace }
+    {
+        self.cluster.trace()
     }
 
     /// Whether a parcel was neither delivered nor lost.

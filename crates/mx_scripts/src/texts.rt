@@ -1,7 +1,6 @@
 //! The text of a script.
 
-ghost use Rattle.std.specs.Prelude.{◌≡◌, IfErr, IfOk};
-ghost use Rattle.mx_scripts.specs.ScriptFiles.{IsNotText};
+ghost use Rattle.std.specs.Prelude.{◌≡◌, IfOk};
 
 use crate::script_error::{RefusedLine, ScriptError};
 use mx_lines::LineFault;
@@ -11,8 +10,7 @@ use std::str;
 /// The text that bytes are. Where they are not in UTF-8, the line of the first that is not is at
 /// fault.
 pub(crate) fn text_in(alloc: Global, bytes: &[u8]) -> Result<&str, ScriptError>
-    ensures ok { IfOk result (λ text. text.now ≡ bytes.now) }
-    ensures err { IfErr result (IsNotText bytes.now) }
+    ensures { IfOk result (λ text. text.now ≡ bytes.now) }
 {
     match str::from_utf8(bytes) {
         Ok(text) => Ok(text),
