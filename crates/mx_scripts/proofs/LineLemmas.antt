@@ -1,5 +1,5 @@
 -- What the lines of a script do.
-use Rattle.std.proofs.Common.{◌≡◌, ◌≤◌, ◌<◌, ◌∙◌, ℕ, zero, suc, List, [], ◌∷◌, ◌++◌, Option, Some, None, Result, Ok, Err, OnOk, IfOk, IfSome, length, add-one, ◌+◌, ◌-◌, refl, sym, ap, subst, arith, get_or, inl, inr, slice_get, take, ◌⊎◌}
+use Rattle.std.proofs.Common.{◌≡◌, ◌≤◌, ◌<◌, ◌∙◌, ℕ, zero, suc, List, [], ◌∷◌, ◌++◌, Option, Some, None, Result, Ok, Err, OnOk, IfOk, IfSome, length, add-one, ◌+◌, ◌-◌, refl, sym, ap, subst, arith, get_or, inl, inr, take, ◌⊎◌}
 use Rattle.std.specs.Prelude.{IfErr, IsErrAnd, IsTrue}
 use Rattle.std.specs.Borrow.{Bor}
 use Rattle.std.proofs.lemmas.List.{length-append, length-map, map-append}
@@ -14,15 +14,13 @@ use Rattle.mx_events.specs.declared.event.Event.{Event}
 use Rattle.mx_events.specs.declared.event.Event.TheVariants.{Deliver}
 use Rattle.mx_plan.specs.Text.{Text}
 use Rattle.mx_plan.specs.Fields.{Fields}
-use Rattle.mx_explorer.specs.Drawn.{IsDrawn}
 use Rattle.mx_lines.specs.Names.{known_of, texts_of}
 use Rattle.mx_lines.specs.declared.lines.Line.{Line}
 use Rattle.mx_lines.specs.declared.orders.Order.{Order}
 use Rattle.mx_lines.specs.declared.orders.Order.TheVariants as order
-use Rattle.mx_lines.specs.declared.orders.Scope.{Scope}
 use Rattle.mx_lines.specs.declared.orders.Scope.TheVariants.{Link}
-use Rattle.mx_scripts.specs.Fates.{Fates, is_waiting, is_under_way}
-use Rattle.mx_scripts.specs.Lines.{Does, DoesAll, DoesIfSome, DoesText, IsNext, Once, Performs, IsNotDone, Misreads, Reads, Repeats, StopsAfter, StopsAt, StopsWithin}
+use Rattle.mx_scripts.specs.Fates.{Fates, is_under_way}
+use Rattle.mx_scripts.specs.Lines.{DoesAll, DoesIfSome, DoesText, IsNext, Once, Performs, IsNotDone, Misreads, Reads, Repeats, StopsAfter, StopsAt, StopsWithin}
 use Rattle.mx_scripts.specs.Files.{file_text}
 use Rattle.mx_scripts.specs.Played.{Plays, events_of}
 use Rattle.mx_scripts.specs.ScriptFiles.{IsFileOfScript}
