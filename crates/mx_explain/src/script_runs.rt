@@ -44,28 +44,26 @@ fn run_by_shape(
     script: &str,
     refused: Option<&RefusedLine>,
 ) -> Result<(), AllocError> {
-    by_shape!(
-        lines.alloc(),
-        plan,
-        |cluster| run_all(lines, plan, cluster, script, refused)
-    )
+    by_shape!(lines.alloc(), plan, |cluster| {
+        let mut state = State::of(lines.alloc(), cluster);
+        run_all(lines, plan, &mut state, script, refused)
+    })
 }
 
 /// Does each line in turn, up to the first that cannot be done; then reports why it cannot.
 fn run_all<C: Exclusion + Knowledge>(
     lines: &mut FileReport<'_>,
     plan: &Plan,
-    cluster: Cluster<C>,
+    state: &mut State<C>,
     script: &str,
     refused: Option<&RefusedLine>,
 ) -> Result<(), AllocError>
 where
     C::Msg: Letter,
 {
-    let mut state = State::of(lines.alloc(), cluster);
-    run_lines(lines, plan, &mut state, script)?;
+    run_lines(lines, plan, state, script)?;
     match refused {
-        Some(line) => report_refused(lines, plan, &state, line),
+        Some(line) => report_refused(lines, plan, state, line),
         None => Ok(()),
     }
 }
