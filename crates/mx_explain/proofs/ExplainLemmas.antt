@@ -19,8 +19,8 @@ use Rattle.mx_cli.specs.Reports.{MayReport}
 use Rattle.mx_cli.specs.Closed.{Closes, FallsShort}
 use Rattle.mx_commands.proofs.JobLemmas.{of_jobs}
 use Rattle.mx_cli.proofs.OutputLemmas.{Appends-keeps, Appends-nil}
-use Rattle.mx_scripts.specs.declared.halts.Halt.TheVariants as halt
-use Rattle.mx_scripts.specs.Ended.{EndsScript, IsFileOfNames, IsPrintHalt}
+use Rattle.mx_scripts.specs.declared.script_error.ScriptError.TheVariants as script_error
+use Rattle.mx_scripts.specs.Ended.{EndsScript, IsFileOfNames, IsPrintError}
 use Rattle.mx_scripts.proofs.EndedLemmas.{short_script}
 use Rattle.mx_explain.specs.Asked.{Matter, run, script}
 use Rattle.mx_explain.specs.Explained.{EndsAs, Explains, ExplainsMatter, FailsToPrint}
@@ -129,9 +129,9 @@ short_matter t u told (run request) old new status m = short_explains (t && u) t
 short_matter t u told (script names) old new status m = short_script t u told names old new status m
 
 -- an explanation that is not printed
-pub fails_halts : (t : Bool) (s : CommandError) → FailsToPrint t s → IsPrintHalt t (halt.Command s)
-fails_halts t s (inl h) = inl (ap halt.Command h)
-fails_halts t s (inr h) = inr (ap halt.Command h.0, h.1)
+pub fails_as_error : (t : Bool) (s : CommandError) → FailsToPrint t s → IsPrintError t (script_error.Command s)
+fails_as_error t s (inl h) = inl (ap script_error.Command h)
+fails_as_error t s (inr h) = inr (ap script_error.Command h.0, h.1)
 
 -- a script whose file nobody reads
 pub file_is_there : (told : Text → Option Telling) (names : Text × Text) (takes : Bool) (text : Text) → IsFileOfNames told names text → EndsScript takes told names (Ok 0)

@@ -9,8 +9,8 @@ use Rattle.mx_cli.specs.declared.faults.CommandError.TheVariants as command_erro
 use Rattle.mx_cli.specs.Reports.{MayReport, ReportsFault}
 use Rattle.mx_cli.specs.Closed.{Closes, FallsShort}
 use Rattle.mx_cli.proofs.OutputLemmas.{Appends-keeps, Appends-nil, Keeps-refl}
-use Rattle.mx_scripts.specs.declared.halts.Halt.{Halt}
-use Rattle.mx_scripts.specs.declared.halts.Halt.TheVariants as halt
+use Rattle.mx_scripts.specs.declared.script_error.ScriptError.{ScriptError}
+use Rattle.mx_scripts.specs.declared.script_error.ScriptError.TheVariants as script_error
 use Rattle.mx_scripts.specs.Ended.{ClosesScript}
 use Rattle.mx_diagnostics.specs.Reports.{AreShown, last_line, nothing_at_fault}
 use Rattle.mx_explain.specs.Explained.{Prints, PrintsReport, TellsLines}
@@ -82,10 +82,10 @@ module _ (t : Bool) (out out' err err' : Held) (status : ℕ) where
   tells_run names (Ok v) zero p h = tells_ok CommandError v zero p h
   tells_run names (Err s) zero p h = tells_err s (stop_not names s h) p
 
-  tells_halt : (names : Text × Text) (res : Result ℕ Halt) → IfOk res (λ v. v ≡ 0) → Prints out out' res → ClosesScript t names res err err' status → TellsLines t out out' err err' status
-  tells_halt names (Ok v) zero p h = tells_ok Halt v zero p h
-  tells_halt names (Err (halt.Command s)) zero p h = tells_err (halt.Command s) (stop_not names s h) p
-  tells_halt names (Err (halt.AtLine line)) zero p h = tells_err (halt.AtLine line) (line_not _ h) p
+  tells_error : (names : Text × Text) (res : Result ℕ ScriptError) → IfOk res (λ v. v ≡ 0) → Prints out out' res → ClosesScript t names res err err' status → TellsLines t out out' err err' status
+  tells_error names (Ok v) zero p h = tells_ok ScriptError v zero p h
+  tells_error names (Err (script_error.Command s)) zero p h = tells_err (script_error.Command s) (stop_not names s h) p
+  tells_error names (Err (script_error.AtLine line)) zero p h = tells_err (script_error.AtLine line) (line_not _ h) p
 
 keeps_prints : {T E : Type 0} (out mid out' : Held) (res : Result T E) → Prints out mid res → Keeps mid out' → Prints out out' res
 keeps_prints out mid out' res p keeps = (p.0, Appends-keeps out mid out' p.0 p.1 keeps, p.2, p.3)
@@ -95,9 +95,9 @@ pub tells_closed : (t : Bool) (names : Text × Text) (out mid out' err err' : He
     → Closes t names res err err' status → TellsLines t out out' err err' status
 tells_closed t names out mid out' err err' status res zero p keeps h = tells_run t out out' err err' status names res zero (keeps_prints out mid out' res p keeps) h
 
-pub tells_script : (t : Bool) (names : Text × Text) (out mid out' err err' : Held) (status : ℕ) (res : Result ℕ Halt) → IfOk res (λ v. v ≡ 0) → Prints out mid res → Keeps mid out'
+pub tells_script : (t : Bool) (names : Text × Text) (out mid out' err err' : Held) (status : ℕ) (res : Result ℕ ScriptError) → IfOk res (λ v. v ≡ 0) → Prints out mid res → Keeps mid out'
     → ClosesScript t names res err err' status → TellsLines t out out' err err' status
-tells_script t names out mid out' err err' status res zero p keeps h = tells_halt t out out' err err' status names res zero (keeps_prints out mid out' res p keeps) h
+tells_script t names out mid out' err err' status res zero p keeps h = tells_error t out out' err err' status names res zero (keeps_prints out mid out' res p keeps) h
 
 -- memory ran out before anything was printed
 pub tells_short : (t : Bool) (out out' err err' : Held) (status : ℕ) → status ≡ 5 → Keeps out out' → TellsLines t out out' err err' status

@@ -11,7 +11,7 @@ use mx_diagnostics::{
     explain_script_text,
 };
 use mx_io::{Refusal, Source};
-use mx_scripts::BadLine;
+use mx_scripts::RefusedLine;
 use std::alloc::AllocError;
 
 /// What comes with a plan. Where both were read they can run.
@@ -23,7 +23,7 @@ pub(crate) enum Second<'a> {
     /// A script, of which this line is refused.
     Script {
         is_read: bool,
-        refused: Option<&'a BadLine>,
+        refused: Option<&'a RefusedLine>,
     },
 }
 

@@ -1,14 +1,14 @@
 //! Why a line of a script is refused once it is done.
 
 use mx_diagnostics::FileReport;
-use mx_scripts::BadLine;
+use mx_scripts::RefusedLine;
 use std::alloc::AllocError;
 use std::fmt;
 
 /// Tells why a line is refused whose words are as they should be. Of others that was told before.
 pub(crate) fn explain_refused(
     lines: &mut FileReport<'_>,
-    line: &BadLine,
+    line: &RefusedLine,
 ) -> Result<(), AllocError> {
     if line.is_unread {
         return Ok(());
@@ -18,7 +18,7 @@ pub(crate) fn explain_refused(
 
 /// A line that is refused.
 #[derive(Clone, Copy)]
-struct Refused<'a>(&'a BadLine);
+struct Refused<'a>(&'a RefusedLine);
 
 impl fmt::Display for Refused<'_> {
     fn fmt<W: fmt::Write>(&self, f: &mut fmt::Formatter<W>) -> fmt::Result {

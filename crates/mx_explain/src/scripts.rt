@@ -14,7 +14,7 @@ use crate::files::{Second, explain_both};
 use mx_cli::{CommandError, Fault, Names};
 use mx_diagnostics::Report;
 use mx_io::{Output, Source};
-use mx_scripts::{BadLine, Halt, close_script, file_of_names};
+use mx_scripts::{RefusedLine, ScriptError, close_script, file_of_names};
 use std::alloc::{AllocError, Global};
 
 /// Tells how a script ends, and prints what is wrong in it. Returns the status.
@@ -43,7 +43,7 @@ fn end_and_explain<S: Source + Reasons, O: Output>(
     names: &Names<'_>,
     source: &mut S,
     out: &mut O,
-) -> Result<u8, Halt>
+) -> Result<u8, ScriptError>
     ensures ends { EndsScript (O.takes_all out.old) (S.told source.old)
         (names_of names.now) result }
     ensures prints { Prints (O.written out.old) (O.written out.new) result }
@@ -53,19 +53,19 @@ fn end_and_explain<S: Source + Reasons, O: Output>(
     let ended = end_of(alloc, names, source);
     match print_end(alloc, names, &ended, source, out) {
         Ok(()) => ended,
-        Err(stop) => Err(Halt::Command(stop)),
+        Err(stop) => Err(ScriptError::Command(stop)),
     }
 }
 
 /// How a script ends whose file nobody reads.
-fn end_of<S: Source>(alloc: Global, names: &Names<'_>, source: &mut S) -> Result<u8, Halt>
+fn end_of<S: Source>(alloc: Global, names: &Names<'_>, source: &mut S) -> Result<u8, ScriptError>
     ensures ends { (takes : Bool) → EndsScript takes (S.told source.old)
         (names_of names.now) result }
     ensures zero { IfOk result (λ status. status ≡ 0) }
 {
     match file_of_names(alloc, names, source) {
         Ok(_file) => Ok(0),
-        Err(halt) => Err(halt),
+        Err(error) => Err(error),
     }
 }
 
@@ -74,7 +74,7 @@ fn end_of<S: Source>(alloc: Global, names: &Names<'_>, source: &mut S) -> Result
 fn print_end<S: Source + Reasons, O: Output>(
     alloc: Global,
     names: &Names<'_>,
-    ended: &Result<u8, Halt>,
+    ended: &Result<u8, ScriptError>,
     source: &mut S,
     out: &mut O,
 ) -> Result<(), CommandError>
@@ -85,11 +85,11 @@ fn print_end<S: Source + Reasons, O: Output>(
 {
     match ended {
         Ok(_) => print_wrong(alloc, names, None, None, source, out),
-        Err(Halt::Command(CommandError::Fault(fault))) => {
+        Err(ScriptError::Command(CommandError::Fault(fault))) => {
             print_wrong(alloc, names, Some(*fault), None, source, out)
         }
-        Err(Halt::AtLine(line)) => print_wrong(alloc, names, None, Some(line), source, out),
-        Err(Halt::Command(_)) => Ok(()),
+        Err(ScriptError::AtLine(line)) => print_wrong(alloc, names, None, Some(line), source, out),
+        Err(ScriptError::Command(_)) => Ok(()),
     }
 }
 
@@ -99,7 +99,7 @@ fn print_wrong<S: Source + Reasons, O: Output>(
     alloc: Global,
     names: &Names<'_>,
     fault: Option<Fault>,
-    line: Option<&BadLine>,
+    line: Option<&RefusedLine>,
     source: &mut S,
     out: &mut O,
 ) -> Result<(), CommandError>
@@ -118,7 +118,7 @@ fn report_of<S: Source + Reasons>(
     alloc: Global,
     names: &Names<'_>,
     fault: Option<Fault>,
-    line: Option<&BadLine>,
+    line: Option<&RefusedLine>,
     source: &mut S,
 ) -> Result<Report, AllocError>
     ensures { IfOk result (λ report.

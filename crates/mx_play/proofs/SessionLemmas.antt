@@ -23,7 +23,7 @@ use Rattle.mx_network.specs.Step.{ClusterState}
 use Rattle.mx_scripts.proofs.FateLemmas.{lost_here, lost_waits}
 use Rattle.mx_scripts.specs.Fates.{Fates, is_waiting, lost}
 use Rattle.mx_scripts.specs.Played.{AreOver}
-use Rattle.mx_scripts.specs.declared.halts.LineStop.{LineStop}
+use Rattle.mx_scripts.specs.declared.script_error.LineFailure.{LineFailure}
 use Rattle.mx_play.specs.Moments.{Brings, CanLead, Leads, Makes, MomentState, first_moment, shown}
 use Rattle.mx_play.specs.Sessions.{Adds, Comes, Extends, HasTalked, HasTurned, IsDone, IsPlayed, IsSession, Loses, LosesOne, Relinks, SaysTurn, SessionState, Talks, Turn, WaitsLess, at_start, events_in, rests, state, undone_in}
 use Rattle.mx_play.specs.declared.happening.Happening.{Happening}
@@ -124,7 +124,7 @@ extends_more d e f x y = record {
 }
 
 -- a parcel that was sought is lost
-pub loses_from : {H S M : Type 0} (core : Core H S M) (r : Result ⊤ LineStop) (k : ℕ) (a a' b : MomentState S M) (d d' : List Happening) → a' ≡ a
+pub loses_from : {H S M : Type 0} (core : Core H S M) (r : Result ⊤ LineFailure) (k : ℕ) (a a' b : MomentState S M) (d d' : List Happening) → a' ≡ a
     → OnOk r (LosesOne core k a' b d d') → OnOk r (Loses core a b d d')
 loses_from {H} {S} {M} core (Ok u) k a a' b d d' same x = record {
   parcel = k;
@@ -174,22 +174,22 @@ module _ {H S M : Type 0} (core : Core H S M) (letter_text : Fields → M → Te
   }
 
   -- a mail that was asked has not changed
-  pub adds_from : (r : Result ⊤ LineStop) (a a' b : MomentState S M) (d d' : List Happening) (t t' : Text) → a' ≡ a → OnOk r (A a' b d d' t t') → OnOk r (A a b d d' t t')
+  pub adds_from : (r : Result ⊤ LineFailure) (a a' b : MomentState S M) (d d' : List Happening) (t t' : Text) → a' ≡ a → OnOk r (A a' b d d' t t') → OnOk r (A a b d d' t t')
   adds_from r a a' b d d' t t' same x = subst (λ (m : MomentState S M). OnOk r (A m b d d' t t')) same x
 
   pub lost_adds : (k : ℕ) (a b : MomentState S M) (d d' : List Happening) (t : Text) → LosesOne core k a b d d' → A a b d d' t t
   lost_adds k a b d d' t x = adds_one (IsLost k) a b d d' t t x.brings x.listed (sym (append_nil t)) (over_none (length p.nodes) (length p.registers))
 
-  pub loss_adds : (r : Result ⊤ LineStop) (a b : MomentState S M) (d d' : List Happening) (t : Text) → OnOk r (Loses core a b d d') → OnOk r (A a b d d' t t)
+  pub loss_adds : (r : Result ⊤ LineFailure) (a b : MomentState S M) (d d' : List Happening) (t : Text) → OnOk r (Loses core a b d d') → OnOk r (A a b d d' t t)
   loss_adds (Ok u) a b d d' t x = lost_adds x.parcel a b d d' t x.joins
   loss_adds (Err fault) a b d d' t x = tt
 
   -- a parcel of those that `all` speaks of is lost
-  pub losses_one : (r : Result ⊤ LineStop) (k : ℕ) (a b : MomentState S M) (d d' : List Happening) → OnOk r (LosesOne core k a b d d') → OnOk r ((t : Text) → A a b d d' t t)
+  pub losses_one : (r : Result ⊤ LineFailure) (k : ℕ) (a b : MomentState S M) (d d' : List Happening) → OnOk r (LosesOne core k a b d d') → OnOk r ((t : Text) → A a b d d' t t)
   losses_one (Ok u) k a b d d' x = λ t. lost_adds k a b d d' t x
   losses_one (Err fault) k a b d d' x = tt
 
-  pub loses_waits : (r : Result ⊤ LineStop) (scope : Scope) (k : ℕ) (a b : MomentState S M) (d d' : List Happening) → OnOk r (LosesOne core k a b d d') → OnOk r (WaitsLess scope k a b)
+  pub loses_waits : (r : Result ⊤ LineFailure) (scope : Scope) (k : ℕ) (a b : MomentState S M) (d d' : List Happening) → OnOk r (LosesOne core k a b d d') → OnOk r (WaitsLess scope k a b)
   loses_waits (Ok u) scope k a b d d' x =
       let sent : b.cluster.sent ≡ a.cluster.sent = ap (λ (g : ClusterState S M). g.sent) x.brings.0 in
       let fates : b.fates ≡ lost k a.fates = x.brings.1 in
@@ -204,11 +204,11 @@ module _ {H S M : Type 0} (core : Core H S M) (letter_text : Fields → M → Te
   pub waits_not : (scope : Scope) (k : ℕ) (a : MomentState S M) → is_waiting a.fates a.cluster.sent scope k ≡ false → WaitsLess scope k a a
   waits_not scope k a e = record { sent = refl; here = e; others = λ j h. h }
 
-  pub losses_add : (r : Result ⊤ LineStop) (a b : MomentState S M) (d d' : List Happening) (t : Text) → OnOk r ((s : Text) → A a b d d' s s) → OnOk r (A a b d d' t t)
+  pub losses_add : (r : Result ⊤ LineFailure) (a b : MomentState S M) (d d' : List Happening) (t : Text) → OnOk r ((s : Text) → A a b d d' s s) → OnOk r (A a b d d' t t)
   losses_add (Ok u) a b d d' t x = x t
   losses_add (Err fault) a b d d' t x = tt
 
-  pub relinked_adds : (r : Result ⊤ LineStop) (change : LinkChange) (a b : MomentState S M) (d d' : List Happening) (t : Text) → OnOk r (Relinks core change a b d d') → OnOk r (A a b d d' t t)
+  pub relinked_adds : (r : Result ⊤ LineFailure) (change : LinkChange) (a b : MomentState S M) (d d' : List Happening) (t : Text) → OnOk r (Relinks core change a b d d') → OnOk r (A a b d d' t t)
   relinked_adds (Ok u) change a b d d' t x =
       adds_one (LinksChange change) a b d d' t t x.brings x.listed (sym (append_nil t)) (over_none (length p.nodes) (length p.registers))
   relinked_adds (Err fault) change a b d d' t x = tt

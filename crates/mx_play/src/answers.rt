@@ -19,7 +19,7 @@ use mx_knowledge::Knowledge;
 use mx_lines::{Line, SessionCommand};
 use mx_nodelaws::Exclusion;
 use mx_plan::Plan;
-use mx_scripts::LineStop;
+use mx_scripts::LineFailure;
 use std::alloc::{AllocError, Global};
 
 /// Does what a line asks for, and adds what is printed of it. Where it can't be done, nothing
@@ -122,7 +122,7 @@ where
             session.undone.clear();
             Ok(None)
         }
-        Err(LineStop::Memory) => Err(AllocError),
+        Err(LineFailure::Memory) => Err(AllocError),
         Err(stop) => {
             take_to(alloc, plan, shape, before, session)?;
             text.clear();

@@ -6,7 +6,7 @@ ghost use Rattle.mx_play.specs.Cuts.{cut_line, cut_lines, cut_lines_of, cut_text
 use crate::showing::is_to;
 use mx_format::name_of;
 use mx_plan::Plan;
-use mx_scripts::Mail;
+use mx_scripts::InFlight;
 use mx_stamps::{MAX_NODES, NodeId};
 use std::alloc::AllocError;
 use std::fmt;
@@ -33,7 +33,7 @@ impl fmt::Display for CutLine<'_> {
 pub(crate) fn add_cuts(
     plan: &Plan,
     to: &Option<NodeId>,
-    mail: &Mail,
+    mail: &InFlight,
     text: &mut String,
 ) -> Result<(), AllocError>
     ensures { OnOk result (string_bytes text.new ≡ string_bytes text.old
@@ -49,7 +49,7 @@ pub(crate) fn add_cuts(
 fn add_cuts_of(
     plan: &Plan,
     to: &Option<NodeId>,
-    mail: &Mail,
+    mail: &InFlight,
     i: u8,
     text: &mut String,
 ) -> Result<(), AllocError>
@@ -68,7 +68,7 @@ fn add_cuts_of(
 fn add_cut(
     plan: &Plan,
     to: &Option<NodeId>,
-    mail: &Mail,
+    mail: &InFlight,
     i: u8,
     j: u8,
     text: &mut String,
@@ -87,7 +87,7 @@ fn add_cut(
 fn add_if_shown(
     plan: &Plan,
     to: &Option<NodeId>,
-    mail: &Mail,
+    mail: &InFlight,
     one: NodeId,
     other: NodeId,
     text: &mut String,
@@ -102,7 +102,7 @@ fn add_if_shown(
 }
 
 /// Whether a link is cut, and has the node that is named at one end, if one is.
-fn is_shown(to: &Option<NodeId>, mail: &Mail, one: NodeId, other: NodeId) -> bool
+fn is_shown(to: &Option<NodeId>, mail: &InFlight, one: NodeId, other: NodeId) -> bool
     ensures { result ≡ is_shown to.now mail.now.links one other }
 {
     mail.is_cut(one, other) && (is_to(to, one) || is_to(to, other))

@@ -2,7 +2,7 @@
 
 use mx_lines::{FirstWords, LineFault};
 use mx_plan::Plan;
-use mx_scripts::{LineStop, message_of};
+use mx_scripts::{LineFailure, message_of};
 use std::alloc::{AllocError, Global};
 use std::{fmt, str};
 
@@ -12,7 +12,7 @@ pub(crate) enum Complaint {
     /// It is not in UTF-8.
     NotText,
     /// One of its words is wrong, or what it asks for can't be done.
-    Line(LineStop),
+    Line(LineFailure),
     /// It has more than 65,536 bytes.
     TooLong,
     /// So many lines were done, and more are to be taken back.

@@ -15,7 +15,7 @@ use mx_lines::{LineFault, LinkChange, Scope};
 use mx_network::{Cluster, Event, StepFault};
 use mx_nodelaws::Exclusion;
 use mx_plan::Plan;
-use mx_scripts::{LineStop, Mail};
+use mx_scripts::{InFlight, LineFailure};
 use mx_stamps::NodeId;
 use std::alloc::{AllocError, Global};
 use std::marker::Model;
@@ -24,7 +24,7 @@ use std::marker::Model;
 #[derive(Drop)]
 pub(crate) struct Moment<C: Exclusion> {
     cluster: Cluster<C>,
-    mail: Mail,
+    mail: InFlight,
 }
 
 impl<C: Exclusion> Model for Moment<C> {
@@ -42,7 +42,7 @@ impl<C: Exclusion> Moment<C> {
     {
         Ok(Moment {
             cluster: start(alloc, plan, shape)?,
-            mail: Mail::new(alloc),
+            mail: InFlight::new(alloc),
         })
     }
 
@@ -60,7 +60,7 @@ impl<C: Exclusion> Moment<C> {
     }
 
     /// Which parcels are under way, and which links are cut.
-    pub(crate) fn mail(&self) -> &Mail
+    pub(crate) fn mail(&self) -> &InFlight
         ensures { result.now ≡ self.now.fates }
     {
         &self.mail
@@ -108,7 +108,7 @@ impl<C: Exclusion> Moment<C> {
         plan: &Plan,
         event: &Event,
         text: &mut String,
-    ) -> Result<(), LineStop>
+    ) -> Result<(), LineFailure>
     where
         C::Msg: Letter,
         requires names { NamesNodes (length self.old.cluster.members) event.now }
@@ -157,7 +157,7 @@ fn add_event<C: Exclusion>(
     event: &Event,
     cluster: &mut Cluster<C>,
     text: &mut String,
-) -> Result<(), LineStop>
+) -> Result<(), LineFailure>
 where
     C::Msg: Letter,
     requires { NamesNodes (length cluster.old.members) event.now }
@@ -170,8 +170,8 @@ where
     let index = cluster.trace().len() as u64;
     match step(plan, index, event, cluster, &mut one) {
         Ok(()) => Ok(text.push_str(one.as_str())?),
-        Err(CommandError::Memory) => Err(LineStop::Memory),
-        Err(_) => Err(LineStop::Undone(LineFault::NoParcel)),
+        Err(CommandError::Memory) => Err(LineFailure::Memory),
+        Err(_) => Err(LineFailure::Refused(LineFault::NoParcel)),
     }
 }
 

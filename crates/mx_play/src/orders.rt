@@ -15,7 +15,7 @@ use mx_lines::{Line, LineFault, LinkChange, Order, Scope};
 use mx_network::Event;
 use mx_nodelaws::Exclusion;
 use mx_plan::Plan;
-use mx_scripts::LineStop;
+use mx_scripts::LineFailure;
 use mx_stamps::{MAX_EVENTS, NodeId};
 use std::alloc::Global;
 
@@ -28,7 +28,7 @@ pub(crate) fn repeat<C: Exclusion>(
     moment: &mut Moment<C>,
     done: &mut Vec<Happening>,
     text: &mut String,
-) -> Result<(), LineStop>
+) -> Result<(), LineFailure>
 where
     C::Msg: Letter,
     requires members { length moment.old.cluster.members ≡ length plan.now.nodes }
@@ -51,7 +51,7 @@ fn obey<C: Exclusion>(
     moment: &mut Moment<C>,
     done: &mut Vec<Happening>,
     text: &mut String,
-) -> Result<(), LineStop>
+) -> Result<(), LineFailure>
 where
     C::Msg: Letter,
     requires members { length moment.old.cluster.members ≡ length plan.now.nodes }
@@ -101,7 +101,7 @@ fn happen<C: Exclusion>(
     moment: &mut Moment<C>,
     done: &mut Vec<Happening>,
     text: &mut String,
-) -> Result<(), LineStop>
+) -> Result<(), LineFailure>
 where
     C::Msg: Letter,
     requires members { length moment.old.cluster.members ≡ length plan.now.nodes }
@@ -111,10 +111,10 @@ where
     ensures err { OnErr result (Extends done.old.items done.new.items) }
 {
     if moment.cluster().trace().len() >= MAX_EVENTS {
-        return Err(LineStop::Undone(LineFault::TooMany));
+        return Err(LineFailure::Refused(LineFault::TooMany));
     }
     if !moment.can_pass(event) {
-        return Err(LineStop::Undone(LineFault::LinkCut));
+        return Err(LineFailure::Refused(LineFault::LinkCut));
     }
     moment.happen(alloc, plan, event, text)?;
     done.push(Happening::Happens(*event))?;
@@ -130,7 +130,7 @@ fn arrive<C: Exclusion>(
     moment: &mut Moment<C>,
     done: &mut Vec<Happening>,
     text: &mut String,
-) -> Result<(), LineStop>
+) -> Result<(), LineFailure>
 where
     C::Msg: Letter,
     requires members { length moment.old.cluster.members ≡ length plan.now.nodes }
@@ -140,7 +140,7 @@ where
 {
     match number {
         Some(number) => happen(alloc, plan, &Event::Deliver(number), moment, done, text),
-        None => Err(LineStop::Undone(fault)),
+        None => Err(LineFailure::Refused(fault)),
     }
 }
 
@@ -153,7 +153,7 @@ fn all_arrive<C: Exclusion>(
     moment: &mut Moment<C>,
     done: &mut Vec<Happening>,
     text: &mut String,
-) -> Result<(), LineStop>
+) -> Result<(), LineFailure>
 where
     C::Msg: Letter,
     requires members { length moment.old.cluster.members ≡ length plan.now.nodes }
@@ -168,7 +168,7 @@ where
         };
         happen(alloc, plan, &Event::Deliver(number), moment, done, text)?;
     }
-    Err(LineStop::Undone(LineFault::TooMany))
+    Err(LineFailure::Refused(LineFault::TooMany))
 }
 
 /// The oldest parcel under way from one node to another is lost.
@@ -177,12 +177,12 @@ fn lose<C: Exclusion>(
     to: NodeId,
     moment: &mut Moment<C>,
     done: &mut Vec<Happening>,
-) -> Result<(), LineStop>
+) -> Result<(), LineFailure>
     ensures ok { OnOk result (Loses C.core moment.old moment.new done.old.items done.new.items) }
     ensures err { OnErr result (Extends done.old.items done.new.items) }
 {
     let Some(number) = moment.oldest_between(from, to) else {
-        return Err(LineStop::Undone(LineFault::NotUnderWay));
+        return Err(LineFailure::Refused(LineFault::NotUnderWay));
     };
     lose_one(number, moment, done)
 }
@@ -192,7 +192,7 @@ fn lose_one<C: Exclusion>(
     number: u64,
     moment: &mut Moment<C>,
     done: &mut Vec<Happening>,
-) -> Result<(), LineStop>
+) -> Result<(), LineFailure>
     requires { IsTrue (is_under_way moment.old.fates number) }
     ensures ok { OnOk result (LosesOne C.core number moment.old moment.new done.old.items
         done.new.items) }
@@ -209,7 +209,7 @@ fn lose_all<C: Exclusion>(
     scope: &Scope,
     moment: &mut Moment<C>,
     done: &mut Vec<Happening>,
-) -> Result<(), LineStop>
+) -> Result<(), LineFailure>
 where
     C::Msg: Letter,
     ensures ok { OnOk result ((t : Text) → Adds C.core (letter_text C.Msg.parts) plan.now
@@ -230,7 +230,7 @@ fn lose_if_waiting<C: Exclusion>(
     number: u64,
     moment: &mut Moment<C>,
     done: &mut Vec<Happening>,
-) -> Result<(), LineStop>
+) -> Result<(), LineFailure>
 where
     C::Msg: Letter,
     ensures ok { OnOk result ((t : Text) → Adds C.core (letter_text C.Msg.parts) plan.now
@@ -249,7 +249,7 @@ fn change_links<C: Exclusion>(
     change: &LinkChange,
     moment: &mut Moment<C>,
     done: &mut Vec<Happening>,
-) -> Result<(), LineStop>
+) -> Result<(), LineFailure>
     ensures ok { OnOk result (Relinks C.core change.now moment.old moment.new done.old.items
         done.new.items) }
     ensures err { OnErr result (Extends done.old.items done.new.items) }

@@ -18,7 +18,7 @@ use mx_knowledge::Knowledge;
 use mx_lines::{SessionCommand, read_command, words_in};
 use mx_nodelaws::Exclusion;
 use mx_plan::Plan;
-use mx_scripts::LineStop;
+use mx_scripts::LineFailure;
 use std::alloc::{AllocError, Global};
 use std::str;
 
@@ -160,7 +160,7 @@ fn heard_in_text(alloc: Global, plan: &Plan, text: &str) -> Result<Heard, Comman
     let words = words_in(alloc, text)?;
     match read_command(plan, words.as_slice()) {
         Ok(command) => Ok(Heard::Command(command)),
-        Err(error) => Ok(Heard::Fault(Complaint::Line(LineStop::Unread(error)))),
+        Err(error) => Ok(Heard::Fault(Complaint::Line(LineFailure::WrongWord(error)))),
     }
 }
 

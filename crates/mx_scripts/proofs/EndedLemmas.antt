@@ -14,10 +14,10 @@ use Rattle.mx_io.specs.Outputs.{Held}
 use Rattle.mx_io.specs.Told.{Telling}
 use Rattle.mx_commands.specs.Ran.{Ran}
 use Rattle.mx_commands.specs.Runs.{whole}
-use Rattle.mx_scripts.specs.declared.halts.Halt.{Halt}
-use Rattle.mx_scripts.specs.declared.halts.Halt.TheVariants as halt
-use Rattle.mx_scripts.specs.Ended.{ClosesScript, EndsScript, IsFileOfNames, IsHalt, IsLineHalt, IsPrintHalt, ScriptsOf}
-use Rattle.mx_scripts.specs.Played.{IsEventFile}
+use Rattle.mx_scripts.specs.declared.script_error.ScriptError.{ScriptError}
+use Rattle.mx_scripts.specs.declared.script_error.ScriptError.TheVariants as script_error
+use Rattle.mx_scripts.specs.Ended.{ClosesScript, EndsScript, IsFileOfNames, IsScriptError, IsLineError, IsPrintError, IsScriptOf, ScriptsOf}
+use Rattle.mx_scripts.specs.ScriptFiles.{IsScriptFile}
 use Rattle.mx_scripts.specs.Printed.{HasDone, Scripts}
 use Rattle.mx_scripts.specs.Requests.{Request, draw, walk, script}
 
@@ -25,25 +25,25 @@ use Rattle.mx_scripts.specs.Requests.{Request, draw, walk, script}
 
 module _ (told : Text → Option Telling) (names : Text × Text) where
   -- a file of the plan that was read
-  pub file_read : {T E : Type 0} (bytes : T → Text) (p : Fields) (r : Result T E) → IsPlanOf (plan_told told names) p → IfOk r (λ t. IsEventFile p (bytes t) p.shape)
-      → IfOk r (λ t. IsFileOfNames told names (bytes t))
-  file_read bytes p (Ok t) read h = (p, read, h)
-  file_read bytes p (Err e) read h = tt
+  pub file_read : {T E : Type 0} (bytes : T → Text) (p : Fields) (script : Text) (r : Result T E) → IsPlanOf (plan_told told names) p → IsScriptOf told names script
+      → IfOk r (λ t. IsScriptFile p script (bytes t) p.shape) → IfOk r (λ t. IsFileOfNames told names (bytes t))
+  file_read bytes p lines (Ok t) read of h = (p, lines, read, of, h)
+  file_read bytes p lines (Err e) read of h = tt
 
   -- the lines of a plan that was read give none
-  pub line_halts : {T : Type 0} (p : Fields) (r : Result T Halt) → IsPlanOf (plan_told told names) p → IfErr r IsLineHalt → IfErr r (IsHalt told names)
-  line_halts p (Ok t) read h = tt
-  line_halts p (Err (halt.Command end)) read h = inl h
-  line_halts p (Err (halt.AtLine line)) read h = (p, read)
+  pub line_fails : {T : Type 0} (p : Fields) (r : Result T ScriptError) → IsPlanOf (plan_told told names) p → IfErr r IsLineError → IfErr r (IsScriptError told names)
+  line_fails p (Ok t) read h = tt
+  line_fails p (Err (script_error.Command end)) read h = inl h
+  line_fails p (Err (script_error.AtLine line)) read h = (p, read)
 
   -- the file was printed
   pub file_done : {E : Type 0} (text : Text) (a b : Held) (r : Result ℕ E) → IsFileOfNames told names text → IfOk r (λ _. Appends a b text)
       → IfOk r (λ _. HasDone told (script names) a b)
-  file_done text a b (Ok status) file h = (file.0, file.1, (text, file.2, h))
+  file_done text a b (Ok status) file h = (file.0, file.2, (file.1, text, file.3, file.4, h))
   file_done text a b (Err e) file h = tt
 
   -- and so the script has ended
-  pub file_ends : (takes : Bool) (text : Text) (r : Result ℕ Halt) → IsFileOfNames told names text → IfOk r (λ status. status ≡ 0) → IfErr r (IsPrintHalt takes)
+  pub file_ends : (takes : Bool) (text : Text) (r : Result ℕ ScriptError) → IsFileOfNames told names text → IfOk r (λ status. status ≡ 0) → IfErr r (IsPrintError takes)
       → EndsScript takes told names r
   file_ends takes text (Ok status) file zero fails = (zero, (text, file))
   file_ends takes text (Err h) file zero fails = inr fails
@@ -53,10 +53,10 @@ module _ (told : Text → Option Telling) (names : Text × Text) where
 pub printed_whole : (takes : Bool) (a b : Held) (text file : Text) (status : ℕ) → text ≡ file → Ran takes a b (whole text) (Ok status) → Appends a b file
 printed_whole takes a b text file status is h = subst (λ (x : Text). Appends a b x) (append_nil text ∙ is) h.1
 
-pub print_halts : (takes : Bool) (a b : Held) (text : Text) (s : CommandError) → Ran takes a b (whole text) (Err s) → IsPrintHalt takes (halt.Command s)
-print_halts takes a b text (command_error.Fault fault) h = absurd (let bad : ◌≡◌ {A = Option Fault} None (Some fault) = h.0 in cc)
-print_halts takes a b text command_error.Writer h = inr (refl, h.0)
-print_halts takes a b text command_error.Memory h = inl refl
+pub print_fails : (takes : Bool) (a b : Held) (text : Text) (s : CommandError) → Ran takes a b (whole text) (Err s) → IsPrintError takes (script_error.Command s)
+print_fails takes a b text (command_error.Fault fault) h = absurd (let bad : ◌≡◌ {A = Option Fault} None (Some fault) = h.0 in cc)
+print_fails takes a b text command_error.Writer h = inr (refl, h.0)
+print_fails takes a b text command_error.Memory h = inl refl
 
 -- ---- how it is closed
 
@@ -66,16 +66,16 @@ told_not_zero takes text a b status (inr (inl h)) zero = not_five status h.0 zer
 told_not_zero takes text a b status (inr (inr h)) zero = not_one status h.0 zero
 
 -- a script that is closed with status 0 has done what it had to do
-pub script_closed_done : {D : Type 0} (takes : Bool) (names : Text × Text) (a b : Held) (status : ℕ) (ended : Result ℕ Halt) → IfOk ended (λ _. D)
+pub script_closed_done : {D : Type 0} (takes : Bool) (names : Text × Text) (a b : Held) (status : ℕ) (ended : Result ℕ ScriptError) → IfOk ended (λ _. D)
     → ClosesScript takes names ended a b status → status ≡ 0 → D
 script_closed_done takes names a b status (Ok own) done h zero = closed_done takes names a b status (Ok own) done h zero
-script_closed_done takes names a b status (Err (halt.Command end)) done h zero = closed_done takes names a b status (Err end) tt h zero
-script_closed_done takes names a b status (Err (halt.AtLine line)) done h zero = absurd (told_not_zero takes _ a b status h zero)
+script_closed_done takes names a b status (Err (script_error.Command end)) done h zero = closed_done takes names a b status (Err end) tt h zero
+script_closed_done takes names a b status (Err (script_error.AtLine line)) done h zero = absurd (told_not_zero takes _ a b status h zero)
 
 -- ---- where memory ran out
 
 pub short_script : (t u : Bool) (told : Text → Option Telling) (names : Text × Text) (a b : Held) (status : ℕ) → (status ≡ 5) × MayReport a b → ScriptsOf t u told names a b status
-short_script t u told names a b status m = (Err (halt.Command command_error.Memory), inl (inl refl), inl m)
+short_script t u told names a b status m = (Err (script_error.Command command_error.Memory), inl (inl refl), inl m)
 
 pub short_scripts : (t u : Bool) (told : Text → Option Telling) (request : Request) (a b : Held) (status : ℕ) → (status ≡ 5) × MayReport a b → Scripts t u told request a b status
 short_scripts t u told (draw name seed steps) a b status m = tt

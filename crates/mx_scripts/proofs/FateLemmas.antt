@@ -1,12 +1,12 @@
--- What has become of parcels, from what a mail does.
-use Rattle.std.proofs.Common.{◌≡◌, ◌≤◌, ◌<◌, ◌+◌, ◌-◌, ◌∙◌, ℕ, zero, suc, Bool, true, false, not, List, [], ◌∷◌, ◌++◌, Option, None, get_or, set, length, replicate, slice_get, ap, sym, subst, refl, append_assoc, arith, inl, inr}
+-- What has become of parcels, from what a in_flight does.
+use Rattle.std.proofs.Common.{◌≡◌, ◌≤◌, ◌<◌, ◌+◌, ◌-◌, ◌∙◌, ℕ, zero, suc, Bool, true, false, not, List, [], ◌∷◌, ◌++◌, Option, Some, None, get_or, set, length, replicate, slice_get, ap, sym, subst, refl, append_assoc, arith, inl, inr}
 use Rattle.std.proofs.lemmas.Bool.{cases_eq, cases_lt, true≢false}
 use Rattle.std.proofs.lemmas.List.{length-append}
-use Rattle.std.specs.Prelude.{◌&&◌, IsTrue}
+use Rattle.std.specs.Prelude.{◌&&◌, IfNone, IfSome, IsTrue}
 use Rattle.mx_events.specs.declared.event.Event.{Event}
 use Rattle.mx_events.specs.declared.event.Event.TheVariants as event
 use Rattle.mx_lines.specs.declared.orders.Scope.{Scope}
-use Rattle.mx_scripts.specs.Fates.{Fates, NoneWaits, can_arrive, delivered, grown, is_held, is_in, is_under_way, is_waiting, lost}
+use Rattle.mx_scripts.specs.Fates.{AreGone, Fates, IsFirstFrom, IsOldest, NoneArrives, NoneWaits, can_arrive, delivered, grown, is_held, is_in, is_under_way, is_waiting, lost}
 
 -- one more was sent
 pub grown_more : (sent : ℕ) (gone : List Bool) → length gone < sent → grown sent (gone ++ false ∷ []) ≡ grown sent gone
@@ -68,6 +68,41 @@ still : (g g' w : Bool) → (g ≡ true → g' ≡ true) → (not g && w) ≡ fa
 still true g' w h e = subst (λ (x : Bool). (not x && w) ≡ false) (sym (h refl)) refl
 still false g' w h e = and_right (not g') w e
 
+-- ---- no parcel below a number is under way
+
+true_there : (gone : List Bool) (k : ℕ) → IsTrue (get_or gone k false) → get_or gone k true ≡ true
+true_there [] k h = refl
+true_there (g ∷ gone) zero h = h
+true_there (g ∷ gone) (suc k) h = true_there gone k h
+
+kept_more : (gone : List Bool) (k : ℕ) → IsTrue (get_or gone k false) → IsTrue (get_or (gone ++ false ∷ []) k false)
+kept_more [] zero h = h
+kept_more [] (suc k) h = h
+kept_more (g ∷ gone) zero h = h
+kept_more (g ∷ gone) (suc k) h = kept_more gone k h
+
+kept_set : (gone : List Bool) (n k : ℕ) → IsTrue (get_or gone k false) → IsTrue (get_or (set gone n true) k false)
+kept_set [] n k h = h
+kept_set (g ∷ gone) zero zero h = refl
+kept_set (g ∷ gone) zero (suc k) h = h
+kept_set (g ∷ gone) (suc n) zero h = h
+kept_set (g ∷ gone) (suc n) (suc k) h = kept_set gone n k h
+
+pub gone_more : (first : ℕ) (gone : List Bool) → AreGone first gone → AreGone first (gone ++ false ∷ [])
+gone_more first gone h = λ k lt. kept_more gone k (h k lt)
+
+pub gone_set : (first : ℕ) (gone : List Bool) (n : ℕ) → AreGone first gone → AreGone first (set gone n true)
+gone_set first gone n h = λ k lt. kept_set gone n k (h k lt)
+
+pub gone_next : (n : ℕ) (gone : List Bool) → AreGone n gone → IsTrue (get_or gone n false) → AreGone (n + 1) gone
+gone_next n gone h here = λ k lt. elim (cases_eq k n) [
+  | inl is ↦ subst (λ (m : ℕ). IsTrue (get_or gone m false)) (sym is) here
+  | inr other ↦ h k (omega (arith, lt, other))
+]
+
+pub gone_less : (n m : ℕ) (gone : List Bool) → n ≤ m → AreGone m gone → AreGone n gone
+gone_less n m gone le h = λ k lt. h k (omega (arith, le, lt))
+
 get_past : {X : Type 0} (xs : List X) (k : ℕ) → length xs ≤ k → slice_get xs k ≡ None
 get_past [] zero le = refl
 get_past [] (suc k) le = refl
@@ -101,8 +136,63 @@ module _ {P : Type 0} (f : Fates) (sent : List (ℕ × ℕ × P)) (scope : Scope
     | inr le ↦ waits_past k le
   ]
 
+  pub none_waits_from : (from : ℕ) → ((k : ℕ) → from ≤ k → k < length sent → is_waiting f sent scope k ≡ false) → (k : ℕ) → from ≤ k → is_waiting f sent scope k ≡ false
+  none_waits_from from below k ge = elim (cases_lt k (length sent)) [
+    | inl lt ↦ below k ge lt
+    | inr le ↦ waits_past k le
+  ]
+
   pub none_arrives : (from : ℕ) → ((k : ℕ) → from ≤ k → k < length sent → can_arrive f sent scope k ≡ false) → (k : ℕ) → from ≤ k → can_arrive f sent scope k ≡ false
   none_arrives from below k ge = elim (cases_lt k (length sent)) [
     | inl lt ↦ below k ge lt
     | inr le ↦ and_left (is_waiting f sent scope k) (not (is_held f (slice_get sent k))) (waits_past k le)
   ]
+
+  -- ---- the first from the oldest one under way on is the oldest of all
+
+  gone_waits : (first k : ℕ) → AreGone first f.gone → k < first → is_waiting f sent scope k ≡ false
+  gone_waits first k gone lt = and_left (is_under_way f k) (within k) (ap not (true_there f.gone k (gone k lt)))
+
+  gone_arrives : (first k : ℕ) → AreGone first f.gone → k < first → can_arrive f sent scope k ≡ false
+  gone_arrives first k gone lt = and_left (is_waiting f sent scope k) (not (is_held f (slice_get sent k))) (gone_waits first k gone lt)
+
+  from_there : (is_so : ℕ → Bool) (first limit : ℕ) → ((j : ℕ) → j < first → is_so j ≡ false) → ((j : ℕ) → first ≤ j → j < limit → is_so j ≡ false) → (j : ℕ) → j < limit
+      → is_so j ≡ false
+  from_there is_so first limit before after j lt = elim (cases_lt j first) [
+    | inl less ↦ before j less
+    | inr more ↦ after j more lt
+  ]
+
+  from_all : (is_so : ℕ → Bool) (first : ℕ) → ((j : ℕ) → j < first → is_so j ≡ false) → ((j : ℕ) → first ≤ j → is_so j ≡ false) → (j : ℕ) → is_so j ≡ false
+  from_all is_so first before after j = elim (cases_lt j first) [
+    | inl less ↦ before j less
+    | inr more ↦ after j more
+  ]
+
+  oldest : (is_so : ℕ → Bool) (first : ℕ) (o : Option ℕ) → ((j : ℕ) → j < first → is_so j ≡ false) → IfSome o (IsFirstFrom first is_so) → IfSome o (IsOldest is_so)
+  oldest is_so first None before h = tt
+  oldest is_so first (Some k) before h = (h.0, from_there is_so first k before h.1)
+
+  pub oldest_waiting : (first : ℕ) (o : Option ℕ) → AreGone first f.gone → IfSome o (IsFirstFrom first (is_waiting f sent scope)) → IfSome o (IsOldest (is_waiting f sent scope))
+  oldest_waiting first o gone h = oldest (is_waiting f sent scope) first o (λ j lt. gone_waits first j gone lt) h
+
+  pub oldest_arriving : (first : ℕ) (o : Option ℕ) → AreGone first f.gone → IfSome o (IsFirstFrom first (can_arrive f sent scope)) → IfSome o (IsOldest (can_arrive f sent scope))
+  oldest_arriving first o gone h = oldest (can_arrive f sent scope) first o (λ j lt. gone_arrives first j gone lt) h
+
+  pub all_waiting : (first : ℕ) (o : Option ℕ) → AreGone first f.gone → IfNone o ((k : ℕ) → first ≤ k → is_waiting f sent scope k ≡ false) → IfNone o (NoneWaits f sent scope)
+  all_waiting first None gone h = from_all (is_waiting f sent scope) first (λ j lt. gone_waits first j gone lt) h
+  all_waiting first (Some k) gone h = tt
+
+  pub all_arriving : (first : ℕ) (o : Option ℕ) → AreGone first f.gone → IfNone o ((k : ℕ) → first ≤ k → can_arrive f sent scope k ≡ false) → IfNone o (NoneArrives f sent scope)
+  all_arriving first None gone h = from_all (can_arrive f sent scope) first (λ j lt. gone_arrives first j gone lt) h
+  all_arriving first (Some k) gone h = tt
+
+  -- a parcel that is the oldest is so
+
+  pub oldest_arrives : (o : Option ℕ) → IfSome o (IsOldest (can_arrive f sent scope)) → IfSome o (λ k. IsTrue (can_arrive f sent scope k))
+  oldest_arrives None h = tt
+  oldest_arrives (Some k) h = h.0
+
+  pub oldest_under_way : (o : Option ℕ) → IfSome o (IsOldest (is_waiting f sent scope)) → IfSome o (λ k. IsTrue (is_under_way f k))
+  oldest_under_way None h = tt
+  oldest_under_way (Some k) h = waiting_under_way k h.0

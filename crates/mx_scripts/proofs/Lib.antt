@@ -8,3 +8,4 @@ pub mod PrintedLemmas
 pub mod RefusedLemmas
 pub mod EndedLemmas
 pub mod OverLemmas
+pub mod LineLemmas

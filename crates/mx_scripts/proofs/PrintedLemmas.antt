@@ -1,5 +1,5 @@
 -- What comes of `draw` and `script`.
-use Rattle.std.proofs.Common.{◌≡◌, ◌∙◌, ℕ, Bool, Option, Result, Ok, Err, IfOk, IfSome, subst, sym}
+use Rattle.std.proofs.Common.{◌≡◌, ◌∙◌, ℕ, Bool, Option, Result, Ok, Err, IfOk, IfSome, subst}
 use Rattle.std.specs.Io.KnownBytes.{Appends, Keeps}
 use Rattle.mx_stamps.proofs.Lists.{append_nil}
 use Rattle.mx_plan.specs.Text.{Text}
@@ -16,7 +16,7 @@ use Rattle.mx_commands.proofs.CommandLemmas.{ran_keeps}
 use Rattle.mx_cli.proofs.OutputLemmas.{Appends-keeps, keeps_on}
 use Rattle.mx_walks.specs.declared.conditions.Conditions.{Conditions}
 use Rattle.mx_scripts.specs.Drawn.{walked_file}
-use Rattle.mx_scripts.specs.Printed.{HasDone, Prints, PrintsEvents, PrintsWalk, told_of_plan}
+use Rattle.mx_scripts.specs.Printed.{HasDone, Prints, PrintsWalk, told_of_plan}
 use Rattle.mx_scripts.specs.Played.{IsEventFile}
 use Rattle.mx_scripts.specs.Requests.{Request, draw, walk, script}
 
@@ -29,13 +29,13 @@ job_kept t a b c o res ran same =
 
 -- ---- what was printed
 
-prints_keeps : (request : Request) (p : Fields) (a b c : Held) → Prints request p a b → Keeps b c → Prints request p a c
-prints_keeps (draw name seed steps) p a b c h same = Appends-keeps a b c _ h same
-prints_keeps (walk name seed steps conditions) p a b c h same = (h.0, Appends-keeps a b c _ h.1 same)
-prints_keeps (script names) p a b c h same = (h.0, h.1, Appends-keeps a b c h.0 h.2 same)
+prints_keeps : (told : Text → Option Telling) (request : Request) (p : Fields) (a b c : Held) → Prints told request p a b → Keeps b c → Prints told request p a c
+prints_keeps told (draw name seed steps) p a b c h same = Appends-keeps a b c _ h same
+prints_keeps told (walk name seed steps conditions) p a b c h same = (h.0, Appends-keeps a b c _ h.1 same)
+prints_keeps told (script names) p a b c h same = (h.0, h.1, h.2, h.3, Appends-keeps a b c h.1 h.4 same)
 
 pub done_keeps : (told : Text → Option Telling) (request : Request) (a b c : Held) → HasDone told request a b → Keeps b c → HasDone told request a c
-done_keeps told request a b c h same = (h.0, h.1, prints_keeps request h.0 a b c h.2 same)
+done_keeps told request a b c h same = (h.0, h.1, prints_keeps told request h.0 a b c h.2 same)
 
 -- a text that was printed whole
 printed : (takes : Bool) (a b : Held) (text : Text) (status : ℕ) → Ran takes a b (whole text) (Ok status) → Appends a b text
@@ -43,7 +43,7 @@ printed takes a b text status h = subst (λ (x : Text). Appends a b x) (append_n
 
 -- what was printed is what was to be done
 pub print_done : (told : Text → Option Telling) (request : Request) (p : Fields) (takes : Bool) (a b : Held) (text : Text) (r : Result ℕ CommandError)
-    → IsPlanOf (told_of_plan told request) p → (Appends a b text → Prints request p a b) → Ran takes a b (whole text) r → IfOk r (λ _. HasDone told request a b)
+    → IsPlanOf (told_of_plan told request) p → (Appends a b text → Prints told request p a b) → Ran takes a b (whole text) r → IfOk r (λ _. HasDone told request a b)
 print_done told request p takes a b text (Ok status) read prints ran = (p, read, prints (printed takes a b text status ran))
 print_done told request p takes a b text (Err end) read prints ran = tt
 

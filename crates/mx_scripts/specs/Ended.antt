@@ -1,5 +1,5 @@
 -- How a script ends, and how that is told.
-use Rattle.std.specs.Prelude.{◌≡◌, ◌⊎◌, ◌&&◌, ⊤, ℕ, Bool, false, Option, Result, Ok, Err, string_bytes}
+use Rattle.std.specs.Prelude.{◌≡◌, ◌⊎◌, ◌&&◌, ⊤, ℕ, Bool, false, Option, Some, Result, Ok, Err, IfSome, string_bytes}
 use Rattle.mx_plan.specs.Text.{Text}
 use Rattle.mx_plan.specs.Fields.{Fields}
 use Rattle.mx_io.specs.Told.{Telling}
@@ -7,53 +7,58 @@ use Rattle.mx_io.specs.Outputs.{Held}
 use Rattle.mx_cli.specs.declared.faults.CommandError.TheVariants as command_error
 use Rattle.mx_cli.specs.Closed.{Closes}
 use Rattle.mx_cli.specs.Naming.{IsUnread}
-use Rattle.mx_cli.specs.Reading.{IsPlanOf, plan_told}
+use Rattle.mx_cli.specs.Reading.{IsPlanOf, plan_told, text_told}
 use Rattle.mx_cli.specs.Reports.{ReportsFault}
-use Rattle.mx_scripts.specs.declared.halts.Halt.{Halt}
-use Rattle.mx_scripts.specs.declared.halts.Halt.TheVariants as halt
-use Rattle.mx_scripts.specs.Played.{IsEventFile}
+use Rattle.mx_scripts.specs.declared.script_error.ScriptError.{ScriptError}
+use Rattle.mx_scripts.specs.declared.script_error.ScriptError.TheVariants as script_error
+use Rattle.mx_scripts.specs.ScriptFiles.{IsScriptFile}
 use Rattle.mx_scripts.specs.Scripts.{script_line}
 
 -- why there is no file of the events of a script: plan or script can't be read, or memory ran out;
 -- or the plan was read, and a line is refused
-abbrev pub IsHalt : (Text → Option Telling) → Text × Text → Halt → Type 0
-IsHalt told names (halt.Command end) = (end ≡ command_error.Memory) ⊎ IsUnread told names end
-IsHalt told names (halt.AtLine line) = (p : Fields) × IsPlanOf (plan_told told names) p
+abbrev pub IsScriptError : (Text → Option Telling) → Text × Text → ScriptError → Type 0
+IsScriptError told names (script_error.Command end) = (end ≡ command_error.Memory) ⊎ IsUnread told names end
+IsScriptError told names (script_error.AtLine line) = (p : Fields) × IsPlanOf (plan_told told names) p
 
--- the text is the file of a script's events over the names of the plan, which can happen in its
--- cluster
+-- the script was read, where the source tells of it
+abbrev pub IsScriptOf : (Text → Option Telling) → Text × Text → Text → Type 0
+IsScriptOf told names script =
+    IfSome (text_told told names) (λ telling. telling ≡ Some script)
+
+-- the text is the file of what the lines of the script do in the cluster of the plan
 abbrev pub IsFileOfNames : (Text → Option Telling) → Text × Text → Text → Type 0
 IsFileOfNames told names text =
-    (p : Fields) × IsPlanOf (plan_told told names) p × IsEventFile p text p.shape
+    (p : Fields) × (script : Text) × IsPlanOf (plan_told told names) p
+    × IsScriptOf told names script × IsScriptFile p script text p.shape
 
 -- why the lines of a script give no file: memory ran out, or a line is refused
-abbrev pub IsLineHalt : Halt → Type 0
-IsLineHalt (halt.Command end) = end ≡ command_error.Memory
-IsLineHalt (halt.AtLine line) = ⊤
+abbrev pub IsLineError : ScriptError → Type 0
+IsLineError (script_error.Command end) = end ≡ command_error.Memory
+IsLineError (script_error.AtLine line) = ⊤
 
 -- why a text was not printed: memory ran out, or the output refused, which one that takes all bytes
 -- never does
-abbrev pub IsPrintHalt : Bool → Halt → Type 0
-IsPrintHalt takes_all h =
-    (h ≡ halt.Command command_error.Memory) ⊎ ((h ≡ halt.Command command_error.Writer) × (takes_all ≡ false))
+abbrev pub IsPrintError : Bool → ScriptError → Type 0
+IsPrintError takes_all h =
+    (h ≡ script_error.Command command_error.Memory) ⊎ ((h ≡ script_error.Command command_error.Writer) × (takes_all ≡ false))
 
 -- the plan was read, and some text is such a file
 abbrev pub HasFile : (Text → Option Telling) → Text × Text → Type 0
 HasFile told names = (text : Text) × IsFileOfNames told names text
 
 -- a script ends: there is its file, status 0, or there is none; or a text was not printed
-abbrev pub EndsScript : Bool → (Text → Option Telling) → Text × Text → Result ℕ Halt → Type 0
+abbrev pub EndsScript : Bool → (Text → Option Telling) → Text × Text → Result ℕ ScriptError → Type 0
 EndsScript takes_all told names (Ok status) = (status ≡ 0) × HasFile told names
-EndsScript takes_all told names (Err h) = IsHalt told names h ⊎ IsPrintHalt takes_all h
+EndsScript takes_all told names (Err h) = IsScriptError told names h ⊎ IsPrintError takes_all h
 
 -- that is told: as of any run; or the line of the fault of a line is told, status 1, or memory ran
 -- out, or an output refused
-abbrev pub ClosesScript : Bool → Text × Text → Result ℕ Halt → Held → Held → ℕ → Type 0
+abbrev pub ClosesScript : Bool → Text × Text → Result ℕ ScriptError → Held → Held → ℕ → Type 0
 ClosesScript takes_all names (Ok own) old new status =
     Closes takes_all names (Ok own) old new status
-ClosesScript takes_all names (Err (halt.Command end)) old new status =
+ClosesScript takes_all names (Err (script_error.Command end)) old new status =
     Closes takes_all names (Err end) old new status
-ClosesScript takes_all names (Err (halt.AtLine line)) old new status =
+ClosesScript takes_all names (Err (script_error.AtLine line)) old new status =
     ReportsFault takes_all (script_line line.number line.fault
     (string_bytes line.message)) old new status
 
@@ -61,5 +66,5 @@ ClosesScript takes_all names (Err (halt.AtLine line)) old new status =
 abbrev pub ScriptsOf : Bool → Bool → (Text → Option Telling) → Text × Text → Held → Held → ℕ
     → Type 0
 ScriptsOf takes_out takes_err told names old new status =
-    (ended : Result ℕ Halt) × EndsScript takes_out told names ended
+    (ended : Result ℕ ScriptError) × EndsScript takes_out told names ended
     × ClosesScript (takes_out && takes_err) names ended old new status

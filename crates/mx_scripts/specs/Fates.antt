@@ -1,5 +1,5 @@
 -- What has become of the parcels that were sent.
-use Rattle.std.specs.Prelude.{ℕ, ◌≡◌, ◌-◌, ◌==◌, ◌&&◌, Bool, true, false, not, List, [], ◌++◌, Option, Some, None, length, replicate, slice_get, slice_index_or, slice_set}
+use Rattle.std.specs.Prelude.{ℕ, ◌≡◌, ◌≤◌, ◌<◌, ◌-◌, ◌==◌, ◌&&◌, Bool, true, false, IsTrue, not, List, [], ◌++◌, Option, Some, None, length, replicate, slice_get, slice_index_or, slice_set}
 use Rattle.mx_events.specs.declared.event.Event.{Event}
 use Rattle.mx_events.specs.declared.event.Event.TheVariants.{Deliver}
 use Rattle.mx_lines.specs.declared.orders.LinkChange.{LinkChange}
@@ -53,6 +53,19 @@ relinked change f = record { gone = f.gone; last = f.last; links = changed chang
 -- the parcel is under way
 abbrev pub is_under_way : Fates → ℕ → Bool
 is_under_way f k = not (slice_index_or f.gone k true)
+
+-- no parcel below this number is under way
+abbrev pub AreGone : ℕ → List Bool → Type 0
+AreGone first gone = (k : ℕ) → k < first → IsTrue (slice_index_or gone k false)
+
+-- the parcel is so, and none of those from this number on that were sent before it
+abbrev pub IsFirstFrom : ℕ → (ℕ → Bool) → ℕ → Type 0
+IsFirstFrom begin is_so k =
+    IsTrue (is_so k) × ((j : ℕ) → begin ≤ j → j < k → is_so j ≡ false)
+
+-- the parcel is so, and none that was sent before it
+abbrev pub IsOldest : (ℕ → Bool) → ℕ → Type 0
+IsOldest is_so k = IsTrue (is_so k) × ((j : ℕ) → j < k → is_so j ≡ false)
 
 -- the link that bears the parcel is cut
 abbrev pub is_held : {P : Type 0} → Fates → Option (ℕ × ℕ × P) → Bool

@@ -13,7 +13,8 @@ use Rattle.mx_commands.specs.Ran.{RanOn}
 use Rattle.mx_walks.specs.declared.conditions.Conditions.{Conditions}
 use Rattle.mx_scripts.specs.Drawn.{drawn_file, walked_file}
 use Rattle.mx_scripts.specs.Played.{IsEventFile}
-use Rattle.mx_scripts.specs.Ended.{ScriptsOf}
+use Rattle.mx_scripts.specs.Ended.{IsScriptOf, ScriptsOf}
+use Rattle.mx_scripts.specs.ScriptFiles.{IsScriptFile}
 use Rattle.mx_scripts.specs.Requests.{Request, draw, walk, script}
 
 -- what is told of the plan
@@ -22,9 +23,11 @@ told_of_plan told (draw name seed steps) = told name
 told_of_plan told (walk name seed steps conditions) = told name
 told_of_plan told (script names) = plan_told told names
 
--- some file of events over the plan's names was printed, which can happen in its cluster
-abbrev pub PrintsEvents : Fields → Held → Held → Type 0
-PrintsEvents p old new = (text : Text) × IsEventFile p text p.shape × Appends old new text
+-- the file of what the lines of the script do in the plan's cluster was printed
+abbrev pub PrintsScript : (Text → Option Telling) → Text × Text → Fields → Held → Held → Type 0
+PrintsScript told names p old new =
+    (script text : Text) × IsScriptOf told names script × IsScriptFile p script text p.shape
+    × Appends old new text
 
 -- the file of the walk of the seed was printed, whose events can happen in the plan's cluster
 abbrev pub PrintsWalk : Fields → ℕ → ℕ → Conditions → Held → Held → Type 0
@@ -33,15 +36,16 @@ PrintsWalk p seed steps conditions old new =
     × Appends old new (walked_file p conditions seed steps)
 
 -- what was printed: without a walk the placed schedule of the seed, and nothing else
-abbrev pub Prints : Request → Fields → Held → Held → Type 0
-Prints (draw name seed steps) p old new = Appends old new (drawn_file p seed steps)
-Prints (walk name seed steps conditions) p old new = PrintsWalk p seed steps conditions old new
-Prints (script names) p old new = PrintsEvents p old new
+abbrev pub Prints : (Text → Option Telling) → Request → Fields → Held → Held → Type 0
+Prints told (draw name seed steps) p old new = Appends old new (drawn_file p seed steps)
+Prints told (walk name seed steps conditions) p old new =
+    PrintsWalk p seed steps conditions old new
+Prints told (script names) p old new = PrintsScript told names p old new
 
 -- the plan was read, and the file that was asked for was printed
 abbrev pub HasDone : (Text → Option Telling) → Request → Held → Held → Type 0
 HasDone told request old new =
-    (p : Fields) × IsPlanOf (told_of_plan told request) p × Prints request p old new
+    (p : Fields) × IsPlanOf (told_of_plan told request) p × Prints told request p old new
 
 -- to print the placed schedule of the seed, of what a source tells of the plan
 abbrev pub draw_job : (Text → Option Telling) → Text → ℕ → ℕ → Option Job

@@ -9,12 +9,12 @@ use Rattle.mx_lines.specs.declared.errors.LineFault.{LineFault}
 use Rattle.mx_lines.specs.declared.errors.LineFault.TheVariants.{NoNode, NoParcel}
 use Rattle.mx_lines.specs.declared.orders.Order.{Order}
 use Rattle.mx_lines.specs.declared.orders.Order.TheVariants.{Happens, Arrives, AllArrive, IsLost, AllAreLost, ArrivesAgain, LinksChange}
-use Rattle.mx_cli.specs.declared.faults.CommandError.TheVariants as end
-use Rattle.mx_scripts.specs.declared.halts.BadLine.{BadLine}
-use Rattle.mx_scripts.specs.declared.halts.Halt.{Halt}
-use Rattle.mx_scripts.specs.declared.halts.Halt.TheVariants as halt
-use Rattle.mx_scripts.specs.declared.halts.LineStop.{LineStop}
-use Rattle.mx_scripts.specs.declared.halts.LineStop.TheVariants as command_error
+use Rattle.mx_cli.specs.declared.faults.CommandError.TheVariants as command_error
+use Rattle.mx_scripts.specs.declared.script_error.RefusedLine.{RefusedLine}
+use Rattle.mx_scripts.specs.declared.script_error.ScriptError.{ScriptError}
+use Rattle.mx_scripts.specs.declared.script_error.ScriptError.TheVariants as script_error
+use Rattle.mx_scripts.specs.declared.script_error.LineFailure.{LineFailure}
+use Rattle.mx_scripts.specs.declared.script_error.LineFailure.TheVariants as failure
 
 -- an event of an order names nodes below `nodes` and registers below `registers`
 abbrev pub IsOver : ℕ → ℕ → Order → Type 0
@@ -26,26 +26,26 @@ IsOver nodes registers (AllAreLost scope) = ⊤
 IsOver nodes registers (ArrivesAgain from to) = ⊤
 IsOver nodes registers (LinksChange change) = ⊤
 
-abbrev pub stop_of_step : StepFault → LineStop
-stop_of_step step_fault.NoNode = command_error.Undone NoNode
-stop_of_step step_fault.NoParcel = command_error.Undone NoParcel
-stop_of_step step_fault.Memory = command_error.Memory
+abbrev pub failure_of_step : StepFault → LineFailure
+failure_of_step step_fault.NoNode = failure.Refused NoNode
+failure_of_step step_fault.NoParcel = failure.Refused NoParcel
+failure_of_step step_fault.Memory = failure.Memory
 
 -- why a line is refused that is not done; not at all, where memory ran out
-abbrev pub fault_of_stop : LineStop → Option LineFault
-fault_of_stop (command_error.Unread error) = Some error.fault
-fault_of_stop (command_error.Undone fault) = Some fault
-fault_of_stop command_error.Memory = None
+abbrev pub fault_of : LineFailure → Option LineFault
+fault_of (failure.WrongWord error) = Some error.fault
+fault_of (failure.Refused fault) = Some fault
+fault_of failure.Memory = None
 
 -- a refused line, by its number and its fault
-abbrev pub IsRefused : ℕ → LineStop → BadLine → Type 0
-IsRefused number stop line =
-    (line.number ≡ number) × (fault_of_stop stop ≡ Some line.fault)
+abbrev pub IsRefused : ℕ → LineFailure → RefusedLine → Type 0
+IsRefused number failure line =
+    (line.number ≡ number) × (fault_of failure ≡ Some line.fault)
 
 -- the line of this number is not done: it is refused, or memory ran out
-abbrev pub IsHaltAt : ℕ → LineStop → Halt → Type 0
-IsHaltAt number stop (halt.Command why) = why ≡ end.Memory
-IsHaltAt number stop (halt.AtLine line) = IsRefused number stop line
+abbrev pub IsErrorAt : ℕ → LineFailure → ScriptError → Type 0
+IsErrorAt number failure (script_error.Command why) = why ≡ command_error.Memory
+IsErrorAt number failure (script_error.AtLine line) = IsRefused number failure line
 
 -- the line of a fault in the k-th line of a script, with the message about its words
 abbrev pub script_line : ℕ → LineFault → Text → Text

@@ -8,7 +8,7 @@ ghost use Rattle.mx_scripts.specs.Printed.{Draws, HasDone, Scripts};
 ghost use Rattle.mx_scripts.specs.Words.{request_asked, request_of, file_line};
 
 use crate::help;
-use crate::printing::{run_draw, run_script, run_walk};
+use crate::printer::{run_draw, run_script, run_walk};
 use crate::words::{Request, parse};
 use mx_cli::refuse;
 use mx_io::{Output, Source};

@@ -2,24 +2,29 @@
 #![tactic(auto)]
 
 mod command;
-mod drawing;
-mod ending;
+mod drawn_file;
 mod files;
-mod halts;
 mod help;
+mod in_flight;
 mod links;
-mod mail;
-mod printing;
-mod scripting;
+mod next_event;
+mod printer;
+mod script;
+mod script_end;
+mod script_error;
+mod session_event;
+mod state;
 mod texts;
-mod walking;
+mod walked_file;
 mod words;
 
 pub use command::event_file;
-pub use drawing::replays_as_explored;
-pub use ending::{close_script, file_of_names};
+pub use drawn_file::replays_as_explored;
 pub use files::{add_file, reads_back};
-pub use halts::{BadLine, Halt, LineStop, message_of};
-pub use mail::Mail;
-pub use printing::{run_draw, run_script, run_walk};
+pub use in_flight::InFlight;
+pub use printer::{run_draw, run_script, run_walk};
+pub use script_end::{close_script, file_of_names};
+pub use script_error::{LineFailure, RefusedLine, ScriptError, message_of};
+pub use session_event::SessionEvent;
+pub use state::State;
 pub use words::Request;

@@ -1,16 +1,20 @@
 //! The text of a script.
 
-use crate::halts::{BadLine, Halt};
+ghost use Rattle.std.specs.Prelude.{◌≡◌, IfOk};
+
+use crate::script_error::{RefusedLine, ScriptError};
 use mx_lines::LineFault;
 use std::alloc::Global;
 use std::str;
 
 /// The text that bytes are. Where they are not in UTF-8, the line of the first that is not is at
 /// fault.
-pub(crate) fn text_in(alloc: Global, bytes: &[u8]) -> Result<&str, Halt> {
+pub(crate) fn text_in(alloc: Global, bytes: &[u8]) -> Result<&str, ScriptError>
+    ensures { IfOk result (λ text. text.now ≡ bytes.now) }
+{
     match str::from_utf8(bytes) {
         Ok(text) => Ok(text),
-        Err(e) => Err(Halt::AtLine(BadLine {
+        Err(e) => Err(ScriptError::AtLine(RefusedLine {
             number: line_at(bytes, e.valid_up_to()),
             fault: LineFault::NotText,
             is_unread: true,

@@ -1,0 +1,315 @@
+-- What the lines of a script do.
+use Rattle.std.proofs.Common.{◌≡◌, ◌≤◌, ◌<◌, ◌∙◌, ℕ, zero, suc, List, [], ◌∷◌, ◌++◌, Option, Some, None, Result, Ok, Err, OnOk, IfOk, IfSome, length, add-one, ◌+◌, ◌-◌, refl, sym, ap, subst, arith, get_or, inl, inr, take, ◌⊎◌}
+use Rattle.std.specs.Prelude.{IfErr, IsErrAnd, IsTrue}
+use Rattle.std.specs.Borrow.{Bor}
+use Rattle.std.proofs.lemmas.List.{length-append, length-map, map-append}
+use Rattle.std.proofs.lemmas.Option.{slice_get_read}
+use Rattle.std.specs.Str.Lines.{lines}
+use Rattle.mx_stamps.specs.declared.limits.TheConstants.{MAX_EVENTS}
+use Rattle.mx_nodelaws.specs.Core.{Core}
+use Rattle.mx_network.specs.Step.{ClusterState, IsFaultOf, step_of}
+use Rattle.mx_network.specs.declared.faults.StepFault.{StepFault}
+use Rattle.mx_trace.specs.declared.outcome.Entry.{Entry}
+use Rattle.mx_events.specs.declared.event.Event.{Event}
+use Rattle.mx_events.specs.declared.event.Event.TheVariants.{Deliver}
+use Rattle.mx_plan.specs.Text.{Text}
+use Rattle.mx_plan.specs.Fields.{Fields}
+use Rattle.mx_lines.specs.Names.{known_of, texts_of}
+use Rattle.mx_lines.specs.declared.lines.Line.{Line}
+use Rattle.mx_lines.specs.declared.orders.Order.{Order}
+use Rattle.mx_lines.specs.declared.orders.Order.TheVariants as order
+use Rattle.mx_lines.specs.declared.orders.Scope.TheVariants.{Link}
+use Rattle.mx_scripts.specs.Fates.{Fates, is_under_way}
+use Rattle.mx_scripts.specs.Lines.{DoesAll, DoesIfSome, DoesText, IsNext, Once, Performs, IsNotDone, Misreads, Reads, Repeats, StopsAfter, StopsAt, StopsWithin}
+use Rattle.mx_scripts.specs.Files.{file_text}
+use Rattle.mx_scripts.specs.Played.{Plays, events_of}
+use Rattle.mx_scripts.specs.ScriptFiles.{IsFileOfScript}
+use Rattle.mx_scripts.proofs.OverLemmas.{read_over}
+use Rattle.mx_scripts.proofs.PlayedLemmas.{file_of_played, noted, plays_step}
+use Rattle.mx_scripts.specs.Scripts.{IsOver, failure_of_step}
+use Rattle.mx_scripts.specs.States.{Admits, Brings, IsAllowed, IsDrawnOf, IsNotApplied, RunState, before_any}
+use Rattle.mx_scripts.specs.declared.script_error.LineFailure.{LineFailure}
+use Rattle.mx_scripts.specs.declared.script_error.LineFailure.TheVariants as failure
+use Rattle.mx_scripts.specs.declared.script_error.ScriptError.{ScriptError}
+use Rattle.mx_scripts.specs.declared.session_event.SessionEvent.{SessionEvent}
+use Rattle.mx_scripts.specs.declared.session_event.SessionEvent.TheVariants.{Happens, IsLost, LinksChange}
+use Rattle.mx_scripts.proofs.FateLemmas.{waiting_under_way}
+
+not_none : {A : Type 0} (x : A) → ◌≡◌ {A = Option A} (Some x) None → ⊥
+not_none x e = cc
+
+-- ---- an event that is next is over the names of its order
+
+module _ {P : Type 0} (d : Fates) (sent : List (ℕ × ℕ × P)) (nodes registers : ℕ) where
+  abbrev Drawn : SessionEvent → Type 0
+  Drawn e = IsDrawnOf nodes registers e
+
+  pub next_drawn : (o : Order) (done : ℕ) (e : SessionEvent) → IsOver nodes registers o → IsNext d sent o done (Some e) → IsDrawnOf nodes registers e
+  next_drawn (order.Happens event) zero e over is = subst Drawn (sym is) over
+  next_drawn (order.Happens event) (suc done) e over is = absurd (not_none e is)
+  next_drawn (order.Arrives from to) zero e over is = subst Drawn (sym is.2) tt
+  next_drawn (order.Arrives from to) (suc done) e over is = absurd (not_none e is)
+  next_drawn (order.AllArrive scope) done e over is = subst Drawn (sym is.2) tt
+  next_drawn (order.IsLost from to) zero e over is = subst Drawn (sym is.2) tt
+  next_drawn (order.IsLost from to) (suc done) e over is = absurd (not_none e is)
+  next_drawn (order.AllAreLost scope) done e over is = subst Drawn (sym is.2) tt
+  next_drawn (order.ArrivesAgain from to) zero e over is = subst Drawn (sym is.2) tt
+  next_drawn (order.ArrivesAgain from to) (suc done) e over is = absurd (not_none e is)
+  next_drawn (order.LinksChange change) zero e over is = subst Drawn (sym is) tt
+  next_drawn (order.LinksChange change) (suc done) e over is = absurd (not_none e is)
+
+-- ---- an event that is next may happen, where it is no delivery over a link that is cut
+
+module _ {S M : Type 0} (s : RunState S M) where
+  abbrev Allowed : SessionEvent → Type 0
+  Allowed e = IsAllowed s e
+
+  lost_allowed : (e : SessionEvent) (k : ℕ) → IsTrue (is_under_way s.fates k) → e ≡ IsLost k → IsAllowed s e
+  lost_allowed e k way is = subst Allowed (sym is) way
+
+  admitted : (e : SessionEvent) (event : Event) → Admits s (Some e) → e ≡ Happens event → IsAllowed s e
+  admitted e event admits is = subst Allowed (sym is) (subst (λ (x : SessionEvent). Admits s (Some x)) is admits)
+
+  next_some : (o : Order) (done : ℕ) (e : SessionEvent) → IsNext s.fates s.cluster.sent o done (Some e) → Admits s (Some e) → IsAllowed s e
+  next_some (order.Happens event) zero e is admits = admitted e event admits is
+  next_some (order.Happens event) (suc done) e is admits = absurd (not_none e is)
+  next_some (order.Arrives from to) zero e is admits = admitted e (Deliver is.0) admits is.2
+  next_some (order.Arrives from to) (suc done) e is admits = absurd (not_none e is)
+  next_some (order.AllArrive scope) done e is admits = admitted e (Deliver is.0) admits is.2
+  next_some (order.IsLost from to) zero e is admits = lost_allowed e is.0 (waiting_under_way s.fates s.cluster.sent (Link from to) is.0 is.1.0) is.2
+  next_some (order.IsLost from to) (suc done) e is admits = absurd (not_none e is)
+  next_some (order.AllAreLost scope) done e is admits = lost_allowed e is.0 (waiting_under_way s.fates s.cluster.sent scope is.0 is.1.0) is.2
+  next_some (order.ArrivesAgain from to) zero e is admits = admitted e (Deliver is.0) admits is.2
+  next_some (order.ArrivesAgain from to) (suc done) e is admits = absurd (not_none e is)
+  next_some (order.LinksChange change) zero e is admits = subst Allowed (sym is) tt
+  next_some (order.LinksChange change) (suc done) e is admits = absurd (not_none e is)
+
+  pub next_allowed : (o : Order) (done : ℕ) (next : Option SessionEvent) → IsNext s.fates s.cluster.sent o done next → Admits s next → IfSome next (IsAllowed s)
+  next_allowed o done None is admits = tt
+  next_allowed o done (Some e) is admits = next_some o done e is admits
+
+-- later
+pub once_later : (done : ℕ) (IsIt : SessionEvent → Type 0) → 0 < done → Once done IsIt None
+once_later zero IsIt lt = absurd (omega (arith, lt))
+once_later (suc done) IsIt lt = refl
+
+-- the first time
+pub once_now : (done : ℕ) (IsIt : SessionEvent → Type 0) (e : SessionEvent) → done ≤ 0 → IsIt e → Once done IsIt (Some e)
+once_now zero IsIt e le x = x
+once_now (suc done) IsIt e le x = absurd (omega (arith, le))
+
+-- ---- a loop over the events of an order, and over its repetitions
+
+module _ {H S M : Type 0} (core : Core H S M) (o : Order) where
+  pub performs_next : (done : ℕ) (e : SessionEvent) (es : List SessionEvent) (old mid new : RunState S M) → IsNext old.fates old.cluster.sent o done (Some e) → IsAllowed old e
+      → Brings core old e mid → Performs core o (done + 1) mid es new → Performs core o done old (e ∷ es) new
+  performs_next done e es old mid new next allowed brings x =
+      (mid, next, allowed, brings, subst (λ (n : ℕ). Performs core o n mid es new) (add-one done) x)
+
+  pub stops_next : (done : ℕ) (e : SessionEvent) (es : List SessionEvent) (old mid : RunState S M) (why : LineFailure) → IsNext old.fates old.cluster.sent o done (Some e) → IsAllowed old e
+      → Brings core old e mid → StopsAfter core o (done + 1) mid es why → StopsAfter core o done old (e ∷ es) why
+  stops_next done e es old mid why next allowed brings x =
+      (mid, next, allowed, brings, subst (λ (n : ℕ). StopsAfter core o n mid es why) (add-one done) x)
+
+  -- one time more was done
+  pub within_next : (times i : ℕ) (old mid : RunState S M) (why : LineFailure) → i < times → (es : List SessionEvent) × Performs core o 0 old es mid
+      → StopsWithin core o (times - (i + 1)) mid why → StopsWithin core o (times - i) old why
+  within_next times i old mid why lt x y =
+      let n : times - i ≡ suc (times - (i + 1)) = omega (arith, lt) in
+      subst (λ (k : ℕ). StopsWithin core o k old why) (sym n) (inr (mid, x.0, x.1, y))
+
+  -- this time is not done
+  pub within_here : (times i : ℕ) (old : RunState S M) (why : LineFailure) → i < times → (es : List SessionEvent) × StopsAfter core o 0 old es why
+      → StopsWithin core o (times - i) old why
+  within_here times i old why lt x =
+      let n : times - i ≡ suc (times - (i + 1)) = omega (arith, lt) in
+      subst (λ (k : ℕ). StopsWithin core o k old why) (sym n) (inl x)
+
+  pub repeats_next : (times i : ℕ) (first rest : List SessionEvent) (old mid new : RunState S M) → i < times → Performs core o 0 old first mid
+      → Repeats core o (times - (i + 1)) mid rest new → Repeats core o (times - i) old (first ++ rest) new
+  repeats_next times i first rest old mid new lt x y =
+      let n : times - i ≡ suc (times - (i + 1)) = omega (arith, lt) in
+      subst (λ (k : ℕ). Repeats core o k old (first ++ rest) new) (sym n) (mid, first, rest, x, refl, y)
+
+  pub repeats_end : (times i : ℕ) (now : RunState S M) → times ≤ i → Repeats core o (times - i) now [] now
+  repeats_end times i now le =
+      let n : times - i ≡ 0 = omega (arith, le) in
+      subst (λ (k : ℕ). Repeats core o k now [] now) (sym n) (refl, refl)
+
+-- ---- why an event is not applied
+
+pub err_of : {T : Type 0} (P : LineFailure → Type 0) (r : Result T LineFailure) (why : LineFailure) → IsErrAnd r (λ w. w ≡ why) → P why → IfErr r P
+err_of P (Ok t) why h p = tt
+err_of P (Err w) why h p = subst P (sym h) p
+
+module _ {H S M : Type 0} (core : Core H S M) (fates : Fates) where
+  abbrev with_cluster : ClusterState S M → RunState S M
+  with_cluster g = record { cluster = g; fates = fates }
+
+  refused_by : (old new : ClusterState S M) (e : Event) (fault : StepFault) → IsFaultOf (step_of core old e) fault → new ≡ old
+      → IsNotApplied core (with_cluster old) (Happens e) (with_cluster new) (failure_of_step fault)
+  refused_by old new e fault (inl x) same = inl (ap failure_of_step x.0)
+  refused_by old new e fault (inr x) same = inr (ap with_cluster same, fault, x, refl)
+
+  pub not_applied : {T : Type 0} (r : Result T LineFailure) (old new : ClusterState S M) (e : Event) (fault : StepFault) → IsErrAnd r (λ why. why ≡ failure_of_step fault)
+      → IsFaultOf (step_of core old e) fault → new ≡ old → IfErr r (IsNotApplied core (with_cluster old) (Happens e) (with_cluster new))
+  not_applied (Ok t) old new e fault h is same = tt
+  not_applied (Err why) old new e fault h is same =
+      subst (λ (w : LineFailure). IsNotApplied core (with_cluster old) (Happens e) (with_cluster new) w) (sym h) (refused_by old new e fault is same)
+
+-- ---- the events of the lines lead from one cluster to another
+
+module _ {H S M : Type 0} (core : Core H S M) (nodes registers : ℕ) where
+  abbrev From : ClusterState S M → ClusterState S M → Type 0
+  From old new = Plays core nodes registers old new
+
+  plays_same : (old new : ClusterState S M) → new ≡ old → From old new
+  plays_same old new is = subst (λ (g : ClusterState S M). From old g) (sym is) (λ start played. played)
+
+  plays_brought : (old new : RunState S M) (e : SessionEvent) → Brings core old e new → IsDrawnOf nodes registers e → From old.cluster new.cluster
+  plays_brought old new (Happens event) brings drawn = plays_step core nodes registers old.cluster new.cluster event brings.0 drawn
+  plays_brought old new (IsLost k) brings drawn = plays_same old.cluster new.cluster brings.0
+  plays_brought old new (LinksChange change) brings drawn = plays_same old.cluster new.cluster brings.0
+
+  performs_plays : (o : Order) (done : ℕ) (es : List SessionEvent) (old new : RunState S M) → IsOver nodes registers o → Performs core o done old es new → From old.cluster new.cluster
+  performs_plays o done [] old new over x = plays_same old.cluster new.cluster (ap (λ (s : RunState S M). s.cluster) x.0)
+  performs_plays o done (e ∷ es) old new over x =
+      let mid : RunState S M = x.0 in
+      let first = plays_brought old mid e x.3 (next_drawn old.fates old.cluster.sent nodes registers o done e over x.1) in
+      let rest = performs_plays o (suc done) es mid new over x.4 in
+      λ start played. rest start (first start played)
+
+  repeats_plays : (o : Order) (times : ℕ) (es : List SessionEvent) (old new : RunState S M) → IsOver nodes registers o → Repeats core o times old es new → From old.cluster new.cluster
+  repeats_plays o zero es old new over x = plays_same old.cluster new.cluster (ap (λ (s : RunState S M). s.cluster) x.0)
+  repeats_plays o (suc times) es old new over x =
+      let mid : RunState S M = x.0 in
+      let first = performs_plays o 0 x.1 old mid over x.3 in
+      let rest = repeats_plays o times x.2 mid new over x.5 in
+      λ start played. rest start (first start played)
+
+-- ---- no more events happen than may
+
+same_few : {S M : Type 0} (old new : RunState S M) → new ≡ old → length old.cluster.trace ≤ MAX_EVENTS → length new.cluster.trace ≤ MAX_EVENTS
+same_few {S} {M} old new is few = subst (λ (s : RunState S M). length s.cluster.trace ≤ MAX_EVENTS) (sym is) few
+
+same_trace_few : {S M : Type 0} (old new : ClusterState S M) → new ≡ old → length old.trace ≤ MAX_EVENTS → length new.trace ≤ MAX_EVENTS
+same_trace_few {S} {M} old new is few = subst (λ (g : ClusterState S M). length g.trace ≤ MAX_EVENTS) (sym is) few
+
+module _ {H S M : Type 0} (core : Core H S M) where
+  longer : (old new : ClusterState S M) (e : Event) → step_of core old e ≡ Ok new → length new.trace ≡ length old.trace + 1
+  longer old new e step =
+      let more : length (events_of new.trace) ≡ length (events_of old.trace ++ e ∷ []) = ap (λ (es : List Event). length es) (noted core old new e step) in
+      let here : length (events_of new.trace) ≡ length new.trace = length-map new.trace (λ (entry : Entry). entry.event) in
+      let there : length (events_of old.trace) ≡ length old.trace = length-map old.trace (λ (entry : Entry). entry.event) in
+      let one : length (events_of old.trace ++ e ∷ []) ≡ length (events_of old.trace) + 1 = length-append (events_of old.trace) (e ∷ []) in
+      omega (arith, more, here, there, one)
+
+  brought_few : (e : SessionEvent) (old new : RunState S M) → IsAllowed old e → Brings core old e new → length old.cluster.trace ≤ MAX_EVENTS → length new.cluster.trace ≤ MAX_EVENTS
+  brought_few (Happens event) old new allowed brings few =
+      let n = longer old.cluster new.cluster event brings.0 in
+      let lt = allowed.1 in
+      omega (arith, n, lt)
+  brought_few (IsLost k) old new allowed brings few = same_trace_few old.cluster new.cluster brings.0 few
+  brought_few (LinksChange change) old new allowed brings few = same_trace_few old.cluster new.cluster brings.0 few
+
+  performs_few : (o : Order) (done : ℕ) (es : List SessionEvent) (old new : RunState S M) → Performs core o done old es new → length old.cluster.trace ≤ MAX_EVENTS
+      → length new.cluster.trace ≤ MAX_EVENTS
+  performs_few o done [] old new x few = same_few old new x.0 few
+  performs_few o done (e ∷ es) old new x few =
+      let mid : RunState S M = x.0 in
+      performs_few o (suc done) es mid new x.4 (brought_few e old mid x.2 x.3 few)
+
+  repeats_few : (o : Order) (times : ℕ) (es : List SessionEvent) (old new : RunState S M) → Repeats core o times old es new → length old.cluster.trace ≤ MAX_EVENTS
+      → length new.cluster.trace ≤ MAX_EVENTS
+  repeats_few o zero es old new x few = same_few old new x.0 few
+  repeats_few o (suc times) es old new x few =
+      let mid : RunState S M = x.0 in
+      repeats_few o times x.2 mid new x.5 (performs_few o 0 x.1 old mid x.3 few)
+
+  does_few : (read : Option Line) (old new : RunState S M) → DoesIfSome core read old new → length old.cluster.trace ≤ MAX_EVENTS → length new.cluster.trace ≤ MAX_EVENTS
+  does_few None old new x few = same_few old new x few
+  does_few (Some line) old new x few = repeats_few line.order line.times x.0 old new x.1 few
+
+module _ {H S M : Type 0} (core : Core H S M) (p : Fields) where
+  does_plays : (read : Option Line) (old new : RunState S M) → IfSome read (λ line. IsOver (length p.nodes) (length p.registers) line.order) → DoesIfSome core read old new
+      → Plays core (length p.nodes) (length p.registers) old.cluster new.cluster
+  does_plays None old new over x = plays_same core (length p.nodes) (length p.registers) old.cluster new.cluster (ap (λ (s : RunState S M). s.cluster) x)
+  does_plays (Some line) old new over x = repeats_plays core (length p.nodes) (length p.registers) line.order line.times x.0 old new over x.1
+
+  text_plays : (text : Text) (old new : RunState S M) → DoesText core p text old new → Plays core (length p.nodes) (length p.registers) old.cluster new.cluster
+  text_plays text old new x =
+      let reads = x.1 in
+      does_plays x.0 old new (read_over (known_of p) (texts_of reads.0) x.0 (sym reads.2)) x.2
+
+  -- the events of all lines lead from one cluster to another
+  pub all_plays : (texts : List Text) (old new : RunState S M) → DoesAll core p texts old new → Plays core (length p.nodes) (length p.registers) old.cluster new.cluster
+  all_plays [] old new x = plays_same core (length p.nodes) (length p.registers) old.cluster new.cluster (ap (λ (s : RunState S M). s.cluster) x)
+  all_plays (text ∷ texts) old new x =
+      let mid : RunState S M = x.0 in
+      let first = text_plays text old mid x.1 in
+      let rest = all_plays texts mid new x.2 in
+      λ start played. rest start (first start played)
+
+  -- ---- there are no more events than may be
+
+  text_few : (text : Text) (old new : RunState S M) → DoesText core p text old new → length old.cluster.trace ≤ MAX_EVENTS → length new.cluster.trace ≤ MAX_EVENTS
+  text_few text old new x few = does_few core x.0 old new x.2 few
+
+  pub all_few : (texts : List Text) (old new : RunState S M) → DoesAll core p texts old new → length old.cluster.trace ≤ MAX_EVENTS → length new.cluster.trace ≤ MAX_EVENTS
+  all_few [] old new x few = same_few old new x few
+  all_few (text ∷ texts) old new x few =
+      let mid : RunState S M = x.0 in
+      all_few texts mid new x.2 (text_few text old mid x.1 few)
+
+  -- the file of what lines did
+  pub file_of_lines : (script : Text) (start : ClusterState S M) (last : RunState S M) (trace : List Entry) (text : Text) → start.trace ≡ [] → DoesAll core p (lines script) (before_any start) last
+      → trace ≡ last.cluster.trace → text ≡ file_text p (events_of trace) → IsFileOfScript core p start script text
+  file_of_lines script start last trace text empty does same is = record {
+    last = last;
+    does = does;
+    is = is ∙ ap (λ (t : List Entry). file_text p (events_of t)) same;
+    few = all_few (lines script) (before_any start) last does (subst (λ (t : List Entry). length t ≤ MAX_EVENTS) (sym empty) (omega arith));
+    file = file_of_played core p start last.cluster trace text empty (all_plays (lines script) (before_any start) last does) same is;
+  }
+
+  pub file_from : {T : Type 0} (bytes : T → Text) (script : Text) (start : ClusterState S M) (old last : RunState S M) (r : Result T ScriptError) → old ≡ before_any start → start.trace ≡ []
+      → OnOk r (DoesAll core p (lines script) old last) → IfOk r (λ t. bytes t ≡ file_text p (events_of last.cluster.trace)) → IfOk r (λ t. IsFileOfScript core p start script (bytes t))
+  file_from bytes script start old last (Ok t) fresh empty does is =
+      file_of_lines script start last last.cluster.trace (bytes t) empty (subst (λ (s : RunState S M). DoesAll core p (lines script) s last) fresh does) refl is
+  file_from bytes script start old last (Err e) fresh empty does is = tt
+
+  -- ---- a loop over the lines
+
+  all_more : (texts : List Text) (text : Text) (old mid new : RunState S M) → DoesAll core p texts old mid → DoesText core p text mid new → DoesAll core p (texts ++ text ∷ []) old new
+  all_more [] text old mid new x y = (new, subst (λ (s : RunState S M). DoesText core p text s new) x y, refl)
+  all_more (first ∷ texts) text old mid new x y = (x.0, x.1, all_more texts text x.0 mid new x.2 y)
+
+  -- a line more was done
+  pub does_more : (lines : List (Bor Text)) (line : Bor Text) (old mid new : RunState S M) → DoesAll core p (texts_of lines) old mid → DoesText core p line.now mid new
+      → DoesAll core p (texts_of (lines ++ line ∷ [])) old new
+  does_more lines line old mid new x y =
+      subst (λ (l : List Text). DoesAll core p l old new) (sym (map-append (λ (text : Bor Text). text.now) lines (line ∷ [])))
+      (all_more (texts_of lines) line.now old mid new x y)
+
+  -- ---- a line that is not done
+
+  pub misread : (text : Text) (old : RunState S M) (why : LineFailure) → (why ≡ failure.Memory) ⊎ Misreads p text why → IsNotDone core p text old why
+  misread text old why (inl x) = inl x
+  misread text old why (inr x) = inr (inl x)
+
+  pub not_repeated : {T : Type 0} (r : Result T LineFailure) (text : Text) (line : Line) (old : RunState S M) → Reads p text (Some line)
+      → IfErr r (StopsWithin core line.order line.times old) → IfErr r (IsNotDone core p text old)
+  not_repeated (Ok t) text line old reads x = tt
+  not_repeated (Err why) text line old reads x = inr (inr (line, reads, x))
+
+  -- the line after those that were yielded is not done
+  pub stops_here : (texts : List Text) (yielded : List (Bor Text)) (text : Text) (old mid : RunState S M) (why : LineFailure) → DoesAll core p (texts_of yielded) old mid
+      → texts_of yielded ≡ take (length yielded) texts → (length yielded < length texts) × (text ≡ get_or texts (length yielded) text) → IsNotDone core p text mid why
+      → StopsAt core p texts old (length yielded) why
+  stops_here texts yielded text old mid why does so_far turn not = (
+    text,
+    mid,
+    subst (λ (l : List Text). DoesAll core p l old mid) so_far does,
+    slice_get_read texts (length texts) (length yielded) text refl turn.0 turn.1,
+    not,
+  )

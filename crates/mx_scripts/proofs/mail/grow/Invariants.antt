@@ -1,9 +1,0 @@
-use Rattle.std.proofs.Common.{◌≡◌, length}
-use Rattle.mx_scripts.specs.Fates.{grown}
-use Rattle.mx_scripts.proofs.mail.grow.Given as goal
-
-abbrev pub invariant-loop-number : goal.invariant-loop-number
-invariant-loop-number l = record {
-  count : l.number ≡ length l.gone.items;
-  whole : grown l.sent l.gone.items ≡ grown l.sent l.initial.gone.items;
-}

@@ -1,6 +1,0 @@
-use Rattle.std.proofs.Common.{length}
-use Rattle.mx_scripts.specs.Played.{Plays}
-use Rattle.mx_scripts.proofs.scripting.each_line.Given as goal
-
-abbrev pub invariant-loop-line : goal.invariant-loop-line
-invariant-loop-line g l = Plays g.C.Exclusion.core (length l.plan.nodes) (length l.plan.registers) l.initial.cluster l.cluster

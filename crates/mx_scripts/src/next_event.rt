@@ -1,0 +1,200 @@
+//! What an order asks for next.
+
+ghost use Rattle.std.specs.Prelude.{◌≡◌, None, Some, IfErr, IfOk, IfSome, OnOk, slice_index_or};
+ghost use Rattle.mx_scripts.specs.Fates.{IsOldest, NoneWaits, can_arrive, is_waiting};
+ghost use Rattle.mx_scripts.specs.Lines.{Finds, IsAgain, IsNext, IsNoNext, Misses, Once, arrival};
+ghost use Rattle.mx_scripts.specs.Links.{link_of};
+ghost use Rattle.mx_scripts.specs.States.{Admits, Bars, IsAllowed};
+
+use crate::session_event::SessionEvent;
+use crate::state::State;
+use mx_lines::{LineFault, Order, Scope};
+use mx_network::Event;
+use mx_nodelaws::Exclusion;
+use mx_stamps::{MAX_EVENTS, NodeId};
+
+/// The delivery of a parcel.
+fn arrival(number: u64) -> SessionEvent
+    ensures { result ≡ arrival number }
+{
+    SessionEvent::Happens(Event::Deliver(number))
+}
+
+/// An event that happens once; nothing, if it has happened.
+fn once(done: u64, event: SessionEvent) -> Option<SessionEvent>
+    ensures { Once done (λ e. e ≡ event) result }
+{
+    if done > 0 { None } else { Some(event) }
+}
+
+impl<C: Exclusion> State<C> {
+    /// The next event that an order asks for, of which so many have happened; or none, if no more
+    /// is to happen.
+    ///
+    /// # Errors
+    ///
+    /// `NotUnderWay` or `NotDelivered` if there is no such parcel, `LinkCut` if its link is cut, and
+    /// `TooMany` if the cluster has had 1,000,000 events.
+    pub fn next_event(&self, order: &Order, done: u64) -> Result<Option<SessionEvent>, LineFault>
+        ensures next { IfOk result
+            (IsNext self.now.fates self.now.cluster.sent order.now done) }
+        ensures allowed { IfOk result (λ next. IfSome next (IsAllowed self.now)) }
+        ensures err { IfErr result (IsNoNext self.now order.now done) }
+    {
+        let next = self.asked(order, done)?;
+        self.admit(&next)?;
+        Ok(next)
+    }
+
+    /// The next event that an order asks for, whether or not it can happen.
+    fn asked(&self, order: &Order, done: u64) -> Result<Option<SessionEvent>, LineFault>
+        ensures next { IfOk result
+            (IsNext self.now.fates self.now.cluster.sent order.now done) }
+        ensures err { IfErr result
+            (Misses self.now.fates self.now.cluster.sent order.now done) }
+    {
+        match order {
+            Order::AllArrive(scope) => Ok(self.next_arrival(scope)),
+            Order::AllAreLost(scope) => Ok(self.next_loss(scope)),
+            Order::Happens(event) => Ok(once(done, SessionEvent::Happens(*event))),
+            Order::LinksChange(change) => Ok(once(done, SessionEvent::LinksChange(*change))),
+            Order::Arrives(from, to) => self.arrival_between(*from, *to, done),
+            Order::ArrivesAgain(from, to) => self.arrival_again(*from, *to, done),
+            Order::IsLost(from, to) => self.loss_between(*from, *to, done),
+        }
+    }
+
+    /// The delivery of the oldest of these parcels that is under way over a link that is not cut.
+    fn next_arrival(&self, scope: &Scope) -> Option<SessionEvent>
+        ensures { Finds (can_arrive self.now.fates self.now.cluster.sent scope.now)
+            arrival result }
+    {
+        match self.in_flight.oldest_arriving(&self.cluster, scope) {
+            Some(number) => Some(arrival(number)),
+            None => None,
+        }
+    }
+
+    /// The loss of the oldest of these parcels that is under way.
+    fn next_loss(&self, scope: &Scope) -> Option<SessionEvent>
+        ensures { Finds (is_waiting self.now.fates self.now.cluster.sent scope.now)
+            SessionEvent.IsLost result }
+    {
+        match self.in_flight.oldest_waiting(&self.cluster, scope) {
+            Some(number) => Some(SessionEvent::IsLost(number)),
+            None => None,
+        }
+    }
+
+    /// The delivery of the oldest parcel under way from one node to another, once.
+    fn arrival_between(
+        &self,
+        from: NodeId,
+        to: NodeId,
+        done: u64,
+    ) -> Result<Option<SessionEvent>, LineFault>
+        ensures next { IfOk result (Once done (λ e. Finds
+            (is_waiting self.now.fates self.now.cluster.sent (Scope.Link from to)) arrival
+            (Some e))) }
+        ensures err { IfErr result
+            (Misses self.now.fates self.now.cluster.sent (Order.Arrives from to) done) }
+    {
+        if done > 0 {
+            return Ok(None);
+        }
+        let number = self.oldest_between(from, to)?;
+        Ok(Some(arrival(number)))
+    }
+
+    /// The loss of the oldest parcel under way from one node to another, once.
+    fn loss_between(
+        &self,
+        from: NodeId,
+        to: NodeId,
+        done: u64,
+    ) -> Result<Option<SessionEvent>, LineFault>
+        ensures next { IfOk result (Once done (λ e. Finds
+            (is_waiting self.now.fates self.now.cluster.sent (Scope.Link from to))
+            SessionEvent.IsLost (Some e))) }
+        ensures err { IfErr result
+            (Misses self.now.fates self.now.cluster.sent (Order.IsLost from to) done) }
+    {
+        if done > 0 {
+            return Ok(None);
+        }
+        let number = self.oldest_between(from, to)?;
+        Ok(Some(SessionEvent::IsLost(number)))
+    }
+
+    /// Another delivery of the parcel from one node to another that was delivered last, once.
+    fn arrival_again(
+        &self,
+        from: NodeId,
+        to: NodeId,
+        done: u64,
+    ) -> Result<Option<SessionEvent>, LineFault>
+        ensures next { IfOk result (Once done (λ e. IsAgain self.now.fates from to e)) }
+        ensures err { IfErr result
+            (Misses self.now.fates self.now.cluster.sent (Order.ArrivesAgain from to) done) }
+    {
+        if done > 0 {
+            return Ok(None);
+        }
+        let number = self.last_between(from, to)?;
+        Ok(Some(arrival(number)))
+    }
+
+    /// The oldest parcel under way from one node to another.
+    fn oldest_between(&self, from: NodeId, to: NodeId) -> Result<u64, LineFault>
+        ensures found { IfOk result
+            (IsOldest (is_waiting self.now.fates self.now.cluster.sent (Scope.Link from to))) }
+        ensures none { IfErr result (λ fault. (fault ≡ LineFault.NotUnderWay)
+            × NoneWaits self.now.fates self.now.cluster.sent (Scope.Link from to)) }
+    {
+        match self
+            .in_flight
+            .oldest_waiting(&self.cluster, &Scope::Link(from, to))
+        {
+            Some(number) => Ok(number),
+            None => Err(LineFault::NotUnderWay),
+        }
+    }
+
+    /// The parcel from one node to another that was delivered last.
+    fn last_between(&self, from: NodeId, to: NodeId) -> Result<u64, LineFault>
+        ensures found { IfOk result (λ k.
+            slice_index_or self.now.fates.last (link_of from to) None ≡ Some k) }
+        ensures none { IfErr result (λ fault. (fault ≡ LineFault.NotDelivered)
+            × (slice_index_or self.now.fates.last (link_of from to) None ≡ None)) }
+    {
+        match self.in_flight.last_between(from, to) {
+            Some(number) => Ok(number),
+            None => Err(LineFault::NotDelivered),
+        }
+    }
+
+    /// Whether the next event can happen: the cluster may have one more, and its link is not cut.
+    fn admit(&self, next: &Option<SessionEvent>) -> Result<(), LineFault>
+        ensures ok { OnOk result (Admits self.now next.now) }
+        ensures err { IfErr result (Bars self.now next.now) }
+    {
+        match next {
+            Some(SessionEvent::Happens(event)) => self.admit_event(event),
+            Some(SessionEvent::IsLost(_) | SessionEvent::LinksChange(_)) | None => Ok(()),
+        }
+    }
+
+    /// Whether an event can happen.
+    fn admit_event(&self, event: &Event) -> Result<(), LineFault>
+        ensures ok { OnOk result (IsAllowed self.now (SessionEvent.Happens event.now)) }
+        ensures err { IfErr result (Bars self.now (Some (SessionEvent.Happens event.now))) }
+    {
+        if self.cluster.trace().len() >= MAX_EVENTS {
+            return Err(LineFault::TooMany);
+        }
+        if !self.can_pass(event) {
+            return Err(LineFault::LinkCut);
+        }
+        Ok(())
+    }
+}

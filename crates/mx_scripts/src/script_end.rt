@@ -1,0 +1,78 @@
+//! How a script ends, and how that is told.
+
+ghost use Rattle.std.specs.Prelude.{◌≡◌, ◌&&◌, false, string_bytes, IfErr, IfOk};
+ghost use Rattle.std.specs.Io.KnownBytes.{Keeps};
+ghost use Rattle.mx_cli.specs.Closed.{IsRunStatus, PassesOn};
+ghost use Rattle.mx_cli.specs.Words.{names_of};
+ghost use Rattle.mx_scripts.specs.Ended.{ClosesScript, IsFileOfNames, IsScriptError, IsLineError};
+ghost use Rattle.mx_scripts.specs.ScriptFiles.{IsScriptFile};
+
+use crate::script::script_file;
+use crate::script_error::ScriptError;
+use crate::texts::text_in;
+use mx_cli::{CommandError, Names, close, close_with, fetch_named};
+use mx_io::{Output, Source};
+use mx_plan::Plan;
+use std::alloc::Global;
+
+/// The file of the events of a script, or why there is none.
+pub fn file_of_names<S: Source>(
+    alloc: Global,
+    names: &Names<'_>,
+    source: &mut S,
+) -> Result<String, ScriptError>
+    ensures ok { IfOk result (λ text.
+        IsFileOfNames (S.told source.old) (names_of names.now) (string_bytes text)) }
+    ensures err { IfErr result (IsScriptError (S.told source.old) (names_of names.now)) }
+{
+    match fetch_named(alloc, source, names) {
+        Ok(both) => file_of_bytes(alloc, &both.plan, both.text.as_slice()),
+        Err(error) => Err(ScriptError::Command(error)),
+    }
+}
+
+/// The file of the events that the bytes of a script ask for. Where no line is refused, only memory
+/// can be at fault.
+fn file_of_bytes(alloc: Global, plan: &Plan, script: &[u8]) -> Result<String, ScriptError>
+    ensures ok { IfOk result (λ text.
+        IsScriptFile plan.now script.now (string_bytes text) plan.now.shape) }
+    ensures err { IfErr result IsLineError }
+{
+    match file_of_text(alloc, plan, script) {
+        Ok(file) => Ok(file),
+        Err(ScriptError::AtLine(line)) => Err(ScriptError::AtLine(line)),
+        Err(ScriptError::Command(_)) => Err(ScriptError::Command(CommandError::Memory)),
+    }
+}
+
+fn file_of_text(alloc: Global, plan: &Plan, script: &[u8]) -> Result<String, ScriptError>
+    ensures { IfOk result (λ text.
+        IsScriptFile plan.now script.now (string_bytes text) plan.now.shape) }
+{
+    let text = text_in(alloc, script)?;
+    script_file(alloc, plan, text)
+}
+
+/// Flushes the output, reports why there is no file, and returns the status: that of the end, 1
+/// after a fault or a refused write, 5 if memory ran out.
+pub fn close_script<O: Output, E: Output>(
+    alloc: Global,
+    ended: Result<u8, ScriptError>,
+    names: &Names<'_>,
+    out: &mut O,
+    err: &mut E,
+) -> u8
+    ensures closes { ClosesScript (O.takes_all out.old && E.takes_all err.old) (names_of names.now)
+        ended (E.written err.old) (E.written err.new) result }
+    ensures status { IfOk ended (λ own. own ≡ 0) → IsRunStatus result }
+    ensures held { Keeps (O.written out.old) (O.written out.new) }
+    ensures passed { result ≡ 0 → O.keeps_back out.new ≡ false }
+    ensures kept_back { PassesOn (E.written err.old) (E.written err.new) (O.keeps_back out.new)
+        result }
+{
+    match ended {
+        Ok(status) => close(alloc, Ok(status), names, out, err),
+        Err(ScriptError::Command(error)) => close(alloc, Err(error), names, out, err),
+        Err(ScriptError::AtLine(line)) => close_with(alloc, line, out, err),
+    }
+}

@@ -1,0 +1,120 @@
+//! A cluster, and what has become of its parcels.
+
+ghost use Rattle.std.specs.Prelude.{◌≡◌, IfErr, IsTrue, OnOk};
+ghost use Rattle.mx_scripts.specs.Fates.{can_pass, is_under_way};
+ghost use Rattle.mx_scripts.specs.States.{Brings, IsAllowed, IsNotApplied, before_any};
+
+use crate::in_flight::InFlight;
+use crate::script_error::LineFailure;
+use crate::session_event::SessionEvent;
+use mx_lines::LinkChange;
+use mx_network::{Cluster, Entry, Event};
+use mx_nodelaws::Exclusion;
+use std::alloc::Global;
+use std::marker::Model;
+
+/// A cluster, and what has become of its parcels.
+#[derive(Drop)]
+pub struct State<C: Exclusion> {
+    pub(crate) cluster: Cluster<C>,
+    pub(crate) in_flight: InFlight,
+}
+
+impl<C: Exclusion> Model for State<C> {
+    ghost use Rattle.mx_scripts.specs.States.{RunState};
+
+    ghost Value = { RunState C C.Msg };
+
+    ghost view = { λ s. record { cluster = s.cluster; fates = s.in_flight } };
+}
+
+impl<C: Exclusion> State<C> {
+    /// A cluster before any parcel was sent.
+    pub fn of(alloc: Global, cluster: Cluster<C>) -> Self
+        ensures { result ≡ before_any cluster }
+    {
+        State {
+            cluster,
+            in_flight: InFlight::new(alloc),
+        }
+    }
+
+    pub fn cluster(&self) -> &Cluster<C>
+        ensures { result.now ≡ self.now.cluster }
+    {
+        &self.cluster
+    }
+
+    /// The events so far, with their outcomes.
+    pub(crate) fn trace(&self) -> &[Entry]
+        ensures { result.now ≡ self.now.cluster.trace }
+    {
+        self.cluster.trace()
+    }
+
+    /// Whether a parcel was neither delivered nor lost.
+    pub fn is_under_way(&self, number: u64) -> bool
+        ensures { result ≡ is_under_way self.now.fates number }
+    {
+        self.in_flight.is_under_way(number)
+    }
+
+    /// Whether an event delivers no parcel over a link that is cut.
+    pub(crate) fn can_pass(&self, event: &Event) -> bool
+        ensures { result ≡ can_pass self.now.fates self.now.cluster.sent event.now }
+    {
+        self.in_flight.can_pass(event, &self.cluster)
+    }
+
+    /// Does what was asked for.
+    ///
+    /// # Errors
+    ///
+    /// `Refused` if the cluster has no such node or parcel: then nothing changes. `Memory` if it
+    /// runs out.
+    pub fn apply(&mut self, event: &SessionEvent) -> Result<(), LineFailure>
+        requires { IsAllowed self.old event.now }
+        ensures ok { OnOk result (Brings C.core self.old event.now self.new) }
+        ensures err { IfErr result (IsNotApplied C.core self.old event.now self.new) }
+    {
+        match event {
+            SessionEvent::Happens(event) => self.advance(event),
+            SessionEvent::IsLost(number) => {
+                self.lose(*number);
+                Ok(())
+            }
+            SessionEvent::LinksChange(change) => {
+                self.change(change);
+                Ok(())
+            }
+        }
+    }
+
+    /// A parcel that is under way is lost.
+    fn lose(&mut self, number: u64)
+        requires { IsTrue (is_under_way self.old.fates number) }
+        ensures { Brings C.core self.old (SessionEvent.IsLost number) self.new }
+    {
+        self.in_flight.lose(number);
+    }
+
+    /// Links are cut, or heal.
+    fn change(&mut self, change: &LinkChange)
+        ensures { Brings C.core self.old (SessionEvent.LinksChange change.now) self.new }
+    {
+        self.in_flight.change(change);
+    }
+
+    /// An event happens.
+    fn advance(&mut self, event: &Event) -> Result<(), LineFailure>
+        requires { IsTrue (can_pass self.old.fates self.old.cluster.sent event.now) }
+        ensures ok { OnOk result
+            (Brings C.core self.old (SessionEvent.Happens event.now) self.new) }
+        ensures err { IfErr result
+            (IsNotApplied C.core self.old (SessionEvent.Happens event.now) self.new) }
+    {
+        self.cluster.advance(*event)?;
+        self.in_flight.note(event, &self.cluster)?;
+        Ok(())
+    }
+}
