@@ -51,7 +51,7 @@ pub fn drive<K: Sink, O: Output>(
 fn drive_from<C: Exclusion + Knowledge, K: Sink, O: Output>(
     alloc: Global,
     plan: &Plan,
-    mut cluster: Cluster<C>,
+    cluster: Cluster<C>,
     events: &[Event],
     sink: &mut K,
     out: &mut O,
@@ -67,25 +67,25 @@ where
     ensures zero { IfOk result (λ status. status ≡ 0) }
     ensures stays { O.takes_all out.new ≡ O.takes_all out.old }
 {
-    drive_events(alloc, plan, &mut cluster, events, sink, out)
+    let mut run = Run { plan, cluster };
+    drive_events(alloc, &mut run, events, sink, out)
 }
 
 /// Applies each event in turn, and then prints the closing text.
 fn drive_events<C: Exclusion + Knowledge, K: Sink, O: Output>(
     alloc: Global,
-    plan: &Plan,
-    cluster: &mut Cluster<C>,
+    run: &mut Run<'_, C>,
     events: &[Event],
     sink: &mut K,
     out: &mut O,
 ) -> Result<u8, CommandError>
 where
     C::Msg: Letter,
-    requires members { length cluster.old.members ≡ length plan.now.nodes }
-    requires named { AllNameNodes (length plan.now.nodes) events.now }
+    requires members { length run.old.cluster.members ≡ length run.old.plan.now.nodes }
+    requires named { AllNameNodes (length run.old.plan.now.nodes) events.now }
     ensures ran { Ran (O.takes_all out.old) (O.written out.old) (O.written out.new)
-        (report_from C.core (texts_by (K.texts (K.settings sink.old)) plan.now C.core C.knows
-        C.Msg.parts C.Msg.words) 0 cluster.old events.now) result }
+        (report_from C.core (texts_by (K.texts (K.settings sink.old)) run.old.plan.now C.core
+        C.knows C.Msg.parts C.Msg.words) 0 run.old.cluster events.now) result }
     ensures refused { O.has_refused out.new ≡ refused_after result (O.has_refused out.old) }
     ensures zero { IfOk result (λ status. status ≡ 0) }
     ensures stays { O.takes_all out.new ≡ O.takes_all out.old }
@@ -93,39 +93,37 @@ where
     let mut text = String::new(alloc);
     for (index, event) in events.iter().enumerate() {
         text.clear();
-        drive_event(plan, index as u64, event, cluster, sink, &mut text)?;
+        drive_event(run, index as u64, event, sink, &mut text)?;
         out.put(text.as_bytes())?;
     }
     text.clear();
-    let run = Run { plan, cluster };
-    let status = sink.end(alloc, &run, &mut text)?;
+    let status = sink.end(alloc, run, &mut text)?;
     out.put(text.as_bytes())?;
     Ok(status)
 }
 
 /// Applies an event, and appends what the sink prints of it.
 fn drive_event<C: Exclusion + Knowledge, K: Sink>(
-    plan: &Plan,
+    run: &mut Run<'_, C>,
     index: u64,
     event: &Event,
-    cluster: &mut Cluster<C>,
     sink: &mut K,
     text: &mut String,
 ) -> Result<(), CommandError>
 where
     C::Msg: Letter,
-    requires named { NamesNodes (length cluster.old.members) event.now }
+    requires named { NamesNodes (length run.old.cluster.members) event.now }
     requires empty { string_bytes text.old ≡ [] }
-    ensures ok { OnOk result (step_of C.core cluster.old event.now ≡ Ok cluster.new) }
+    ensures ok { OnOk result (step_of C.core run.old.cluster event.now ≡ Ok run.new.cluster) }
     ensures text { OnOk result (string_bytes text.new
-        ≡ (texts_by (K.texts (K.settings sink.old)) plan.now C.core C.knows C.Msg.parts
-        C.Msg.words).event index cluster.old cluster.new) }
-    ensures err { IfErr result (StopsAt index (step_of C.core cluster.old event.now)) }
+        ≡ (texts_by (K.texts (K.settings sink.old)) run.old.plan.now C.core C.knows C.Msg.parts
+        C.Msg.words).event index run.old.cluster run.new.cluster) }
+    ensures err { IfErr result (StopsAt index (step_of C.core run.old.cluster event.now)) }
+    ensures same { OnOk result (run.new.plan.now ≡ run.old.plan.now) }
     ensures stays { OnOk result (K.settings sink.new ≡ K.settings sink.old) }
 {
-    let before = cluster.sent();
-    apply(index, event, cluster)?;
-    let run = Run { plan, cluster };
-    sink.event(&run, index, before, text)?;
+    let before = run.cluster.sent();
+    apply(index, event, &mut run.cluster)?;
+    sink.event(run, index, before, text)?;
     Ok(())
 }

@@ -41,15 +41,15 @@ impl Sink for Lines {
     ) -> Result<(), AllocError>
     where
         C::Msg: Letter,
-        requires noted { 0 < length run.now.cluster.now.trace }
-        requires sent { before ≤ length run.now.cluster.now.sent }
+        requires noted { 0 < length run.now.cluster.trace }
+        requires sent { before ≤ length run.now.cluster.sent }
         ensures text { (old : ClusterState C C.Msg) (entry : Entry)
-            → run.now.cluster.now.trace ≡ old.trace ++ entry ∷ [] → before ≡ length old.sent
+            → run.now.cluster.trace ≡ old.trace ++ entry ∷ [] → before ≡ length old.sent
             → OnOk result (string_bytes text.new ≡ string_bytes text.old
-            ++ text_of C.core (letter_text C.Msg.parts) run.now.plan.now index old run.now.cluster.now) }
+            ++ text_of C.core (letter_text C.Msg.parts) run.now.plan.now index old run.now.cluster) }
         ensures stays { self.new ≡ self.old }
     {
-        add_event(run.plan, index, before, run.cluster, text)
+        add_event(run.plan, index, before, &run.cluster, text)
     }
 
     fn end<C: Exclusion + Knowledge>(
@@ -60,12 +60,12 @@ impl Sink for Lines {
     ) -> Result<u8, AllocError>
     where
         C::Msg: Letter,
-        requires members { length run.now.cluster.now.members ≡ length run.now.plan.now.nodes }
+        requires members { length run.now.cluster.members ≡ length run.now.plan.now.nodes }
         ensures text { OnOk result (string_bytes text.new ≡ string_bytes text.old
-            ++ closing_text C.core (letter_text C.Msg.parts) run.now.plan.now run.now.cluster.now) }
+            ++ closing_text C.core (letter_text C.Msg.parts) run.now.plan.now run.now.cluster) }
         ensures zero { IfOk result (λ status. status ≡ 0) }
     {
-        let verdict = add_closing(run.plan, run.cluster, text)?;
+        let verdict = add_closing(run.plan, &run.cluster, text)?;
         Ok(verdict_status(verdict))
     }
 }

@@ -13,10 +13,10 @@ use mx_plan::Plan;
 use std::alloc::{AllocError, Global};
 
 /// A run of a plan: its cluster, after the events so far.
-#[derive(Clone, Copy)]
+#[derive(Drop)]
 pub struct Run<'a, C: Exclusion> {
     pub plan: &'a Plan,
-    pub cluster: &'a Cluster<C>,
+    pub cluster: Cluster<C>,
 }
 
 /// A sink of the events of a run. It appends what is printed of each event, and of the end.
@@ -45,13 +45,13 @@ pub trait Sink {
     ) -> Result<(), AllocError>
     where
         C::Msg: Letter,
-        requires noted { 0 < length run.now.cluster.now.trace }
-        requires sent { before ≤ length run.now.cluster.now.sent }
+        requires noted { 0 < length run.now.cluster.trace }
+        requires sent { before ≤ length run.now.cluster.sent }
         ensures text { (old : ClusterState C C.Msg) (entry : Entry)
-            → run.now.cluster.now.trace ≡ old.trace ++ entry ∷ [] → before ≡ length old.sent
+            → run.now.cluster.trace ≡ old.trace ++ entry ∷ [] → before ≡ length old.sent
             → OnOk result (string_bytes text.new ≡ string_bytes text.old
             ++ (texts_by (texts (settings self.old)) run.now.plan.now C.core C.knows C.Msg.parts
-            C.Msg.words).event index old run.now.cluster.now) }
+            C.Msg.words).event index old run.now.cluster) }
         ensures stays { settings self.new ≡ settings self.old };
 
     /// Appends the closing text of a run, and returns the status.
@@ -67,9 +67,9 @@ pub trait Sink {
     ) -> Result<u8, AllocError>
     where
         C::Msg: Letter,
-        requires members { length run.now.cluster.now.members ≡ length run.now.plan.now.nodes }
+        requires members { length run.now.cluster.members ≡ length run.now.plan.now.nodes }
         ensures text { OnOk result (string_bytes text.new ≡ string_bytes text.old
             ++ (texts_by (texts (settings self.old)) run.now.plan.now C.core C.knows C.Msg.parts
-            C.Msg.words).closing run.now.cluster.now) }
+            C.Msg.words).closing run.now.cluster) }
         ensures zero { IfOk result (λ status. status ≡ 0) };
 }

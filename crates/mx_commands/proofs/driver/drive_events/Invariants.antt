@@ -9,12 +9,13 @@ use Rattle.mx_commands.proofs.driver.drive_events.Given as goal
 
 abbrev pub invariant-loop-index : goal.invariant-loop-index
 invariant-loop-index g l =
-    let texts = texts_by (g.K.Sink.texts (g.K.Sink.settings l.initial.sink)) l.plan g.C.Exclusion.core g.C.Knowledge.knows g.C.Msg.Letter.parts g.C.Msg.Letter.words in
+    let texts = texts_by (g.K.Sink.texts (g.K.Sink.settings l.initial.sink)) l.initial.run.plan.now g.C.Exclusion.core g.C.Knowledge.knows g.C.Msg.Letter.parts g.C.Msg.Letter.words in
     record {
       stays : g.O.Output.takes_all l.out ≡ g.O.Output.takes_all l.initial.out;
       refused : g.O.Output.has_refused l.out ≡ g.O.Output.has_refused l.initial.out;
       settings : g.K.Sink.settings l.sink ≡ g.K.Sink.settings l.initial.sink;
-      members : length l.cluster.members ≡ length l.plan.nodes;
+      members : length l.run.cluster.members ≡ length l.initial.run.plan.now.nodes;
+      plan : l.run.plan.now ≡ l.initial.run.plan.now;
       written : (done : List Text) × Appends (g.O.Output.written l.initial.out) (g.O.Output.written l.out) (concat done)
-          × (report_from g.C.Exclusion.core texts 0 l.initial.cluster l.events ≡ after_texts done (remaining g.C.Exclusion.core texts l.events l.index l.cluster));
+          × (report_from g.C.Exclusion.core texts 0 l.initial.run.cluster l.events ≡ after_texts done (remaining g.C.Exclusion.core texts l.events l.index l.run.cluster));
     }
