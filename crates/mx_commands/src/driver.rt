@@ -14,7 +14,7 @@ use mx_cli::CommandError;
 use mx_format::Letter;
 use mx_io::Output;
 use mx_knowledge::Knowledge;
-use mx_network::{Cluster, Event};
+use mx_network::Event;
 use mx_nodelaws::Exclusion;
 use mx_plan::Plan;
 use std::alloc::Global;
@@ -43,31 +43,29 @@ pub fn drive<K: Sink, O: Output>(
     by_shape!(
         alloc,
         plan,
-        |cluster| drive_from(alloc, plan, cluster, events, sink, out)
+        |cluster| drive_run(alloc, Run { plan, cluster }, events, sink, out)
     )
 }
 
-/// Applies events to a cluster.
-fn drive_from<C: Exclusion + Knowledge, K: Sink, O: Output>(
+/// Applies events to a run.
+fn drive_run<C: Exclusion + Knowledge, K: Sink, O: Output>(
     alloc: Global,
-    plan: &Plan,
-    cluster: Cluster<C>,
+    mut run: Run<'_, C>,
     events: &[Event],
     sink: &mut K,
     out: &mut O,
 ) -> Result<u8, CommandError>
 where
     C::Msg: Letter,
-    requires members { length cluster.members ≡ length plan.now.nodes }
-    requires named { AllNameNodes (length plan.now.nodes) events.now }
+    requires members { length run.cluster.members ≡ length run.plan.now.nodes }
+    requires named { AllNameNodes (length run.plan.now.nodes) events.now }
     ensures ran { Ran (O.takes_all out.old) (O.written out.old) (O.written out.new)
-        (report_from C.core (texts_by (K.texts (K.settings sink.old)) plan.now C.core C.knows
-        C.Msg.parts C.Msg.words) 0 cluster events.now) result }
+        (report_from C.core (texts_by (K.texts (K.settings sink.old)) run.entry.plan.now C.core
+        C.knows C.Msg.parts C.Msg.words) 0 run.entry.cluster events.now) result }
     ensures refused { O.has_refused out.new ≡ refused_after result (O.has_refused out.old) }
     ensures zero { IfOk result (λ status. status ≡ 0) }
     ensures stays { O.takes_all out.new ≡ O.takes_all out.old }
 {
-    let mut run = Run { plan, cluster };
     drive_events(alloc, &mut run, events, sink, out)
 }
 

@@ -1,4 +1,4 @@
-use Rattle.std.proofs.Common.{◌≡◌, ◌∙◌, ◌++◌, ◌+◌, [], ◌∷◌, None, Bool, ap, sym, subst, refl, rules, ℕ, List, Err, length, string_bytes}
+use Rattle.std.proofs.Common.{◌≡◌, ◌∙◌, ◌++◌, ◌+◌, [], ◌∷◌, None, Bool, ap, ap₂, sym, subst, refl, rules, ℕ, List, Err, length, string_bytes}
 use Rattle.std.specs.Bool.{⊤}
 use Rattle.std.specs.Io.KnownBytes.{Appends}
 use Rattle.mx_network.specs.Step.{step_of}
@@ -73,7 +73,7 @@ loop-index-preserved g c =
     let event = c.index-events-index.result in
     let text : Text = texts.event k old new in
     let bytes : c.as_bytes.result.now ≡ text = c.as_bytes.ensures.value ∙ c.in_ok-drive_event.ensures.text
-    ∙ ap (λ (x : g.K.Sink.Settings). (texts_by (g.K.Sink.texts x) c.args.run.now.plan.now g.C.Exclusion.core g.C.Knowledge.knows g.C.Msg.Letter.parts g.C.Msg.Letter.words).event k old new) i.settings in
+    ∙ ap₂ (λ (x : g.K.Sink.Settings) (q : Fields). (texts_by (g.K.Sink.texts x) q g.C.Exclusion.core g.C.Knowledge.knows g.C.Msg.Letter.parts g.C.Msg.Letter.words).event k old new) i.settings i.plan in
     let put = subst (λ (l : List ℕ). Appends (g.O.Output.written c.loop-index.out) (g.O.Output.written c.put.new.self) l) bytes c.in_ok-put.ensures.ok in
     let stepped = ap (step_of core old) (sym c.index-events-index.is) ∙ c.in_ok-drive_event.ensures.ok in
     record {
@@ -128,7 +128,7 @@ returns-clause-ran g c =
     let a = g.O.Output.written c.args.out.now in
     let text : Text = texts.closing c.loop-index.run.cluster in
     let bytes : c.as_bytes-2.result.now ≡ text = c.as_bytes-2.ensures.value ∙ c.in_ok-status.ensures.text
-    ∙ ap (λ (x : g.K.Sink.Settings). string_bytes c.clear-2.new.self ++ (texts_by (g.K.Sink.texts x) c.args.run.now.plan.now g.C.Exclusion.core g.C.Knowledge.knows g.C.Msg.Letter.parts g.C.Msg.Letter.words).closing c.loop-index.run.cluster) i.settings
+    ∙ ap₂ (λ (x : g.K.Sink.Settings) (q : Fields). string_bytes c.clear-2.new.self ++ (texts_by (g.K.Sink.texts x) q g.C.Exclusion.core g.C.Knowledge.knows g.C.Msg.Letter.parts g.C.Msg.Letter.words).closing c.loop-index.run.cluster) i.settings i.plan
     ∙ ap (λ (l : Text). l ++ text) c.clear-2.ensures.bytes in
     let put = subst (λ (l : List ℕ). Appends (g.O.Output.written c.loop-index.out) (g.O.Output.written c.put-2.new.self) l) bytes c.in_ok-put-2.ensures.ok in
     ran_to (g.O.Output.takes_all c.args.out.now) a (g.O.Output.written c.put-2.new.self) (report_from core texts 0 c.args.run.now.cluster es) (i.written.0 ++ text ∷ []) None
