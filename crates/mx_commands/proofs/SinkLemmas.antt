@@ -2,20 +2,16 @@
 use Rattle.std.proofs.Common.{◌≡◌, ◌+◌, ℕ, List, [], ◌∷◌, Result, Ok, Err, refl}
 use Rattle.mx_nodelaws.specs.Core.{Core}
 use Rattle.mx_ricart.specs.Step.{ricart_core}
-use Rattle.mx_ricart.specs.Knows.{known_of as ricart_known}
 use Rattle.mx_maekawa.specs.Step.{maekawa_core}
-use Rattle.mx_maekawa.specs.Knows.{known_of as maekawa_known}
 use Rattle.mx_raymond.specs.Step.{raymond_core}
-use Rattle.mx_raymond.specs.Knows.{known_of as raymond_known}
 use Rattle.mx_events.specs.declared.event.Event.{Event}
 use Rattle.mx_network.specs.Step.{ClusterState, step_of}
 use Rattle.mx_network.specs.declared.faults.StepFault.{StepFault}
 use Rattle.mx_plan.specs.Fields.{Fields}
 use Rattle.mx_plan.specs.declared.shape.Shape.{Shape}
 use Rattle.mx_plan.specs.declared.shape.Shape.TheVariants.{Ricart, Maekawa, Raymond}
-use Rattle.mx_format.specs.Parts.{maekawa_parts, maekawa_words, raymond_parts, raymond_words, ricart_parts, ricart_words}
 use Rattle.mx_commands.specs.Runs.{Texts, at_rest, report_from, stepped}
-use Rattle.mx_commands.specs.Sinks.{Printing, report_by, texts_by}
+use Rattle.mx_commands.specs.Sinks.{TextsBy, report_by}
 
 module _ {H S M : Type 0} (core : Core H S M) (texts others : Texts S M) where
   step_end : (es : List Event) (k : ℕ) (g : ClusterState S M) (r : Result (ClusterState S M) StepFault)
@@ -29,13 +25,7 @@ module _ {H S M : Type 0} (core : Core H S M) (texts others : Texts S M) where
   same_end [] k g = refl
   same_end (e ∷ es) k g = step_end es k g (step_of core g e) (λ new. same_end es (k + 1) new)
 
-pub end_alike : (printing other : Printing) (p : Fields) (es : List Event) (shape : Shape) → (report_by printing p shape es).end ≡ (report_by other p shape es).end
-end_alike printing other p es (Ricart count) =
-    same_end ricart_core (texts_by printing p ricart_core ricart_known ricart_parts ricart_words) (texts_by other p ricart_core ricart_known ricart_parts ricart_words)
-    es 0 (at_rest ricart_core p count)
-end_alike printing other p es (Maekawa family) =
-    same_end maekawa_core (texts_by printing p maekawa_core maekawa_known maekawa_parts maekawa_words) (texts_by other p maekawa_core maekawa_known maekawa_parts maekawa_words)
-    es 0 (at_rest maekawa_core p family)
-end_alike printing other p es (Raymond tree) =
-    same_end raymond_core (texts_by printing p raymond_core raymond_known raymond_parts raymond_words) (texts_by other p raymond_core raymond_known raymond_parts raymond_words)
-    es 0 (at_rest raymond_core p tree)
+pub end_alike : (texts others : TextsBy) (p : Fields) (es : List Event) (shape : Shape) → (report_by texts p shape es).end ≡ (report_by others p shape es).end
+end_alike texts others p es (Ricart count) = same_end ricart_core texts.ricart others.ricart es 0 (at_rest ricart_core p count)
+end_alike texts others p es (Maekawa family) = same_end maekawa_core texts.maekawa others.maekawa es 0 (at_rest maekawa_core p family)
+end_alike texts others p es (Raymond tree) = same_end raymond_core texts.raymond others.raymond es 0 (at_rest raymond_core p tree)

@@ -21,7 +21,7 @@ use Rattle.mx_io.specs.Told.{Telling}
 
 -- the run of a plan's events, by its algorithm
 abbrev pub run_by : Fields → Shape → List Event → Report
-run_by = report_by replay_lines
+run_by p = report_by (replay_lines p) p
 
 -- go on with what was read
 abbrev pub where_read : {T : Type 0} → Result T PlanFault → (T → Report) → Report

@@ -21,6 +21,6 @@ pub use driver::drive;
 pub use exploration::{entries_in, happen, is_entry};
 pub use lines::{Lines, add_closing};
 pub use runs::{newest, start, step};
-pub use sink::{Run, Sink};
+pub use sink::{Running, Sink};
 pub use verdict_json::VerdictJson;
 pub use verdicts::{VerdictLine, add_verdict, verdict_status};

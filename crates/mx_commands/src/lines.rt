@@ -4,17 +4,14 @@ ghost use Rattle.std.specs.Prelude.{◌≡◌, ◌<◌, ◌≤◌, [], ◌∷◌
 ghost use Rattle.mx_network.specs.Step.{ClusterState};
 ghost use Rattle.mx_trace.specs.declared.outcome.Entry.{Entry};
 ghost use Rattle.mx_format.specs.LetterTexts.{letter_text};
-ghost use Rattle.mx_commands.specs.Runs.{closing_text, text_of};
-ghost use Rattle.mx_commands.specs.Sinks.{replay_lines};
-ghost use Rattle.mx_commands.specs.declared.lines.Lines.{Lines};
+ghost use Rattle.mx_commands.specs.Runs.{closing_text, lines, text_of};
 
 use crate::cluster_lines::{add_nodes, add_parcels};
 use crate::runs::newest;
-use crate::sink::{Run, Sink};
+use crate::sink::Sink;
 use crate::verdicts::{VerdictLine, verdict_status};
 use mx_explorer::{Verdict, judge};
 use mx_format::{EventLine, Letter};
-use mx_knowledge::Knowledge;
 use mx_network::Cluster;
 use mx_nodelaws::Exclusion;
 use mx_plan::Plan;
@@ -25,47 +22,44 @@ use std::alloc::{AllocError, Global};
 #[derive(Clone, Copy)]
 pub struct Lines;
 
-impl Sink for Lines {
-    ghost Settings = { Lines };
+impl<C: Exclusion> Sink<Cluster<C>> for Lines
+where
+    C::Msg: Letter,
+{
+    ghost texts = { λ _ p. lines C.core (letter_text C.Msg.parts) p };
 
-    ghost settings = { λ sink. sink };
-
-    ghost texts = { λ _. replay_lines };
-
-    fn event<C: Exclusion + Knowledge>(
+    fn event(
         &mut self,
-        run: &Run<'_, C>,
+        plan: &Plan,
         index: u64,
         before: u64,
+        cluster: &Cluster<C>,
         text: &mut String,
     ) -> Result<(), AllocError>
-    where
-        C::Msg: Letter,
-        requires noted { 0 < length run.now.cluster.trace }
-        requires sent { before ≤ length run.now.cluster.sent }
+        requires noted { 0 < length cluster.now.trace }
+        requires sent { before ≤ length cluster.now.sent }
         ensures text { (old : ClusterState C C.Msg) (entry : Entry)
-            → run.now.cluster.trace ≡ old.trace ++ entry ∷ [] → before ≡ length old.sent
+            → cluster.now.trace ≡ old.trace ++ entry ∷ [] → before ≡ length old.sent
             → OnOk result (string_bytes text.new ≡ string_bytes text.old
-            ++ text_of C.core (letter_text C.Msg.parts) run.now.plan.now index old run.now.cluster) }
+            ++ text_of C.core (letter_text C.Msg.parts) plan.now index old cluster.now) }
         ensures stays { self.new ≡ self.old }
     {
-        add_event(run.plan, index, before, &run.cluster, text)
+        add_event(plan, index, before, cluster, text)
     }
 
-    fn end<C: Exclusion + Knowledge>(
+    fn end(
         &mut self,
         _alloc: Global,
-        run: &Run<'_, C>,
+        plan: &Plan,
+        cluster: &Cluster<C>,
         text: &mut String,
     ) -> Result<u8, AllocError>
-    where
-        C::Msg: Letter,
-        requires members { length run.now.cluster.members ≡ length run.now.plan.now.nodes }
+        requires members { length cluster.now.members ≡ length plan.now.nodes }
         ensures text { OnOk result (string_bytes text.new ≡ string_bytes text.old
-            ++ closing_text C.core (letter_text C.Msg.parts) run.now.plan.now run.now.cluster) }
+            ++ closing_text C.core (letter_text C.Msg.parts) plan.now cluster.now) }
         ensures zero { IfOk result (λ status. status ≡ 0) }
     {
-        let verdict = add_closing(run.plan, &run.cluster, text)?;
+        let verdict = add_closing(plan, cluster, text)?;
         Ok(verdict_status(verdict))
     }
 }

@@ -3,32 +3,33 @@
 ghost use Rattle.std.specs.Prelude.{◌≡◌, ◌<◌, ◌≤◌, [], ◌∷◌, ◌++◌, length, string_bytes, IfOk, OnOk};
 ghost use Rattle.mx_network.specs.Step.{ClusterState};
 ghost use Rattle.mx_trace.specs.declared.outcome.Entry.{Entry};
-ghost use Rattle.mx_commands.specs.Sinks.{Printing, texts_by};
+ghost use Rattle.mx_plan.specs.Fields.{Fields};
+ghost use Rattle.mx_commands.specs.Runs.{Texts};
 
-use mx_format::Letter;
-use mx_knowledge::Knowledge;
 use mx_network::Cluster;
 use mx_nodelaws::Exclusion;
 use mx_plan::Plan;
 use std::alloc::{AllocError, Global};
 
-/// A run of a plan: its cluster, after the events so far.
-#[derive(Drop)]
-pub struct Run<'a, C: Exclusion> {
-    pub plan: &'a Plan,
-    pub cluster: Cluster<C>,
+/// A cluster, as a contract of a sink sees it.
+pub trait Running {
+    /// The algorithm of its nodes.
+    type Core: Exclusion;
+
+    ghost state: { Self → ClusterState Self.Core Self.Core.Msg };
 }
 
-/// A sink of the events of a run. It appends what is printed of each event, and of the end.
-pub trait Sink {
-    // what its texts depend on
-    ghost Settings: { Type 0 };
+impl<C: Exclusion> Running for Cluster<C> {
+    type Core = C;
 
-    // those of this sink, which a run does not change
-    ghost settings: { Self → Settings };
+    ghost state = { λ cluster. cluster };
+}
 
-    // what it prints
-    ghost texts: { Settings → Printing };
+/// A sink of the events of a run, by a cluster `R`. It appends what is printed of each event, and
+/// of the end.
+pub trait Sink<R: Running> {
+    // what it prints of a run of a plan; this does not change during the run
+    ghost texts: { Self → Fields → Texts R.Core R.Core.Msg };
 
     /// Appends the text of the newest event of a run. The event has this index, and sent the
     /// parcels from `before` on.
@@ -36,40 +37,36 @@ pub trait Sink {
     /// # Errors
     ///
     /// Returns `AllocError` if memory runs out.
-    fn event<C: Exclusion + Knowledge>(
+    fn event(
         &mut self,
-        run: &Run<'_, C>,
+        plan: &Plan,
         index: u64,
         before: u64,
+        cluster: &R,
         text: &mut String,
     ) -> Result<(), AllocError>
-    where
-        C::Msg: Letter,
-        requires noted { 0 < length run.now.cluster.trace }
-        requires sent { before ≤ length run.now.cluster.sent }
-        ensures text { (old : ClusterState C C.Msg) (entry : Entry)
-            → run.now.cluster.trace ≡ old.trace ++ entry ∷ [] → before ≡ length old.sent
+        requires noted { 0 < length (R.state cluster.now).trace }
+        requires sent { before ≤ length (R.state cluster.now).sent }
+        ensures text { (old : ClusterState R.Core R.Core.Msg) (entry : Entry)
+            → (R.state cluster.now).trace ≡ old.trace ++ entry ∷ [] → before ≡ length old.sent
             → OnOk result (string_bytes text.new ≡ string_bytes text.old
-            ++ (texts_by (texts (settings self.old)) run.now.plan.now C.core C.knows C.Msg.parts
-            C.Msg.words).event index old run.now.cluster) }
-        ensures stays { settings self.new ≡ settings self.old };
+            ++ (texts self.old plan.now).event index old (R.state cluster.now)) }
+        ensures stays { texts self.new ≡ texts self.old };
 
     /// Appends the closing text of a run, and returns the status.
     ///
     /// # Errors
     ///
     /// Returns `AllocError` if memory runs out.
-    fn end<C: Exclusion + Knowledge>(
+    fn end(
         &mut self,
         alloc: Global,
-        run: &Run<'_, C>,
+        plan: &Plan,
+        cluster: &R,
         text: &mut String,
     ) -> Result<u8, AllocError>
-    where
-        C::Msg: Letter,
-        requires members { length run.now.cluster.members ≡ length run.now.plan.now.nodes }
+        requires members { length (R.state cluster.now).members ≡ length plan.now.nodes }
         ensures text { OnOk result (string_bytes text.new ≡ string_bytes text.old
-            ++ (texts_by (texts (settings self.old)) run.now.plan.now C.core C.knows C.Msg.parts
-            C.Msg.words).closing run.now.cluster) }
+            ++ (texts self.old plan.now).closing (R.state cluster.now)) }
         ensures zero { IfOk result (λ status. status ≡ 0) };
 }

@@ -2,14 +2,13 @@ use Rattle.std.proofs.Common.{◌≡◌, ◌∙◌, ◌≤◌, ◌++◌, ap, len
 use Rattle.mx_plan.specs.Text.{Text}
 use Rattle.mx_trace.specs.declared.outcome.Entry.{Entry}
 use Rattle.mx_network.proofs.Happening.{noted}
-use Rattle.mx_commands.specs.Sinks.{texts_by}
 use Rattle.mx_commands.proofs.RunLemmas.{grows, has_newest}
 use Rattle.mx_commands.proofs.driver.drive_event.Goals as goal
 
 pub event-requires : goal.event-requires
 event-requires g c =
     let core = g.C.Exclusion.core in
-    let old = c.args.run.now.cluster in
+    let old = c.args.cluster.now in
     let new = c.apply.new.cluster in
     let event = c.args.event.now in
     let n = noted core old event new c.in_ok-apply.ensures.ok in
@@ -19,11 +18,11 @@ event-requires g c =
 
 pub returns-clause-text : goal.returns-clause-text
 returns-clause-text g c =
-    let old = c.args.run.now.cluster in
+    let old = c.args.cluster.now in
     let new = c.apply.new.cluster in
     let event = c.args.event.now in
     let n = noted g.C.Exclusion.core old event new c.in_ok-apply.ensures.ok in
     let entry : Entry = record { event = event; outcome = n.0 } in
-    let texts = texts_by (g.K.Sink.texts (g.K.Sink.settings c.args.sink.now)) c.args.run.now.plan.now g.C.Exclusion.core g.C.Knowledge.knows g.C.Msg.Letter.parts g.C.Msg.Letter.words in
+    let texts = g.K.Sink.texts c.args.sink.now c.args.plan.now in
     c.in_ok-event.ensures.text old entry n.1 c.sent-before.ensures
     ∙ ap (λ (t : Text). t ++ texts.event c.args.index old new) c.requires.empty

@@ -1,17 +1,16 @@
-use Rattle.std.proofs.Common.{◌≡◌, ◌∙◌, ◌++◌, ◌+◌, [], ◌∷◌, None, Bool, ap, ap₂, sym, subst, refl, rules, ℕ, List, Err, length, string_bytes}
+use Rattle.std.proofs.Common.{◌≡◌, ◌∙◌, ◌++◌, ◌+◌, [], ◌∷◌, None, Bool, ap, sym, subst, refl, rules, ℕ, List, Err, length, string_bytes}
 use Rattle.std.specs.Bool.{⊤}
 use Rattle.std.specs.Io.KnownBytes.{Appends}
 use Rattle.mx_network.specs.Step.{step_of}
 use Rattle.mx_events.specs.declared.event.Event.{Event}
 use Rattle.mx_plan.specs.Text.{Text}
 use Rattle.mx_plan.specs.Fields.{Fields}
-use Rattle.mx_commands.specs.Runs.{NamesNodes, after_texts, ends_with, report_from}
+use Rattle.mx_commands.specs.Runs.{NamesNodes, Texts, after_texts, ends_with, report_from}
 use Rattle.mx_cli.specs.declared.faults.CommandError.TheVariants as command_error
 use Rattle.mx_io.specs.Outputs.{refused_by}
 use Rattle.mx_cli.specs.Outputs.{error_of}
 use Rattle.mx_commands.specs.Ran.{StopsAt}
 use Rattle.mx_cli.proofs.OutputLemmas.{Appends-nil, appends_more}
-use Rattle.mx_commands.specs.Sinks.{texts_by}
 use Rattle.mx_commands.proofs.RunLemmas.{after_after, done_some, err_is, grows, named_at, ran_to, refused_on, remaining, remaining_end, remaining_ok, stopped_at, stopped_by, stops_taken}
 use Rattle.mx_commands.proofs.driver.drive_events.Goals as goal
 
@@ -19,18 +18,17 @@ pub loop-index-init : goal.loop-index-init
 loop-index-init g c = record {
   stays = refl;
   refused = refl;
-  settings = refl;
-  plan = refl;
+  texts = refl;
   members = c.requires.members;
   written = ([], Appends-nil (g.O.Output.written c.args.out.now), refl);
 }
 
 pub drive_event-requires : goal.drive_event-requires
 drive_event-requires g c =
-    let p = c.args.run.now.plan.now in
+    let p = c.args.plan.now in
     let event = c.index-events-index.result in
     let named = named_at (length p.nodes) c.args.events.now c.loop-index.index event c.requires.named c.loop-index-test.true in
-    let there : NamesNodes (length c.loop-index.run.cluster.members) event =
+    let there : NamesNodes (length c.loop-index.cluster.members) event =
     subst (λ (n : ℕ). NamesNodes n event) (sym c.loop-index.invariant.members) (subst (λ (e : Event). NamesNodes (length p.nodes) e) (sym c.index-events-index.is) named) in
     (search rules, (there, c.clear.ensures.bytes))
 
@@ -40,10 +38,10 @@ returns-in_err-drive_event-clause-ran g c =
     let s = c.in_err-drive_event.field-0.0 in
     let k = c.loop-index.index in
     let core = g.C.Exclusion.core in
-    let at_event = subst (λ (x : Event). StopsAt k (step_of core c.loop-index.run.cluster x) s) c.index-events-index.is c.in_err-drive_event.ensures.err in
-    let texts = texts_by (g.K.Sink.texts (g.K.Sink.settings c.args.sink.now)) c.args.run.now.plan.now g.C.Exclusion.core g.C.Knowledge.knows g.C.Msg.Letter.parts g.C.Msg.Letter.words in
+    let at_event = subst (λ (x : Event). StopsAt k (step_of core c.loop-index.cluster x) s) c.index-events-index.is c.in_err-drive_event.ensures.err in
+    let texts = g.K.Sink.texts c.args.sink.now c.args.plan.now in
     let final = stopped_at core texts (g.O.Output.takes_all c.args.out.now) (g.O.Output.written c.args.out.now) (g.O.Output.written c.loop-index.out)
-    c.args.events.now (report_from core texts 0 c.args.run.now.cluster c.args.events.now) k c.loop-index.run.cluster c.index-events-index.result s i.written.0 c.loop-index-test.true i.written.2 i.written.1 at_event in
+    c.args.events.now (report_from core texts 0 c.args.cluster.now c.args.events.now) k c.loop-index.cluster c.index-events-index.result s i.written.0 c.loop-index-test.true i.written.2 i.written.1 at_event in
     let is : c.from_residual.result ≡ Err s = err_is c.from_residual.result s c.from_residual.ensures.1 in
     rw is final
 
@@ -52,10 +50,10 @@ returns-in_err-put-clause-ran g c =
     let i = c.loop-index.invariant in
     let f = c.in_err-put.field-0.0 in
     let core = g.C.Exclusion.core in
-    let texts = texts_by (g.K.Sink.texts (g.K.Sink.settings c.args.sink.now)) c.args.run.now.plan.now g.C.Exclusion.core g.C.Knowledge.knows g.C.Msg.Letter.parts g.C.Msg.Letter.words in
+    let texts = g.K.Sink.texts c.args.sink.now c.args.plan.now in
     let final = stopped_by (g.O.Output.takes_all c.args.out.now) (g.O.Output.takes_all c.loop-index.out) (g.O.Output.written c.args.out.now) (g.O.Output.written c.loop-index.out)
-    (g.O.Output.written c.put.new.self) (report_from core texts 0 c.args.run.now.cluster c.args.events.now)
-    (remaining core texts c.args.events.now c.loop-index.index c.loop-index.run.cluster)
+    (g.O.Output.written c.put.new.self) (report_from core texts 0 c.args.cluster.now c.args.events.now)
+    (remaining core texts c.args.events.now c.loop-index.index c.loop-index.cluster)
     i.written.0 f i.written.2 i.written.1 c.in_err-put.ensures.err i.stays c.in_err-put.ensures.takes in
     let is : c.from_residual-in_err-put.result ≡ Err (error_of f) = search rules in
     rw is final
@@ -64,23 +62,22 @@ pub loop-index-preserved : goal.loop-index-preserved
 loop-index-preserved g c =
     let i = c.loop-index.invariant in
     let core = g.C.Exclusion.core in
-    let texts = texts_by (g.K.Sink.texts (g.K.Sink.settings c.args.sink.now)) c.args.run.now.plan.now g.C.Exclusion.core g.C.Knowledge.knows g.C.Msg.Letter.parts g.C.Msg.Letter.words in
-    let p = c.args.run.now.plan.now in
+    let texts = g.K.Sink.texts c.args.sink.now c.args.plan.now in
+    let p = c.args.plan.now in
     let es = c.args.events.now in
     let k = c.loop-index.index in
-    let old = c.loop-index.run.cluster in
-    let new = c.drive_event.new.run.cluster in
+    let old = c.loop-index.cluster in
+    let new = c.drive_event.new.cluster in
     let event = c.index-events-index.result in
     let text : Text = texts.event k old new in
     let bytes : c.as_bytes.result.now ≡ text = c.as_bytes.ensures.value ∙ c.in_ok-drive_event.ensures.text
-    ∙ ap₂ (λ (x : g.K.Sink.Settings) (q : Fields). (texts_by (g.K.Sink.texts x) q g.C.Exclusion.core g.C.Knowledge.knows g.C.Msg.Letter.parts g.C.Msg.Letter.words).event k old new) i.settings i.plan in
+    ∙ ap (λ (x : Fields → Texts g.row.C.Denot g.row.C-Msg.Denot). (x p).event k old new) i.texts in
     let put = subst (λ (l : List ℕ). Appends (g.O.Output.written c.loop-index.out) (g.O.Output.written c.put.new.self) l) bytes c.in_ok-put.ensures.ok in
     let stepped = ap (step_of core old) (sym c.index-events-index.is) ∙ c.in_ok-drive_event.ensures.ok in
     record {
       stays = c.in_ok-put.ensures.stays ∙ i.stays;
       refused = c.in_ok-put.ensures.refused ∙ i.refused;
-      plan = c.in_ok-drive_event.ensures.same ∙ i.plan;
-      settings = c.in_ok-drive_event.ensures.stays ∙ i.settings;
+      texts = c.in_ok-drive_event.ensures.stays ∙ i.texts;
       members = (grows core old new event c.in_ok-drive_event.ensures.ok).0 ∙ i.members;
       written = (
         i.written.0 ++ text ∷ [],
@@ -90,17 +87,17 @@ loop-index-preserved g c =
     }
 
 pub end-requires : goal.end-requires
-end-requires g c = (search rules, c.loop-index.invariant.members ∙ ap (λ (p : Fields). length p.nodes) (sym c.loop-index.invariant.plan))
+end-requires g c = record { members = c.loop-index.invariant.members }
 
 pub returns-in_err-status-clause-ran : goal.returns-in_err-status-clause-ran
 returns-in_err-status-clause-ran g c =
     let i = c.loop-index.invariant in
     let core = g.C.Exclusion.core in
-    let texts = texts_by (g.K.Sink.texts (g.K.Sink.settings c.args.sink.now)) c.args.run.now.plan.now g.C.Exclusion.core g.C.Knowledge.knows g.C.Msg.Letter.parts g.C.Msg.Letter.words in
-    let p = c.args.run.now.plan.now in
+    let texts = g.K.Sink.texts c.args.sink.now c.args.plan.now in
+    let p = c.args.plan.now in
     let es = c.args.events.now in
-    let final = done_some (g.O.Output.written c.args.out.now) (g.O.Output.written c.loop-index.out) (report_from core texts 0 c.args.run.now.cluster es)
-    (remaining core texts es c.loop-index.index c.loop-index.run.cluster) i.written.0 i.written.2 i.written.1 in
+    let final = done_some (g.O.Output.written c.args.out.now) (g.O.Output.written c.loop-index.out) (report_from core texts 0 c.args.cluster.now es)
+    (remaining core texts es c.loop-index.index c.loop-index.cluster) i.written.0 i.written.2 i.written.1 in
     let is : c.from_residual-in_err-status.result ≡ Err command_error.Memory =
     err_is c.from_residual-in_err-status.result command_error.Memory c.from_residual-in_err-status.ensures.1 in
     rw is final
@@ -110,10 +107,10 @@ returns-in_err-put-2-clause-ran g c =
     let i = c.loop-index.invariant in
     let f = c.in_err-put-2.field-0.0 in
     let core = g.C.Exclusion.core in
-    let texts = texts_by (g.K.Sink.texts (g.K.Sink.settings c.args.sink.now)) c.args.run.now.plan.now g.C.Exclusion.core g.C.Knowledge.knows g.C.Msg.Letter.parts g.C.Msg.Letter.words in
+    let texts = g.K.Sink.texts c.args.sink.now c.args.plan.now in
     let final = stopped_by (g.O.Output.takes_all c.args.out.now) (g.O.Output.takes_all c.loop-index.out) (g.O.Output.written c.args.out.now) (g.O.Output.written c.loop-index.out)
-    (g.O.Output.written c.put-2.new.self) (report_from core texts 0 c.args.run.now.cluster c.args.events.now)
-    (remaining core texts c.args.events.now c.loop-index.index c.loop-index.run.cluster)
+    (g.O.Output.written c.put-2.new.self) (report_from core texts 0 c.args.cluster.now c.args.events.now)
+    (remaining core texts c.args.events.now c.loop-index.index c.loop-index.cluster)
     i.written.0 f i.written.2 i.written.1 c.in_err-put-2.ensures.err i.stays c.in_err-put-2.ensures.takes in
     let is : c.from_residual-in_err-put-2.result ≡ Err (error_of f) = err_is c.from_residual-in_err-put-2.result (error_of f) c.from_residual-in_err-put-2.ensures.1 in
     rw is final
@@ -122,17 +119,17 @@ pub returns-clause-ran : goal.returns-clause-ran
 returns-clause-ran g c =
     let i = c.loop-index.invariant in
     let core = g.C.Exclusion.core in
-    let texts = texts_by (g.K.Sink.texts (g.K.Sink.settings c.args.sink.now)) c.args.run.now.plan.now g.C.Exclusion.core g.C.Knowledge.knows g.C.Msg.Letter.parts g.C.Msg.Letter.words in
-    let p = c.args.run.now.plan.now in
+    let texts = g.K.Sink.texts c.args.sink.now c.args.plan.now in
+    let p = c.args.plan.now in
     let es = c.args.events.now in
     let a = g.O.Output.written c.args.out.now in
-    let text : Text = texts.closing c.loop-index.run.cluster in
+    let text : Text = texts.closing c.loop-index.cluster in
     let bytes : c.as_bytes-2.result.now ≡ text = c.as_bytes-2.ensures.value ∙ c.in_ok-status.ensures.text
-    ∙ ap₂ (λ (x : g.K.Sink.Settings) (q : Fields). string_bytes c.clear-2.new.self ++ (texts_by (g.K.Sink.texts x) q g.C.Exclusion.core g.C.Knowledge.knows g.C.Msg.Letter.parts g.C.Msg.Letter.words).closing c.loop-index.run.cluster) i.settings i.plan
+    ∙ ap (λ (x : Fields → Texts g.row.C.Denot g.row.C-Msg.Denot). string_bytes c.clear-2.new.self ++ (x p).closing c.loop-index.cluster) i.texts
     ∙ ap (λ (l : Text). l ++ text) c.clear-2.ensures.bytes in
     let put = subst (λ (l : List ℕ). Appends (g.O.Output.written c.loop-index.out) (g.O.Output.written c.put-2.new.self) l) bytes c.in_ok-put-2.ensures.ok in
-    ran_to (g.O.Output.takes_all c.args.out.now) a (g.O.Output.written c.put-2.new.self) (report_from core texts 0 c.args.run.now.cluster es) (i.written.0 ++ text ∷ []) None
-    (i.written.2 ∙ ap (after_texts i.written.0) (remaining_end core texts es c.loop-index.index c.loop-index.run.cluster c.loop-index-test.false)
+    ran_to (g.O.Output.takes_all c.args.out.now) a (g.O.Output.written c.put-2.new.self) (report_from core texts 0 c.args.cluster.now es) (i.written.0 ++ text ∷ []) None
+    (i.written.2 ∙ ap (after_texts i.written.0) (remaining_end core texts es c.loop-index.index c.loop-index.cluster c.loop-index-test.false)
     ∙ after_after i.written.0 (text ∷ []) (ends_with None))
     (appends_more a (g.O.Output.written c.loop-index.out) (g.O.Output.written c.put-2.new.self) i.written.0 text i.written.1 put)
 
@@ -140,7 +137,7 @@ pub returns-in_err-drive_event-clause-refused : goal.returns-in_err-drive_event-
 returns-in_err-drive_event-clause-refused g c =
     let i = c.loop-index.invariant in
     let s = c.in_err-drive_event.field-0.0 in
-    let wanted = step_of g.C.Exclusion.core c.loop-index.run.cluster c.index-events-index.result in
+    let wanted = step_of g.C.Exclusion.core c.loop-index.cluster c.index-events-index.result in
     let final = i.refused ∙ stops_taken c.loop-index.index wanted s (g.O.Output.has_refused c.args.out.now) c.in_err-drive_event.ensures.err in
     let is : c.from_residual.result ≡ Err s = err_is c.from_residual.result s c.from_residual.ensures.1 in
     rw is final
