@@ -1,4 +1,4 @@
-use Rattle.std.proofs.Common.{◌≡◌, ◌∙◌, ◌≤◌, ◌++◌, ap, length, rules, subst, sym, ℕ}
+use Rattle.std.proofs.Common.{◌≡◌, ◌∙◌, ◌≤◌, ◌++◌, ap, length, subst, sym, ℕ}
 use Rattle.mx_plan.specs.Text.{Text}
 use Rattle.mx_trace.specs.declared.outcome.Entry.{Entry}
 use Rattle.mx_network.proofs.Happening.{noted}
@@ -14,7 +14,7 @@ event-requires g c =
     let n = noted core old event new c.in_ok-apply.ensures.ok in
     let h = (grows core old new event c.in_ok-apply.ensures.ok).1 in
     let le : c.sent-before.result ≤ length new.sent = subst (λ (n : ℕ). n ≤ length new.sent) (sym c.sent-before.ensures) h in
-    (search rules, (has_newest new.trace old.trace (record { event = event; outcome = n.0 }) n.1, le))
+    record { noted = has_newest new.trace old.trace (record { event = event; outcome = n.0 }) n.1; sent = le }
 
 pub returns-clause-text : goal.returns-clause-text
 returns-clause-text g c =

@@ -18,7 +18,7 @@ pub loop-index-init : goal.loop-index-init
 loop-index-init g c = record {
   stays = refl;
   refused = refl;
-  texts = refl;
+  sink = refl;
   members = c.requires.members;
   written = ([], Appends-nil (g.O.Output.written c.args.out.now), refl);
 }
@@ -71,13 +71,13 @@ loop-index-preserved g c =
     let event = c.index-events-index.result in
     let text : Text = texts.event k old new in
     let bytes : c.as_bytes.result.now ≡ text = c.as_bytes.ensures.value ∙ c.in_ok-drive_event.ensures.text
-    ∙ ap (λ (x : Fields → Texts g.row.C.Denot g.row.C-Msg.Denot). (x p).event k old new) i.texts in
+    ∙ ap (λ (x : Fields → Texts g.row.C.Denot g.row.C-Msg.Denot). (x p).event k old new) i.sink in
     let put = subst (λ (l : List ℕ). Appends (g.O.Output.written c.loop-index.out) (g.O.Output.written c.put.new.self) l) bytes c.in_ok-put.ensures.ok in
     let stepped = ap (step_of core old) (sym c.index-events-index.is) ∙ c.in_ok-drive_event.ensures.ok in
     record {
       stays = c.in_ok-put.ensures.stays ∙ i.stays;
       refused = c.in_ok-put.ensures.refused ∙ i.refused;
-      texts = c.in_ok-drive_event.ensures.stays ∙ i.texts;
+      sink = c.in_ok-drive_event.ensures.stays ∙ i.sink;
       members = (grows core old new event c.in_ok-drive_event.ensures.ok).0 ∙ i.members;
       written = (
         i.written.0 ++ text ∷ [],
@@ -125,7 +125,7 @@ returns-clause-ran g c =
     let a = g.O.Output.written c.args.out.now in
     let text : Text = texts.closing c.loop-index.cluster in
     let bytes : c.as_bytes-2.result.now ≡ text = c.as_bytes-2.ensures.value ∙ c.in_ok-status.ensures.text
-    ∙ ap (λ (x : Fields → Texts g.row.C.Denot g.row.C-Msg.Denot). string_bytes c.clear-2.new.self ++ (x p).closing c.loop-index.cluster) i.texts
+    ∙ ap (λ (x : Fields → Texts g.row.C.Denot g.row.C-Msg.Denot). string_bytes c.clear-2.new.self ++ (x p).closing c.loop-index.cluster) i.sink
     ∙ ap (λ (l : Text). l ++ text) c.clear-2.ensures.bytes in
     let put = subst (λ (l : List ℕ). Appends (g.O.Output.written c.loop-index.out) (g.O.Output.written c.put-2.new.self) l) bytes c.in_ok-put-2.ensures.ok in
     ran_to (g.O.Output.takes_all c.args.out.now) a (g.O.Output.written c.put-2.new.self) (report_from core texts 0 c.args.cluster.now es) (i.written.0 ++ text ∷ []) None

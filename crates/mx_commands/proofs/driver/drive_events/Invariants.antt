@@ -12,7 +12,7 @@ invariant-loop-index g l =
     record {
       stays : g.O.Output.takes_all l.out ≡ g.O.Output.takes_all l.initial.out;
       refused : g.O.Output.has_refused l.out ≡ g.O.Output.has_refused l.initial.out;
-      texts : g.K.Sink.texts l.sink ≡ g.K.Sink.texts l.initial.sink;
+      sink : g.K.Sink.texts l.sink ≡ g.K.Sink.texts l.initial.sink;
       members : length l.cluster.members ≡ length l.plan.nodes;
       written : (done : List Text) × Appends (g.O.Output.written l.initial.out) (g.O.Output.written l.out) (concat done)
           × (report_from g.C.Exclusion.core texts 0 l.initial.cluster l.events ≡ after_texts done (remaining g.C.Exclusion.core texts l.events l.index l.cluster));
