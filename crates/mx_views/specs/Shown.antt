@@ -34,7 +34,7 @@ use Rattle.mx_format.specs.NodeTexts.{member_line}
 use Rattle.mx_format.specs.ParcelTexts.{parcel_line}
 use Rattle.mx_format.specs.Parts.{Parts, maekawa_parts, raymond_parts, ricart_parts}
 use Rattle.mx_commands.specs.Runs.{Report, Texts, at_rest, report_from}
-use Rattle.mx_commands.specs.Sinks.{Printing, report_by}
+use Rattle.mx_commands.specs.Sinks.{TextsBy, report_by}
 use Rattle.mx_commands.specs.VerdictLines.{verdict_text}
 use Rattle.mx_views.specs.EventJson.{event_json}
 use Rattle.mx_views.specs.NodeJson.{member_json}
@@ -159,13 +159,17 @@ module _ {H S M : Type 0} (core : Core H S M) (parts : M → Parts) (p : Fields)
       ((if view.is_quiet then [] else shown_from core parts p view 0 start es)
       ++ closing_text p view core knows g)
 
--- what is shown by a view, by the nodes of any algorithm
-abbrev pub view_lines : View → Printing
-view_lines view p H S M by = view_texts by.core by.parts p view by.knows
+-- what is shown of a run, by the nodes of each algorithm
+abbrev pub view_lines : Fields → View → TextsBy
+view_lines p view = record {
+  ricart = view_texts ricart_core ricart_parts p view ricart_known;
+  maekawa = view_texts maekawa_core maekawa_parts p view maekawa_known;
+  raymond = view_texts raymond_core raymond_parts p view raymond_known;
+}
 
 -- the report of events that lead from the cluster of a plan, at rest, by its algorithm
 abbrev pub view_by : Fields → View → Shape → List Event → Report
-view_by p view = report_by (view_lines view) p
+view_by p view = report_by (view_lines p view) p
 
 -- the lines of such events were printed
 abbrev pub PrintsBy : Fields → View → List Event → Held → Held → Shape → Type 0

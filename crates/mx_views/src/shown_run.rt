@@ -4,70 +4,61 @@ ghost use Rattle.std.specs.Prelude.{◌≡◌, ◌+◌, ◌<◌, ◌≤◌, List
 ghost use Rattle.mx_network.specs.Step.{ClusterState};
 ghost use Rattle.mx_trace.specs.declared.outcome.Entry.{Entry};
 ghost use Rattle.mx_format.specs.Lines.{texts_from};
-ghost use Rattle.mx_views.specs.Shown.{closing_text, shown_entry, shown_parcel, step_text, view_lines};
-ghost use Rattle.mx_views.specs.declared.selection.View.{View};
+ghost use Rattle.mx_views.specs.Shown.{closing_text, shown_entry, shown_parcel, step_text, view_texts};
 
 use crate::closing_lines::add_closing;
 use crate::event_json::add_event_json;
 use crate::parcel_json::add_parcel_json;
 use crate::selection::{Selection, View};
-use mx_commands::{Run, Sink, newest, verdict_status};
+use mx_commands::{Sink, newest, verdict_status};
 use mx_format::{EventLine, Letter, add_parcel_line};
 use mx_knowledge::Knowledge;
 use mx_member::SentParcel;
 use mx_network::{Cluster, Entry};
 use mx_nodelaws::Exclusion;
+use mx_plan::Plan;
 use std::alloc::{AllocError, Global};
 
-impl Sink for View {
-    ghost Settings = { View };
+impl<C: Exclusion + Knowledge> Sink<Cluster<C>> for View
+where
+    C::Msg: Letter,
+{
+    ghost texts = { λ view p. view_texts C.core C.Msg.parts p view C.knows };
 
-    ghost settings = { λ view. view };
-
-    ghost texts = { view_lines };
-
-    fn event<C: Exclusion + Knowledge>(
+    fn event(
         &mut self,
-        run: &Run<'_, C>,
+        plan: &Plan,
         index: u64,
         before: u64,
+        cluster: &Cluster<C>,
         text: &mut String,
     ) -> Result<(), AllocError>
-    where
-        C::Msg: Letter,
-        requires noted { 0 < length run.now.cluster.trace }
-        requires sent { before ≤ length run.now.cluster.sent }
+        requires noted { 0 < length cluster.now.trace }
+        requires sent { before ≤ length cluster.now.sent }
         ensures text { (old : ClusterState C C.Msg) (entry : Entry)
-            → run.now.cluster.trace ≡ old.trace ++ entry ∷ [] → before ≡ length old.sent
+            → cluster.now.trace ≡ old.trace ++ entry ∷ [] → before ≡ length old.sent
             → OnOk result (string_bytes text.new ≡ string_bytes text.old
-            ++ step_text C.Msg.parts run.now.plan.now self.old index old run.now.cluster) }
+            ++ step_text C.Msg.parts plan.now self.old index old cluster.now) }
         ensures stays { self.new ≡ self.old }
     {
-        let selection = Selection {
-            plan: run.plan,
-            view: *self,
-        };
-        add_step(&selection, index, before, &run.cluster, text)
+        let selection = Selection { plan, view: *self };
+        add_step(&selection, index, before, cluster, text)
     }
 
-    fn end<C: Exclusion + Knowledge>(
+    fn end(
         &mut self,
         alloc: Global,
-        run: &Run<'_, C>,
+        plan: &Plan,
+        cluster: &Cluster<C>,
         text: &mut String,
     ) -> Result<u8, AllocError>
-    where
-        C::Msg: Letter,
-        requires members { length run.now.cluster.members ≡ length run.now.plan.now.nodes }
+        requires members { length cluster.now.members ≡ length plan.now.nodes }
         ensures text { OnOk result (string_bytes text.new ≡ string_bytes text.old
-            ++ closing_text run.now.plan.now self.old C.core C.knows run.now.cluster) }
+            ++ closing_text plan.now self.old C.core C.knows cluster.now) }
         ensures zero { IfOk result (λ status. status ≡ 0) }
     {
-        let selection = Selection {
-            plan: run.plan,
-            view: *self,
-        };
-        let verdict = add_closing(alloc, &selection, &run.cluster, text)?;
+        let selection = Selection { plan, view: *self };
+        let verdict = add_closing(alloc, &selection, cluster, text)?;
         Ok(verdict_status(verdict))
     }
 }

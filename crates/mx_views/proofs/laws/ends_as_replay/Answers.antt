@@ -4,4 +4,4 @@ use Rattle.mx_views.specs.Shown.{view_lines}
 use Rattle.mx_views.proofs.laws.ends_as_replay.Goals as goal
 
 pub returns : goal.returns
-returns c = λ view. end_alike (view_lines view) replay_lines c.args.plan.now c.args.events.now c.args.plan.now.shape
+returns c = λ view. end_alike (view_lines c.args.plan.now view) (replay_lines c.args.plan.now) c.args.plan.now c.args.events.now c.args.plan.now.shape
