@@ -1,4 +1,4 @@
-use Rattle.std.proofs.Common.{◌≡◌, ◌∙◌, ◌≤◌, ◌++◌, ap, length, subst, sym, ℕ}
+use Rattle.std.proofs.Common.{◌∙◌, ◌≤◌, ◌++◌, ap, length, subst, sym, ℕ}
 use Rattle.mx_plan.specs.Text.{Text}
 use Rattle.mx_trace.specs.declared.outcome.Entry.{Entry}
 use Rattle.mx_network.proofs.Happening.{noted}
