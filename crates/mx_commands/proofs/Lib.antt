@@ -1,4 +1,5 @@
 pub mod RunLemmas
+pub mod SinkLemmas
 pub mod EventLemmas
 pub mod ExploreLemmas
 pub mod JobLemmas

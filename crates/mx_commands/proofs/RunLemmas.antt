@@ -1,5 +1,5 @@
 -- The texts of events, one after another.
-use Rattle.std.proofs.Common.{◌≡◌, ◌∙◌, ℕ, zero, suc, ◌+◌, ◌<◌, ◌≤◌, Bool, true, false, List, [], ◌∷◌, ◌++◌, length, take, drop, get_or, slice_get, ap, ap₂, sym, refl, append_assoc, Result, Ok, Err, Option, Some, None, subst, inl, inr, arith}
+use Rattle.std.proofs.Common.{◌≡◌, ◌∙◌, ℕ, zero, suc, ◌+◌, ◌<◌, ◌≤◌, Bool, true, false, List, [], ◌∷◌, ◌++◌, length, take, drop, get_or, slice_get, ap, ap₂, sym, refl, append_assoc, Result, Ok, Err, OnOk, Option, Some, None, subst, inl, inr, arith}
 use Rattle.std.specs.Prelude.{IsErrAnd}
 use Rattle.std.specs.Bool.{⊤}
 use Rattle.std.specs.Io.KnownBytes.{Appends, Keeps}
@@ -14,7 +14,7 @@ use Rattle.mx_member.specs.Steps.{start_of}
 use Rattle.mx_network.specs.Step.{ClusterState, step_of, at_part, at_member, part_of, grown, answer_of, IsFaultOf, NamesNoNode}
 use Rattle.mx_events.specs.declared.event.Event.{Event}
 use Rattle.mx_events.specs.declared.event.Event.TheVariants as event
-use Rattle.mx_trace.specs.declared.outcome.Outcome.{Outcome}
+use Rattle.mx_trace.specs.declared.outcome.Entry.{Entry}
 use Rattle.mx_network.specs.declared.faults.StepFault.{StepFault}
 use Rattle.mx_network.specs.declared.faults.StepFault.TheVariants as step_fault
 use Rattle.mx_plan.specs.Text.{Text}
@@ -28,7 +28,7 @@ use Rattle.mx_io.specs.declared.output.OutputFault.TheVariants as output_fault
 use Rattle.mx_format.specs.EventTexts.{event_line}
 use Rattle.mx_format.specs.ParcelTexts.{parcel_lines}
 use Rattle.mx_cli.proofs.OutputLemmas.{some_keeps}
-use Rattle.mx_commands.specs.Runs.{Report, at_rest, after_texts, closing_text, whole, ends_with, event_lines, text_of, stepped, run_from, NamesNodes, AllNameNodes}
+use Rattle.mx_commands.specs.Runs.{Report, Texts, at_rest, after_texts, closing_text, whole, ends_with, event_lines, lines, text_of, stepped, report_from, NamesNodes, AllNameNodes}
 use Rattle.mx_io.specs.Outputs.{Held, refused_by}
 use Rattle.mx_cli.specs.Outputs.{AppendsSome, refused_after, error_of}
 use Rattle.mx_commands.specs.Ran.{Ran, StopsAt}
@@ -91,41 +91,68 @@ named_at n [] k d all lt = absurd (omega (arith, lt))
 named_at n (e ∷ es) zero d all lt = all.0
 named_at n (e ∷ es) (suc k) d all lt = named_at n es k d all.1 (omega (arith, lt))
 
--- the text of one event, from what was appended to an empty one
-pub text_is : {H S M : Type 0} (core : Core H S M) (letter : Fields → M → Text) (p : Fields) (k n : ℕ) (old new : ClusterState S M) (e : Event) (o : Outcome) (t0 t1 t2 : Text)
-    → new.trace ≡ old.trace ++ (record { event = e; outcome = o }) ∷ [] → n ≡ length old.sent → t0 ≡ []
-    → t1 ≡ t0 ++ event_line p k e o → t2 ≡ t1 ++ parcel_lines letter p n (drop n new.sent) → t2 ≡ text_of core letter p k old new
-text_is core letter p k n old new e o t0 t1 t2 trace count empty line parcels =
-    let lines : event_lines p k (drop (length old.trace) new.trace) ≡ event_line p k e o =
-    ap (event_lines p k) (ap (drop (length old.trace)) trace ∙ drop_at old.trace _ (length old.trace) refl) ∙ append_nil (event_line p k e o) in
-    parcels ∙ ap₂ (λ (l : Text) (m : ℕ). l ++ parcel_lines letter p m (drop m new.sent)) (line ∙ ap (λ (l : Text). l ++ event_line p k e o) empty ∙ sym lines) count
+-- the text of one event, by what was appended
+text_is : {H S M : Type 0} (core : Core H S M) (letter : Fields → M → Text) (p : Fields) (k n : ℕ) (old new : ClusterState S M) (x : Entry) (t0 t1 t2 : Text)
+    → new.trace ≡ old.trace ++ x ∷ [] → n ≡ length old.sent → t1 ≡ t0 ++ event_line p k x.event x.outcome → t2 ≡ t1 ++ parcel_lines letter p n (drop n new.sent)
+    → t2 ≡ t0 ++ text_of core letter p k old new
+text_is core letter p k n old new x t0 t1 t2 trace count line parcels =
+    let one : event_lines p k (drop (length old.trace) new.trace) ≡ event_line p k x.event x.outcome =
+    ap (event_lines p k) (ap (drop (length old.trace)) trace ∙ drop_at old.trace _ (length old.trace) refl) ∙ append_nil (event_line p k x.event x.outcome) in
+    parcels ∙ ap₂ (λ (l : Text) (m : ℕ). l ++ parcel_lines letter p m (drop m new.sent)) (line ∙ ap (λ (l : Text). t0 ++ l) (sym one)) count
+    ∙ append_assoc t0 (event_lines p k (drop (length old.trace) new.trace)) (parcel_lines letter p (length old.sent) (drop (length old.sent) new.sent))
+
+pub text_on : {T E H S M : Type 0} (core : Core H S M) (letter : Fields → M → Text) (p : Fields) (k n : ℕ) (old new : ClusterState S M) (x : Entry) (r : Result T E) (t0 t1 t2 : Text)
+    → new.trace ≡ old.trace ++ x ∷ [] → n ≡ length old.sent → t1 ≡ t0 ++ event_line p k x.event x.outcome → OnOk r (t2 ≡ t1 ++ parcel_lines letter p n (drop n new.sent))
+    → OnOk r (t2 ≡ t0 ++ text_of core letter p k old new)
+text_on core letter p k n old new x (Ok t) t0 t1 t2 trace count line parcels = text_is core letter p k n old new x t0 t1 t2 trace count line parcels
+text_on core letter p k n old new x (Err e) t0 t1 t2 trace count line parcels = tt
+
+-- a list that ends by an item has one
+pub has_newest : (xs front : List Entry) (x : Entry) → xs ≡ front ++ x ∷ [] → 0 < length xs
+has_newest xs front x is = omega (arith, simp length-append at (ap length is))
 
 -- ---- a run
 
 pub after_after : (a b : List Text) (r : Report) → after_texts a (after_texts b r) ≡ after_texts (a ++ b) r
 after_after a b r = ap (λ l. let q : Report = record { texts = l; end = r.end } in q) (sym (append_assoc a b r.texts))
 
-module _ {H S M : Type 0} (core : Core H S M) (letter : Fields → M → Text) (p : Fields) (es : List Event) where
+module _ {H S M : Type 0} (core : Core H S M) (texts : Texts S M) (es : List Event) where
   -- the report of the events from the k-th on
-  abbrev pub rest : ℕ → ClusterState S M → Report
-  rest k g = run_from core letter p k g (drop k es)
+  abbrev pub remaining : ℕ → ClusterState S M → Report
+  remaining k g = report_from core texts k g (drop k es)
 
-  rest_one : (k : ℕ) (g : ClusterState S M) (d : Event) → k < length es
-      → rest k g ≡ stepped core letter p k g (step_of core g (get_or es k d)) (λ new. rest (k + 1) new)
-  unfolding run_from
-  rest_one k g d h = at_drop_more (run_from core letter p k g) es k d h
+  remaining_one : (k : ℕ) (g : ClusterState S M) (d : Event) → k < length es
+      → remaining k g ≡ stepped texts k g (step_of core g (get_or es k d)) (λ new. remaining (k + 1) new)
+  unfolding report_from
+  remaining_one k g d h = at_drop_more (report_from core texts k g) es k d h
+
+  pub remaining_ok : (k : ℕ) (g new : ClusterState S M) (d : Event) → k < length es → step_of core g (get_or es k d) ≡ Ok new
+      → remaining k g ≡ after_texts (texts.event k g new ∷ []) (remaining (k + 1) new)
+  remaining_ok k g new d h is = remaining_one k g d h ∙ ap (λ r. stepped texts k g r (λ next. remaining (k + 1) next)) is
+
+  pub remaining_err : (k : ℕ) (g : ClusterState S M) (f : StepFault) (d : Event) → k < length es → step_of core g (get_or es k d) ≡ Err f
+      → remaining k g ≡ ends_with (Some (NoParcel k))
+  remaining_err k g f d h is = remaining_one k g d h ∙ ap (λ r. stepped texts k g r (λ next. remaining (k + 1) next)) is
+
+  pub remaining_end : (k : ℕ) (g : ClusterState S M) → length es ≤ k → remaining k g ≡ whole (texts.closing g)
+  unfolding report_from
+  remaining_end k g h = at_drop_all (report_from core texts k g) es k h
+
+-- the same of the lines of a replay
+module _ {H S M : Type 0} (core : Core H S M) (letter : Fields → M → Text) (p : Fields) (es : List Event) where
+  abbrev pub rest : ℕ → ClusterState S M → Report
+  rest = remaining core (lines core letter p) es
 
   pub rest_ok : (k : ℕ) (g new : ClusterState S M) (d : Event) → k < length es → step_of core g (get_or es k d) ≡ Ok new
       → rest k g ≡ after_texts (text_of core letter p k g new ∷ []) (rest (k + 1) new)
-  rest_ok k g new d h is = rest_one k g d h ∙ ap (λ r. stepped core letter p k g r (λ new. rest (k + 1) new)) is
+  rest_ok = remaining_ok core (lines core letter p) es
 
   pub rest_err : (k : ℕ) (g : ClusterState S M) (f : StepFault) (d : Event) → k < length es → step_of core g (get_or es k d) ≡ Err f
       → rest k g ≡ ends_with (Some (NoParcel k))
-  rest_err k g f d h is = rest_one k g d h ∙ ap (λ r. stepped core letter p k g r (λ new. rest (k + 1) new)) is
+  rest_err = remaining_err core (lines core letter p) es
 
   pub rest_end : (k : ℕ) (g : ClusterState S M) → length es ≤ k → rest k g ≡ whole (closing_text core letter p g)
-  unfolding run_from
-  rest_end k g h = at_drop_all (run_from core letter p k g) es k h
+  rest_end = remaining_end core (lines core letter p) es
 
 -- what was done so far is some of the whole
 pub done_some : (a b : Held) (r more : Report) (done : List Text) → r ≡ after_texts done more → Appends a b (concat done) → AppendsSome a b r.texts
@@ -139,14 +166,14 @@ ran_to t a b r done end e h =
     (ap (λ (q : Report). q.end) e, subst (λ (l : List Text). Appends a b (concat l)) (sym (ap (λ (q : Report). q.texts) e ∙ append_nil done)) h)
 
 -- a run that stops at an event
-pub stopped_at : {H S M : Type 0} (core : Core H S M) (letter : Fields → M → Text) (t : Bool) (a b : Held) (p : Fields) (es : List Event) (r : Report) (k : ℕ) (g : ClusterState S M) (d : Event)
-    (s : CommandError) (done : List Text) → k < length es → r ≡ after_texts done (rest core letter p es k g) → Appends a b (concat done)
+pub stopped_at : {H S M : Type 0} (core : Core H S M) (texts : Texts S M) (t : Bool) (a b : Held) (es : List Event) (r : Report) (k : ℕ) (g : ClusterState S M) (d : Event)
+    (s : CommandError) (done : List Text) → k < length es → r ≡ after_texts done (remaining core texts es k g) → Appends a b (concat done)
     → StopsAt k (step_of core g (get_or es k d)) s → Ran t a b r (Err s)
-stopped_at core letter t a b p es r k g d s done lt so_far h (inl memory) =
-    subst (λ (x : CommandError). Ran t a b r (Err x)) (sym memory) (done_some a b r (rest core letter p es k g) done so_far h)
-stopped_at core letter t a b p es r k g d s done lt so_far h (inr none) =
+stopped_at core texts t a b es r k g d s done lt so_far h (inl memory) =
+    subst (λ (x : CommandError). Ran t a b r (Err x)) (sym memory) (done_some a b r (remaining core texts es k g) done so_far h)
+stopped_at core texts t a b es r k g d s done lt so_far h (inr none) =
     subst (λ (x : CommandError). Ran t a b r (Err x)) (sym none.0)
-    (ran_to t a b r done (Some (NoParcel k)) (so_far ∙ ap (after_texts done) (rest_err core letter p es k g step_fault.NoParcel d lt none.1)) h)
+    (ran_to t a b r done (Some (NoParcel k)) (so_far ∙ ap (after_texts done) (remaining_err core texts es k g step_fault.NoParcel d lt none.1)) h)
 
 pub is_false : (b : Bool) → (b ≡ true → ⊥) → b ≡ false
 is_false true h = absurd (h refl)

@@ -1,34 +1,27 @@
 -- What the words ask for, over what a source tells: the plan, and the report of a plan.
 use Rattle.std.specs.Prelude.{ℕ, List, Option, Some, None, Result, Ok, Err, IfSome, option_map}
 use Rattle.mx_cli.specs.Words.{Request, check, asks, replay, explore}
-use Rattle.mx_ricart.specs.Step.{ricart_core}
-use Rattle.mx_maekawa.specs.Step.{maekawa_core}
-use Rattle.mx_raymond.specs.Step.{raymond_core}
 use Rattle.mx_events.specs.declared.event.Event.{Event}
 use Rattle.mx_plan.specs.Text.{Text}
 use Rattle.mx_plan.specs.Fields.{Fields}
 use Rattle.mx_plan.specs.Events.{events_at}
 use Rattle.mx_plan.specs.declared.faults.PlanFault.{PlanFault}
 use Rattle.mx_plan.specs.declared.shape.Shape.{Shape}
-use Rattle.mx_plan.specs.declared.shape.Shape.TheVariants.{Ricart, Maekawa, Raymond}
-use Rattle.mx_format.specs.LetterTexts.{ricart_text, maekawa_text, raymond_text}
 use Rattle.mx_format.specs.PlanTexts.{plan_text}
 use Rattle.mx_format.specs.AskTexts.{plan_asks_text}
 use Rattle.mx_cli.specs.declared.faults.Fault.TheVariants.{CannotRead}
 use Rattle.mx_cli.specs.declared.faults.Named.TheVariants.{Plan, Events}
 use Rattle.mx_cli.specs.Reading.{fault_of, IsRead, plan_told, text_told}
 use Rattle.mx_commands.specs.Explored.{explored_text}
-use Rattle.mx_commands.specs.Runs.{Report, at_rest, ends_with, run_from, whole}
+use Rattle.mx_commands.specs.Runs.{Report, ends_with, whole}
+use Rattle.mx_commands.specs.Sinks.{replay_lines, report_by}
 use Rattle.mx_io.specs.Told.{Telling}
 
 -- ---- a replay
 
 -- the run of a plan's events, by its algorithm
 abbrev pub run_by : Fields → Shape → List Event → Report
-run_by p (Ricart count) = run_from ricart_core ricart_text p 0 (at_rest ricart_core p count)
-run_by p (Maekawa family) = run_from maekawa_core maekawa_text p 0 (at_rest maekawa_core p family)
-run_by p (Raymond tree) =
-    run_from raymond_core raymond_text p 0 (at_rest raymond_core p tree)
+run_by p = report_by (replay_lines p) p
 
 -- go on with what was read
 abbrev pub where_read : {T : Type 0} → Result T PlanFault → (T → Report) → Report

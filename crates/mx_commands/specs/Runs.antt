@@ -65,6 +65,30 @@ at_rest core p shape = record {
   trace = [];
 }
 
+-- what is printed of a run
+pub record Texts (S M : Type 0) : Type 0 where
+  -- of the event of an index, by the clusters before and after it
+  pub event : ℕ → ClusterState S M → ClusterState S M → Text
+  -- at the end
+  pub closing : ClusterState S M → Text
+
+module _ {S M : Type 0} (texts : Texts S M) where
+  -- the text of one event, and then the rest; or there is no such parcel, since the events that are
+  -- read name nodes of the plan
+  abbrev pub stepped : ℕ → ClusterState S M → Result (ClusterState S M) StepFault
+      → (ClusterState S M → Report) → Report
+  stepped k old (Ok new) rest = after_texts (texts.event k old new ∷ []) (rest new)
+  stepped k old (Err fault) rest = ends_with (Some (NoParcel k))
+
+module _ {H S M : Type 0} (core : Core H S M) (texts : Texts S M) where
+  -- the events from the k-th on, from a state, and then the closing text
+  unfoldable pub report_from : ℕ → ClusterState S M → List Event → Report
+  report_from k g [] = whole (texts.closing g)
+  report_from k g (e ∷ es) =
+      stepped texts k g (step_of core g e) (λ new. report_from (k + 1) new es)
+
+-- ---- the lines of a replay
+
 module _ {H S M : Type 0} (core : Core H S M) (letter_text : Fields → M → Text) (p : Fields) where
   -- what is new in the trace, and then the parcels that are new
   abbrev pub text_of : ℕ → ClusterState S M → ClusterState S M → Text
@@ -72,18 +96,13 @@ module _ {H S M : Type 0} (core : Core H S M) (letter_text : Fields → M → Te
       event_lines p k (drop (length old.trace) new.trace)
       ++ parcel_lines letter_text p (length old.sent) (drop (length old.sent) new.sent)
 
-  -- the text of one event, and then the rest; or there is no such parcel, since the events that are
-  -- read name nodes of the plan
-  abbrev pub stepped : ℕ → ClusterState S M → Result (ClusterState S M) StepFault
-      → (ClusterState S M → Report) → Report
-  stepped k old (Ok new) rest = after_texts (text_of k old new ∷ []) (rest new)
-  stepped k old (Err fault) rest = ends_with (Some (NoParcel k))
-
   -- a line for each node, and the verdict, which is sound: no cluster's trace is anything else
   abbrev pub closing_text : ClusterState S M → Text
   closing_text g = node_lines core p g.members ++ verdict_line Sound
 
+  abbrev pub lines : Texts S M
+  lines = record { event = text_of; closing = closing_text }
+
   -- the events from the k-th on, from a state, and then the closing lines
-  unfoldable pub run_from : ℕ → ClusterState S M → List Event → Report
-  run_from k g [] = whole (closing_text g)
-  run_from k g (e ∷ es) = stepped k g (step_of core g e) (λ new. run_from (k + 1) new es)
+  abbrev pub run_from : ℕ → ClusterState S M → List Event → Report
+  run_from = report_from core lines

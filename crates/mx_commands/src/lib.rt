@@ -4,17 +4,23 @@
 mod check_plan;
 mod cluster_lines;
 mod command_line;
+mod driver;
 mod exploration;
+mod lines;
 mod replays;
 mod runs;
 mod shapes;
+mod sink;
 mod verdict_json;
 mod verdicts;
 
 pub use check_plan::print;
 pub use cluster_lines::add_nodes;
 pub use command_line::{carry_out, command, names_in};
+pub use driver::drive;
 pub use exploration::{entries_in, happen, is_entry};
-pub use runs::{add_closing, start, step};
+pub use lines::{Lines, add_closing};
+pub use runs::{newest, start, step};
+pub use sink::{Running, Sink};
 pub use verdict_json::VerdictJson;
 pub use verdicts::{VerdictLine, add_verdict, verdict_status};

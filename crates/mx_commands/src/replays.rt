@@ -1,19 +1,16 @@
 //! `replay`: the plan is read, then the events, and they happen one after another.
 
-ghost use Rattle.std.specs.Prelude.{◌≡◌, length, IfOk};
+ghost use Rattle.std.specs.Prelude.{◌≡◌, IfOk};
 ghost use Rattle.mx_cli.specs.Words.{names_of};
 ghost use Rattle.mx_cli.specs.Words as wants;
 ghost use Rattle.mx_cli.specs.Outputs.{refused_after};
 ghost use Rattle.mx_commands.specs.Jobs.{report_of_events};
-ghost use Rattle.mx_commands.specs.Jobs as job;
 ghost use Rattle.mx_commands.specs.Ran.{Ran, RanOf};
-ghost use Rattle.mx_commands.specs.Runs.{AllNameNodes};
 
-use crate::by_shape;
-use crate::runs::run;
+use crate::driver::drive;
+use crate::lines::Lines;
 use mx_cli::{CommandError, Names, fetch_both};
 use mx_io::{Output, Source};
-use mx_network::Event;
 use mx_plan::{Plan, read_events};
 use std::alloc::Global;
 
@@ -48,26 +45,5 @@ fn replay_events<O: Output>(
     ensures stays { O.takes_all out.new ≡ O.takes_all out.old }
 {
     let events = read_events(alloc, text, plan)?;
-    run_by(alloc, plan, events.as_slice(), out)
-}
-
-/// Runs events of a plan, by its algorithm.
-fn run_by<O: Output>(
-    alloc: Global,
-    plan: &Plan,
-    events: &[Event],
-    out: &mut O,
-) -> Result<u8, CommandError>
-    requires { AllNameNodes (length plan.now.nodes) events.now }
-    ensures ran { Ran (O.takes_all out.old) (O.written out.old) (O.written out.new)
-        (job.run_by plan.now plan.now.shape events.now) result }
-    ensures refused { O.has_refused out.new ≡ refused_after result (O.has_refused out.old) }
-    ensures zero { IfOk result (λ status. status ≡ 0) }
-    ensures stays { O.takes_all out.new ≡ O.takes_all out.old }
-{
-    by_shape!(
-        alloc,
-        plan,
-        |cluster| run(alloc, plan, cluster, events, out)
-    )
+    drive(alloc, plan, events.as_slice(), &mut Lines, out)
 }

@@ -2,5 +2,4 @@ pub mod JsonLemmas
 pub mod ClosingLemmas
 pub mod ShownLemmas
 pub mod ViewedLemmas
-pub mod EndLemmas
 pub mod ObjectLemmas

@@ -1,5 +1,5 @@
 -- What was printed of a plan.
-use Rattle.std.proofs.Common.{◌≡◌, ◌∙◌, ℕ, Bool, List, [], Option, Result, Ok, Err, IfOk, subst}
+use Rattle.std.proofs.Common.{◌≡◌, ◌∙◌, ℕ, Bool, [], Option, Result, Ok, Err, IfOk, subst}
 use Rattle.std.specs.Prelude.{◌++◌}
 use Rattle.std.specs.Io.KnownBytes.{Appends, Keeps}
 use Rattle.mx_stamps.proofs.Lists.{append_nil}

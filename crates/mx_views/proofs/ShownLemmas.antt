@@ -1,74 +1,50 @@
 -- What is shown of a run, event by event.
-use Rattle.std.proofs.Common.{◌≡◌, ◌∙◌, ◌+◌, ◌<◌, ◌≤◌, ◌++◌, ℕ, Bool, true, false, List, [], ◌∷◌, Option, Some, None, Result, Ok, Err, IfOk, append_assoc, ap, ap₂, drop, get_or, inl, inr, length, refl, subst, sym}
+use Rattle.std.proofs.Common.{◌≡◌, ◌∙◌, ◌+◌, ◌++◌, ℕ, Bool, true, false, List, [], ◌∷◌, Option, Some, None, Result, Ok, Err, IfOk, OnOk, append_assoc, ap, ap₂, drop, length, refl, subst, sym}
 use Rattle.std.specs.Prelude.{if◌then◌else◌}
 use Rattle.std.specs.Io.KnownBytes.{Appends}
 use Rattle.std.specs.List.{concat}
-use Rattle.std.proofs.lemmas.List.{at_drop_all, at_drop_more, drop_at}
+use Rattle.std.proofs.lemmas.List.{drop_at}
 use Rattle.mx_stamps.proofs.Lists.{append_nil}
 use Rattle.mx_knowledge.specs.Facts.{Known}
 use Rattle.mx_nodelaws.specs.Core.{Core}
+use Rattle.mx_ricart.specs.Step.{ricart_core}
+use Rattle.mx_ricart.specs.Knows.{known_of as ricart_known}
+use Rattle.mx_maekawa.specs.Step.{maekawa_core}
+use Rattle.mx_maekawa.specs.Knows.{known_of as maekawa_known}
+use Rattle.mx_raymond.specs.Step.{raymond_core}
+use Rattle.mx_raymond.specs.Knows.{known_of as raymond_known}
 use Rattle.mx_events.specs.declared.event.Event.{Event}
 use Rattle.mx_network.specs.Step.{ClusterState, RunsTo, step_of}
 use Rattle.mx_network.specs.declared.faults.StepFault.{StepFault}
-use Rattle.mx_network.specs.declared.faults.StepFault.TheVariants as step_fault
 use Rattle.mx_trace.specs.declared.outcome.Entry.{Entry}
 use Rattle.mx_plan.specs.Text.{Text}
 use Rattle.mx_plan.specs.Fields.{Fields}
+use Rattle.mx_plan.specs.declared.shape.Shape.{Shape}
+use Rattle.mx_plan.specs.declared.shape.Shape.TheVariants.{Ricart, Maekawa, Raymond}
 use Rattle.mx_io.specs.Outputs.{Held}
 use Rattle.mx_format.specs.Lines.{texts_from}
-use Rattle.mx_format.specs.Parts.{Parts}
+use Rattle.mx_format.specs.Parts.{Parts, maekawa_parts, raymond_parts, ricart_parts}
 use Rattle.mx_cli.specs.declared.faults.Fault.{Fault}
 use Rattle.mx_cli.specs.declared.faults.Fault.TheVariants.{NoParcel}
 use Rattle.mx_cli.specs.declared.faults.CommandError.{CommandError}
-use Rattle.mx_commands.specs.Runs.{Report, after_texts, ends_with, whole}
-use Rattle.mx_commands.specs.Ran.{Ran, StopsAt}
-use Rattle.mx_commands.proofs.RunLemmas.{done_some, ran_to}
-use Rattle.mx_views.specs.Shown.{Prints, closing_text, shown_entry, shown_from, shown_parcel, shown_step, shown_text, step_text, view_from, view_step}
+use Rattle.mx_commands.specs.Runs.{Report, at_rest, report_from, stepped}
+use Rattle.mx_commands.specs.Ran.{Ran}
+use Rattle.mx_views.specs.Shown.{Prints, PrintsBy, closing_text, shown_entry, shown_from, shown_parcel, shown_step, shown_text, step_text, view_by, view_from, view_texts}
 use Rattle.mx_views.specs.declared.selection.View.{View}
 
 -- what is shown of one event, by the newest item of the trace
-pub newest_shown : {S M : Type 0} (parts : M → Parts) (p : Fields) (view : View) (k n : ℕ) (old new : ClusterState S M) (entry : Entry) (t t' : Text)
-    → new.trace ≡ old.trace ++ entry ∷ [] → n ≡ length old.sent → t ≡ []
-    → t' ≡ t ++ (if view.is_quiet then [] else (shown_entry p view new.sent k entry ++ texts_from (shown_parcel p view parts) n (drop n new.sent)))
-    → t' ≡ step_text parts p view k old new
-newest_shown parts p view k n old new entry t t' trace count empty is =
+pub newest_shown : {T E S M : Type 0} (parts : M → Parts) (p : Fields) (view : View) (k n : ℕ) (old new : ClusterState S M) (entry : Entry) (r : Result T E) (t t' : Text)
+    → view.is_quiet ≡ false → new.trace ≡ old.trace ++ entry ∷ [] → n ≡ length old.sent
+    → OnOk r (t' ≡ t ++ (shown_entry p view new.sent k entry ++ texts_from (shown_parcel p view parts) n (drop n new.sent)))
+    → OnOk r (t' ≡ t ++ step_text parts p view k old new)
+newest_shown parts p view k n old new entry (Err e) t t' loud trace count is = tt
+newest_shown parts p view k n old new entry (Ok x) t t' loud trace count is =
     let line = shown_entry p view new.sent k entry in
     let lines : texts_from (shown_entry p view new.sent) k (drop (length old.trace) new.trace) ≡ line =
     ap (texts_from (shown_entry p view new.sent) k) (ap (drop (length old.trace)) trace ∙ drop_at old.trace _ (length old.trace) refl) ∙ append_nil line in
     is
-    ∙ ap (λ (x : Text). x ++ (if view.is_quiet then [] else (line ++ texts_from (shown_parcel p view parts) n (drop n new.sent)))) empty
-    ∙ ap₂ (λ (l : Text) (m : ℕ). if view.is_quiet then [] else (l ++ texts_from (shown_parcel p view parts) m (drop m new.sent))) (sym lines) count
-
--- ---- the report of the events from the k-th on
-
-module _ {H S M : Type 0} (core : Core H S M) (parts : M → Parts) (p : Fields) (view : View) (knows : S → List Known) (es : List Event) where
-  abbrev pub rest : ℕ → ClusterState S M → Report
-  rest k g = view_from core parts p view knows k g (drop k es)
-
-  rest_one : (k : ℕ) (g : ClusterState S M) (d : Event) → k < length es
-      → rest k g ≡ view_step parts p view k g (step_of core g (get_or es k d)) (λ new. rest (k + 1) new)
-  unfolding view_from
-  rest_one k g d h = at_drop_more (view_from core parts p view knows k g) es k d h
-
-  pub rest_ok : (k : ℕ) (g new : ClusterState S M) (d : Event) → k < length es → step_of core g (get_or es k d) ≡ Ok new
-      → rest k g ≡ after_texts (step_text parts p view k g new ∷ []) (rest (k + 1) new)
-  rest_ok k g new d h is = rest_one k g d h ∙ ap (λ r. view_step parts p view k g r (λ next. rest (k + 1) next)) is
-
-  pub rest_err : (k : ℕ) (g : ClusterState S M) (f : StepFault) (d : Event) → k < length es → step_of core g (get_or es k d) ≡ Err f
-      → rest k g ≡ ends_with (Some (NoParcel k))
-  rest_err k g f d h is = rest_one k g d h ∙ ap (λ r. view_step parts p view k g r (λ next. rest (k + 1) next)) is
-
-  pub rest_end : (k : ℕ) (g : ClusterState S M) → length es ≤ k → rest k g ≡ whole (closing_text p view core knows g)
-  unfolding view_from
-  rest_end k g h = at_drop_all (view_from core parts p view knows k g) es k h
-
-  -- a run that stops at an event
-  pub stopped_at : (t : Bool) (a b : Held) (r : Report) (k : ℕ) (g : ClusterState S M) (d : Event) (s : CommandError) (done : List Text) → k < length es
-      → r ≡ after_texts done (rest k g) → Appends a b (concat done) → StopsAt k (step_of core g (get_or es k d)) s → Ran t a b r (Err s)
-  stopped_at t a b r k g d s done lt so_far h (inl memory) = subst (λ (x : CommandError). Ran t a b r (Err x)) (sym memory) (done_some a b r (rest k g) done so_far h)
-  stopped_at t a b r k g d s done lt so_far h (inr none) =
-      subst (λ (x : CommandError). Ran t a b r (Err x)) (sym none.0)
-      (ran_to t a b r done (Some (NoParcel k)) (so_far ∙ ap (after_texts done) (rest_err k g step_fault.NoParcel d lt none.1)) h)
+    ∙ ap₂ (λ (l : Text) (m : ℕ). t ++ (l ++ texts_from (shown_parcel p view parts) m (drop m new.sent))) (sym lines) count
+    ∙ ap (λ (b : Bool). t ++ (if b then [] else shown_text parts p view k old new)) (sym loud)
 
 -- ---- a report without a fault
 
@@ -92,8 +68,8 @@ module _ {H S M : Type 0} (core : Core H S M) (parts : M → Parts) (p : Fields)
   step_leads : (e : Event) (es : List Event) (k : ℕ) (g : ClusterState S M) (r : Result (ClusterState S M) StepFault) → step_of core g e ≡ r
       → ((new : ClusterState S M) → (view_from core parts p view knows (k + 1) new es).end ≡ None
       → Leads new es (view_from core parts p view knows (k + 1) new es) (shown_from core parts p view (k + 1) new es))
-      → (view_step parts p view k g r (λ new. view_from core parts p view knows (k + 1) new es)).end ≡ None
-      → Leads g (e ∷ es) (view_step parts p view k g r (λ new. view_from core parts p view knows (k + 1) new es))
+      → (stepped (view_texts core parts p view knows) k g r (λ new. view_from core parts p view knows (k + 1) new es)).end ≡ None
+      → Leads g (e ∷ es) (stepped (view_texts core parts p view knows) k g r (λ new. view_from core parts p view knows (k + 1) new es))
       (shown_step parts p view k g r (λ new. shown_from core parts p view (k + 1) new es))
   step_leads e es k g (Err fault) is more end = absurd (some_is_none (NoParcel k) end)
   step_leads e es k g (Ok mid) is more end =
@@ -109,7 +85,7 @@ module _ {H S M : Type 0} (core : Core H S M) (parts : M → Parts) (p : Fields)
 
   leads : (es : List Event) (k : ℕ) (g : ClusterState S M) → (view_from core parts p view knows k g es).end ≡ None
       → Leads g es (view_from core parts p view knows k g es) (shown_from core parts p view k g es)
-  unfolding view_from shown_from
+  unfolding report_from shown_from
   leads [] k g end = (g, refl, nothing_before view.is_quiet (closing_text p view core knows g))
   leads (e ∷ es) k g end = step_leads e es k g (step_of core g e) refl (λ new. leads es (k + 1) new) end
 
@@ -118,3 +94,10 @@ module _ {H S M : Type 0} (core : Core H S M) (parts : M → Parts) (p : Fields)
       → IfOk res (λ _. Prints core parts p view knows es g a b)
   view_printed es g t a b (Ok status) ran = let h = leads es 0 g ran.0 in (h.0, h.1, subst (λ (l : Text). Appends a b l) h.2 ran.1)
   view_printed es g t a b (Err end) ran = tt
+
+-- the same, by the algorithm of a plan
+pub printed_by : (p : Fields) (view : View) (es : List Event) (t : Bool) (a b : Held) (res : Result ℕ CommandError) (shape : Shape) → Ran t a b (view_by p view shape es) res
+    → IfOk res (λ _. PrintsBy p view es a b shape)
+printed_by p view es t a b res (Ricart count) ran = view_printed ricart_core ricart_parts p view ricart_known es (at_rest ricart_core p count) t a b res ran
+printed_by p view es t a b res (Maekawa family) ran = view_printed maekawa_core maekawa_parts p view maekawa_known es (at_rest maekawa_core p family) t a b res ran
+printed_by p view es t a b res (Raymond tree) ran = view_printed raymond_core raymond_parts p view raymond_known es (at_rest raymond_core p tree) t a b res ran

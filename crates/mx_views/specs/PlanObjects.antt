@@ -1,5 +1,5 @@
 -- What is printed of a plan as objects of JSON.
-use Rattle.std.specs.Prelude.{Bool, true, List, Option, ◌++◌, if◌then◌else◌}
+use Rattle.std.specs.Prelude.{Bool, true, Option, if◌then◌else◌}
 use Rattle.std.specs.Io.KnownBytes.{Appends}
 use Rattle.mx_plan.specs.Text.{Text}
 use Rattle.mx_plan.specs.Fields.{Fields}

@@ -19,7 +19,6 @@ use Rattle.mx_events.specs.declared.event.Event.TheVariants.{Deliver}
 use Rattle.mx_network.specs.Step.{ClusterState, RunsTo, step_of}
 use Rattle.mx_network.specs.declared.faults.StepFault.{StepFault}
 use Rattle.mx_trace.specs.declared.outcome.Entry.{Entry}
-use Rattle.mx_explorer.specs.declared.verdict.Verdict.{Verdict}
 use Rattle.mx_explorer.specs.declared.verdict.Verdict.TheVariants.{Sound}
 use Rattle.mx_plan.specs.Text.{Text}
 use Rattle.mx_plan.specs.Fields.{Fields}
@@ -33,8 +32,8 @@ use Rattle.mx_format.specs.Lines.{texts_from}
 use Rattle.mx_format.specs.NodeTexts.{member_line}
 use Rattle.mx_format.specs.ParcelTexts.{parcel_line}
 use Rattle.mx_format.specs.Parts.{Parts, maekawa_parts, raymond_parts, ricart_parts}
-use Rattle.mx_cli.specs.declared.faults.Fault.TheVariants.{NoParcel}
-use Rattle.mx_commands.specs.Runs.{Report, after_texts, at_rest, ends_with, whole}
+use Rattle.mx_commands.specs.Runs.{Report, Texts, at_rest, report_from}
+use Rattle.mx_commands.specs.Sinks.{TextsBy, report_by}
 use Rattle.mx_commands.specs.VerdictLines.{verdict_text}
 use Rattle.mx_views.specs.EventJson.{event_json}
 use Rattle.mx_views.specs.NodeJson.{member_json}
@@ -125,12 +124,6 @@ module _ {S M : Type 0} (parts : M → Parts) (p : Fields) (view : View) where
   abbrev pub step_text : ℕ → ClusterState S M → ClusterState S M → Text
   step_text k old new = if view.is_quiet then [] else shown_text k old new
 
-  -- the text of one event, and then the rest; or there is no such parcel
-  abbrev pub view_step : ℕ → ClusterState S M → Result (ClusterState S M) StepFault
-      → (ClusterState S M → Report) → Report
-  view_step k old (Ok new) rest = after_texts (step_text k old new ∷ []) (rest new)
-  view_step k old (Err fault) rest = ends_with (Some (NoParcel k))
-
   -- what is shown of one event, and then of the rest
   abbrev pub shown_step : ℕ → ClusterState S M → Result (ClusterState S M) StepFault
       → (ClusterState S M → Text) → Text
@@ -147,12 +140,14 @@ module _ {H S M : Type 0} (core : Core H S M) (parts : M → Parts) (p : Fields)
 
 module _ {H S M : Type 0} (core : Core H S M) (parts : M → Parts) (p : Fields) (view : View)
     (knows : S → List Known) where
+  -- what is shown of each event, and the closing lines
+  abbrev pub view_texts : Texts S M
+  view_texts = record { event = step_text parts p view; closing = closing_text p view core knows }
+
   -- the report of the events from the k-th on, from a state: their texts, and then the closing
   -- lines; or the fault at which a replay ends too
-  unfoldable pub view_from : ℕ → ClusterState S M → List Event → Report
-  view_from k g [] = whole (closing_text p view core knows g)
-  view_from k g (e ∷ es) =
-      view_step parts p view k g (step_of core g e) (λ new. view_from (k + 1) new es)
+  abbrev pub view_from : ℕ → ClusterState S M → List Event → Report
+  view_from = report_from core view_texts
 
   -- the lines of these events, which a quiet view has not, and the closing lines of the cluster to
   -- which they lead were printed, and nothing else
@@ -163,14 +158,17 @@ module _ {H S M : Type 0} (core : Core H S M) (parts : M → Parts) (p : Fields)
       ((if view.is_quiet then [] else shown_from core parts p view 0 start es)
       ++ closing_text p view core knows g)
 
+-- what is shown of a run, by the nodes of each algorithm
+abbrev pub view_lines : Fields → View → TextsBy
+view_lines p view = record {
+  ricart = view_texts ricart_core ricart_parts p view ricart_known;
+  maekawa = view_texts maekawa_core maekawa_parts p view maekawa_known;
+  raymond = view_texts raymond_core raymond_parts p view raymond_known;
+}
+
 -- the report of events that lead from the cluster of a plan, at rest, by its algorithm
 abbrev pub view_by : Fields → View → Shape → List Event → Report
-view_by p view (Ricart count) =
-    view_from ricart_core ricart_parts p view ricart_known 0 (at_rest ricart_core p count)
-view_by p view (Maekawa family) =
-    view_from maekawa_core maekawa_parts p view maekawa_known 0 (at_rest maekawa_core p family)
-view_by p view (Raymond tree) =
-    view_from raymond_core raymond_parts p view raymond_known 0 (at_rest raymond_core p tree)
+view_by p view = report_by (view_lines p view) p
 
 -- the lines of such events were printed
 abbrev pub PrintsBy : Fields → View → List Event → Held → Held → Shape → Type 0

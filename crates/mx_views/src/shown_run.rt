@@ -1,103 +1,65 @@
-//! A run that is shown: events of a cluster, one after another.
+//! A view of a run, as a sink: what is shown of each event, and of the end.
 
-ghost use Rattle.std.specs.Prelude.{◌≡◌, ◌+◌, ◌<◌, ◌≤◌, List, [], ◌∷◌, ◌++◌, Ok, drop, if◌then◌else◌, length, string_bytes, IfErr, IfOk, OnOk};
-ghost use Rattle.mx_network.specs.Step.{step_of};
+ghost use Rattle.std.specs.Prelude.{◌≡◌, ◌+◌, ◌<◌, ◌≤◌, List, [], ◌∷◌, ◌++◌, drop, length, string_bytes, IfOk, OnOk};
+ghost use Rattle.mx_network.specs.Step.{ClusterState};
+ghost use Rattle.mx_trace.specs.declared.outcome.Entry.{Entry};
 ghost use Rattle.mx_format.specs.Lines.{texts_from};
-ghost use Rattle.mx_commands.specs.Runs.{AllNameNodes, NamesNodes};
-ghost use Rattle.mx_commands.specs.Ran.{Ran, StopsAt};
-ghost use Rattle.mx_views.specs.Shown.{Prints, shown_entry, shown_parcel, step_text, view_from};
+ghost use Rattle.mx_views.specs.Shown.{closing_text, shown_entry, shown_parcel, step_text, view_texts};
 
 use crate::closing_lines::add_closing;
 use crate::event_json::add_event_json;
 use crate::parcel_json::add_parcel_json;
-use crate::selection::Selection;
-use mx_cli::{CommandError, Fault};
-use mx_commands::verdict_status;
+use crate::selection::{Selection, View};
+use mx_commands::{Sink, newest, verdict_status};
 use mx_format::{EventLine, Letter, add_parcel_line};
-use mx_io::Output;
 use mx_knowledge::Knowledge;
 use mx_member::SentParcel;
-use mx_network::{Cluster, Entry, Event, StepFault};
+use mx_network::{Cluster, Entry};
 use mx_nodelaws::Exclusion;
+use mx_plan::Plan;
 use std::alloc::{AllocError, Global};
 
-/// Shows events from a cluster on. Returns the status.
-pub(crate) fn show<C: Exclusion + Knowledge, O: Output>(
-    alloc: Global,
-    selection: &Selection<'_>,
-    mut cluster: Cluster<C>,
-    events: &[Event],
-    out: &mut O,
-) -> Result<u8, CommandError>
+impl<C: Exclusion + Knowledge> Sink<Cluster<C>> for View
 where
     C::Msg: Letter,
-    requires members { length cluster.members ≡ length selection.now.plan.now.nodes }
-    requires named { AllNameNodes (length selection.now.plan.now.nodes) events.now }
-    ensures ran { Ran (O.takes_all out.old) (O.written out.old) (O.written out.new)
-        (view_from C.core C.Msg.parts selection.now.plan.now selection.now.view C.knows 0 cluster
-        events.now) result }
-    ensures prints { IfOk result (λ _. Prints C.core C.Msg.parts selection.now.plan.now
-        selection.now.view C.knows events.now cluster (O.written out.old) (O.written out.new)) }
-    ensures zero { IfOk result (λ status. status ≡ 0) }
-    ensures stays { O.takes_all out.new ≡ O.takes_all out.old }
 {
-    show_events(alloc, selection, &mut cluster, events, out)
-}
+    ghost texts = { λ view p. view_texts C.core C.Msg.parts p view C.knows };
 
-/// Each event in turn, and its lines in one piece; then the closing lines. Returns the status.
-fn show_events<C: Exclusion + Knowledge, O: Output>(
-    alloc: Global,
-    selection: &Selection<'_>,
-    cluster: &mut Cluster<C>,
-    events: &[Event],
-    out: &mut O,
-) -> Result<u8, CommandError>
-where
-    C::Msg: Letter,
-    requires members { length cluster.old.members ≡ length selection.now.plan.now.nodes }
-    requires named { AllNameNodes (length selection.now.plan.now.nodes) events.now }
-    ensures ran { Ran (O.takes_all out.old) (O.written out.old) (O.written out.new)
-        (view_from C.core C.Msg.parts selection.now.plan.now selection.now.view C.knows 0 cluster.old
-        events.now) result }
-    ensures zero { IfOk result (λ status. status ≡ 0) }
-    ensures stays { O.takes_all out.new ≡ O.takes_all out.old }
-{
-    let mut text = String::new(alloc);
-    for (index, event) in events.iter().enumerate() {
-        text.clear();
-        show_event(selection, index as u64, event, cluster, &mut text)?;
-        out.put(text.as_bytes())?;
+    fn event(
+        &mut self,
+        plan: &Plan,
+        index: u64,
+        before: u64,
+        cluster: &Cluster<C>,
+        text: &mut String,
+    ) -> Result<(), AllocError>
+        requires noted { 0 < length cluster.now.trace }
+        requires sent { before ≤ length cluster.now.sent }
+        ensures text { (old : ClusterState C C.Msg) (entry : Entry)
+            → cluster.now.trace ≡ old.trace ++ entry ∷ [] → before ≡ length old.sent
+            → OnOk result (string_bytes text.new ≡ string_bytes text.old
+            ++ step_text C.Msg.parts plan.now self.old index old cluster.now) }
+        ensures stays { self.new ≡ self.old }
+    {
+        let selection = Selection { plan, view: *self };
+        add_step(&selection, index, before, cluster, text)
     }
-    text.clear();
-    let verdict = add_closing(alloc, selection, cluster, &mut text)?;
-    out.put(text.as_bytes())?;
-    Ok(verdict_status(verdict))
-}
 
-/// One event, and what is shown of it.
-fn show_event<C: Exclusion>(
-    selection: &Selection<'_>,
-    index: u64,
-    event: &Event,
-    cluster: &mut Cluster<C>,
-    text: &mut String,
-) -> Result<(), CommandError>
-where
-    C::Msg: Letter,
-    requires named { NamesNodes (length cluster.old.members) event.now }
-    requires empty { string_bytes text.old ≡ [] }
-    ensures ok { OnOk result (step_of C.core cluster.old event.now ≡ Ok cluster.new) }
-    ensures text { OnOk result (string_bytes text.new
-        ≡ step_text C.Msg.parts selection.now.plan.now selection.now.view index
-        cluster.old cluster.new) }
-    ensures err { IfErr result (StopsAt index (step_of C.core cluster.old event.now)) }
-{
-    let before = cluster.sent();
-    match cluster.advance(*event) {
-        Ok(()) => Ok(add_step(selection, index, before, cluster, text)?),
-        Err(StepFault::NoParcel) => Err(CommandError::Fault(Fault::NoParcel(index))),
-        Err(StepFault::Memory) => Err(CommandError::Memory),
-        Err(StepFault::NoNode) => unreachable!(),
+    fn end(
+        &mut self,
+        alloc: Global,
+        plan: &Plan,
+        cluster: &Cluster<C>,
+        text: &mut String,
+    ) -> Result<u8, AllocError>
+        requires members { length cluster.now.members ≡ length plan.now.nodes }
+        ensures text { OnOk result (string_bytes text.new ≡ string_bytes text.old
+            ++ closing_text plan.now self.old C.core C.knows cluster.now) }
+        ensures zero { IfOk result (λ status. status ≡ 0) }
+    {
+        let selection = Selection { plan, view: *self };
+        let verdict = add_closing(alloc, &selection, cluster, text)?;
+        Ok(verdict_status(verdict))
     }
 }
 
@@ -114,12 +76,10 @@ where
     C::Msg: Letter,
     requires noted { 0 < length cluster.now.trace }
     requires sent { before ≤ length cluster.now.sent }
-    ensures { (front : List Entry) (entry : Entry)
-        → cluster.now.trace ≡ front ++ entry ∷ [] → OnOk result (string_bytes text.new
-        ≡ string_bytes text.old ++ (if selection.now.view.is_quiet then []
-        else (shown_entry selection.now.plan.now selection.now.view cluster.now.sent index entry
-        ++ texts_from (shown_parcel selection.now.plan.now selection.now.view C.Msg.parts) before
-        (drop before cluster.now.sent)))) }
+    ensures { (old : ClusterState C C.Msg) (entry : Entry)
+        → cluster.now.trace ≡ old.trace ++ entry ∷ [] → before ≡ length old.sent
+        → OnOk result (string_bytes text.new ≡ string_bytes text.old
+        ++ step_text C.Msg.parts selection.now.plan.now selection.now.view index old cluster.now) }
 {
     if selection.view.is_quiet {
         return Ok(());
@@ -149,15 +109,6 @@ where
 {
     add_event(selection, index, cluster, newest(cluster.trace()), text)?;
     add_parcels(selection, cluster, before, text)
-}
-
-/// The newest item of a trace that has one.
-fn newest(trace: &[Entry]) -> &Entry
-    requires { 0 < length trace.now }
-    ensures { (front : List Entry) (entry : Entry) → trace.now ≡ front ++ entry ∷ []
-        → result.now ≡ entry }
-{
-    &trace[trace.len() - 1]
 }
 
 /// Appends the line of an event that has happened in this cluster, where it is shown.

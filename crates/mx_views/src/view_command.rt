@@ -6,19 +6,17 @@ ghost use Rattle.mx_plan.specs.Events.{events_at};
 ghost use Rattle.mx_cli.specs.Words.{texts_of};
 ghost use Rattle.mx_cli.specs.Reports.{Answers, seen};
 ghost use Rattle.mx_cli.specs.Closed.{IsRunStatus, PassesOn};
-ghost use Rattle.mx_commands.specs.Ran.{Ran};
 ghost use Rattle.mx_commands.specs.Runs.{AllNameNodes};
 ghost use Rattle.mx_views.specs.Printed.{PrintsPlanned, PrintsText, PrintsView};
 ghost use Rattle.mx_views.specs.Shown.{PrintsBy, view_by};
 ghost use Rattle.mx_views.specs.ViewWords.{request_asked, request_of, view_line};
 ghost use Rattle.mx_views.specs.Viewed.{CourseRan, IsFound, IsStranger, ViewRan, ViewRanOf, Views, course_of, course_on, reports};
 
-use crate::selection::{Selection, View};
-use crate::shown_run::show;
+use crate::selection::View;
 use crate::view_error::{UnknownNode, ViewError};
 use crate::words::{Request, parse};
 use mx_cli::{CommandError, Named, close, close_with, error_named, fetch_named, refuse};
-use mx_commands::by_shape;
+use mx_commands::drive;
 use mx_diagnostics::message_of_unknown_node;
 use mx_io::{Output, Source};
 use mx_network::Event;
@@ -146,16 +144,13 @@ fn view_events<O: Output>(
 {
     match node_in(alloc, plan, request.node) {
         Ok(node) => {
-            let selection = Selection {
-                plan,
-                view: View {
-                    node,
-                    is_quiet: request.is_quiet,
-                    is_json: request.is_json,
-                    has_state: request.has_state,
-                },
+            let mut view = View {
+                node,
+                is_quiet: request.is_quiet,
+                is_json: request.is_json,
+                has_state: request.has_state,
             };
-            show_selected(alloc, &selection, events, out)
+            show(alloc, plan, &mut view, events, out)
         }
         Err(error) => Err(error),
     }
@@ -184,47 +179,24 @@ fn unknown_node(alloc: Global, plan: &Plan, name: &str) -> ViewError
     }
 }
 
-/// Replays the events by the plan's algorithm.
-fn show_selected<O: Output>(
+/// Shows the replay of these events.
+fn show<O: Output>(
     alloc: Global,
-    selection: &Selection<'_>,
+    plan: &Plan,
+    view: &mut View,
     events: &[Event],
     out: &mut O,
 ) -> Result<u8, ViewError>
-    requires { AllNameNodes (length selection.now.plan.now.nodes) events.now }
+    requires { AllNameNodes (length plan.now.nodes) events.now }
     ensures ran { ViewRan (O.takes_all out.old) (O.written out.old) (O.written out.new)
-        (reports (view_by selection.now.plan.now selection.now.view selection.now.plan.now.shape
-        events.now)) result }
-    ensures prints { IfOk result (λ _. PrintsBy selection.now.plan.now selection.now.view events.now
-        (O.written out.old) (O.written out.new) selection.now.plan.now.shape) }
+        (reports (view_by plan.now view.old plan.now.shape events.now)) result }
+    ensures prints { IfOk result (λ _. PrintsBy plan.now view.old events.now
+        (O.written out.old) (O.written out.new) plan.now.shape) }
     ensures zero { IfOk result (λ status. status ≡ 0) }
     ensures stays { O.takes_all out.new ≡ O.takes_all out.old }
 {
-    match show_by_shape(alloc, selection, events, out) {
+    match drive(alloc, plan, events, view, out) {
         Ok(status) => Ok(status),
         Err(error) => Err(ViewError::Command(error)),
     }
-}
-
-/// Replays the events by the plan's algorithm.
-fn show_by_shape<O: Output>(
-    alloc: Global,
-    selection: &Selection<'_>,
-    events: &[Event],
-    out: &mut O,
-) -> Result<u8, CommandError>
-    requires { AllNameNodes (length selection.now.plan.now.nodes) events.now }
-    ensures ran { Ran (O.takes_all out.old) (O.written out.old) (O.written out.new)
-        (view_by selection.now.plan.now selection.now.view selection.now.plan.now.shape events.now)
-        result }
-    ensures prints { IfOk result (λ _. PrintsBy selection.now.plan.now selection.now.view events.now
-        (O.written out.old) (O.written out.new) selection.now.plan.now.shape) }
-    ensures zero { IfOk result (λ status. status ≡ 0) }
-    ensures stays { O.takes_all out.new ≡ O.takes_all out.old }
-{
-    by_shape!(
-        alloc,
-        selection.plan,
-        |cluster| show(alloc, selection, cluster, events, out)
-    )
 }

@@ -11,8 +11,8 @@ use Rattle.mx_commands.proofs.JobLemmas.{events_refused}
 use Rattle.mx_commands.proofs.RunLemmas.{err_is}
 use Rattle.mx_commands.proofs.replays.replay_events.Goals as goal
 
-pub run_by-requires : goal.run_by-requires
-run_by-requires g c =
+pub drive-requires : goal.drive-requires
+drive-requires g c =
     let p = c.args.plan.now in
     subst (λ (es : List Event). AllNameNodes (length p.nodes) es) (sym c.as_slice.ensures.value)
     (events_named p c.args.text.now c.in_ok-events.events.items c.in_ok-events.ensures)
@@ -30,7 +30,7 @@ returns-clause-ran g c =
     let p = c.args.plan.now in
     let t = g.O.Output.takes_all c.args.out.now in
     let a = g.O.Output.written c.args.out.now in
-    let b = g.O.Output.written c.run_by.new.out in
-    let res = c.run_by.result in
-    let ran = subst (λ (es : List Event). Ran t a b (run_by p p.shape es) res) c.as_slice.ensures.value c.run_by.ensures.ran in
+    let b = g.O.Output.written c.drive.new.out in
+    let res = c.drive.result in
+    let ran = subst (λ (es : List Event). Ran t a b (run_by p p.shape es) res) c.as_slice.ensures.value c.drive.ensures.ran in
     subst (λ (es : Result (List Event) PlanFault). Ran t a b (where_read es (run_by p p.shape)) res) (sym c.in_ok-events.ensures) ran

@@ -1,7 +1,7 @@
 use Rattle.std.proofs.Common.{string_bytes}
 use Rattle.mx_format.specs.NodeTexts.{node_lines}
 use Rattle.mx_commands.proofs.ExploreLemmas.{with_verdict}
-use Rattle.mx_commands.proofs.runs.add_closing.Goals as goal
+use Rattle.mx_commands.proofs.lines.add_closing.Goals as goal
 
 pub returns-clause-sound : goal.returns-clause-sound
 returns-clause-sound g c = c.judge-verdict.ensures.serial c.trace.ensures.serial

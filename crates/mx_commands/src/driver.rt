@@ -1,0 +1,127 @@
+//! The driver: applies the events of a plan in order, and lets a sink print each.
+
+ghost use Rattle.std.specs.Prelude.{◌≡◌, [], length, string_bytes, OnOk, IfOk, IfErr};
+ghost use Rattle.mx_network.specs.Step.{step_of};
+ghost use Rattle.mx_cli.specs.Outputs.{refused_after};
+ghost use Rattle.mx_commands.specs.Runs.{NamesNodes, AllNameNodes, report_from};
+ghost use Rattle.mx_commands.specs.Ran.{Ran, StopsAt};
+ghost use Rattle.mx_commands.specs.Sinks.{report_by};
+
+use crate::by_shape;
+use crate::runs::apply;
+use crate::sink::Sink;
+use mx_cli::CommandError;
+use mx_io::Output;
+use mx_maekawa::Maekawa;
+use mx_network::{Cluster, Event};
+use mx_nodelaws::Exclusion;
+use mx_plan::Plan;
+use mx_raymond::Raymond;
+use mx_ricart::Ricart;
+use std::alloc::Global;
+
+/// Applies the events of a plan in order, by its algorithm. Prints what the sink appends for each
+/// event, and for the end, each in one write. Returns the status.
+///
+/// # Errors
+///
+/// Returns `Fault` with the first event that delivers a parcel that was not sent, `Writer` if the
+/// output refuses, and `Memory` if memory runs out.
+pub fn drive<K, O: Output>(
+    alloc: Global,
+    plan: &Plan,
+    events: &[Event],
+    sink: &mut K,
+    out: &mut O,
+) -> Result<u8, CommandError>
+where
+    K: Sink<Cluster<Ricart>> + Sink<Cluster<Maekawa>> + Sink<Cluster<Raymond>>,
+    requires { AllNameNodes (length plan.now.nodes) events.now }
+    ensures ran { Ran (O.takes_all out.old) (O.written out.old) (O.written out.new)
+        (report_by (record {
+          ricart = ⟦<K as Sink<Cluster<Ricart>>>⟧.texts sink.old plan.now;
+          maekawa = ⟦<K as Sink<Cluster<Maekawa>>>⟧.texts sink.old plan.now;
+          raymond = ⟦<K as Sink<Cluster<Raymond>>>⟧.texts sink.old plan.now;
+        }) plan.now plan.now.shape events.now) result }
+    ensures refused { O.has_refused out.new ≡ refused_after result (O.has_refused out.old) }
+    ensures zero { IfOk result (λ status. status ≡ 0) }
+    ensures stays { O.takes_all out.new ≡ O.takes_all out.old }
+{
+    by_shape!(
+        alloc,
+        plan,
+        |cluster| drive_from(alloc, plan, cluster, events, sink, out)
+    )
+}
+
+/// Applies events to a cluster.
+fn drive_from<C: Exclusion, K: Sink<Cluster<C>>, O: Output>(
+    alloc: Global,
+    plan: &Plan,
+    mut cluster: Cluster<C>,
+    events: &[Event],
+    sink: &mut K,
+    out: &mut O,
+) -> Result<u8, CommandError>
+    requires members { length cluster.members ≡ length plan.now.nodes }
+    requires named { AllNameNodes (length plan.now.nodes) events.now }
+    ensures ran { Ran (O.takes_all out.old) (O.written out.old) (O.written out.new)
+        (report_from C.core (K.texts sink.old plan.now) 0 cluster events.now) result }
+    ensures refused { O.has_refused out.new ≡ refused_after result (O.has_refused out.old) }
+    ensures zero { IfOk result (λ status. status ≡ 0) }
+    ensures stays { O.takes_all out.new ≡ O.takes_all out.old }
+{
+    drive_events(alloc, plan, &mut cluster, events, sink, out)
+}
+
+/// Applies each event in turn, and then prints the closing text.
+fn drive_events<C: Exclusion, K: Sink<Cluster<C>>, O: Output>(
+    alloc: Global,
+    plan: &Plan,
+    cluster: &mut Cluster<C>,
+    events: &[Event],
+    sink: &mut K,
+    out: &mut O,
+) -> Result<u8, CommandError>
+    requires members { length cluster.old.members ≡ length plan.now.nodes }
+    requires named { AllNameNodes (length plan.now.nodes) events.now }
+    ensures ran { Ran (O.takes_all out.old) (O.written out.old) (O.written out.new)
+        (report_from C.core (K.texts sink.old plan.now) 0 cluster.old events.now) result }
+    ensures refused { O.has_refused out.new ≡ refused_after result (O.has_refused out.old) }
+    ensures zero { IfOk result (λ status. status ≡ 0) }
+    ensures stays { O.takes_all out.new ≡ O.takes_all out.old }
+{
+    let mut text = String::new(alloc);
+    for (index, event) in events.iter().enumerate() {
+        text.clear();
+        drive_event(plan, index as u64, event, cluster, sink, &mut text)?;
+        out.put(text.as_bytes())?;
+    }
+    text.clear();
+    let status = sink.end(alloc, plan, cluster, &mut text)?;
+    out.put(text.as_bytes())?;
+    Ok(status)
+}
+
+/// Applies an event, and appends what the sink prints of it.
+fn drive_event<C: Exclusion, K: Sink<Cluster<C>>>(
+    plan: &Plan,
+    index: u64,
+    event: &Event,
+    cluster: &mut Cluster<C>,
+    sink: &mut K,
+    text: &mut String,
+) -> Result<(), CommandError>
+    requires named { NamesNodes (length cluster.old.members) event.now }
+    requires empty { string_bytes text.old ≡ [] }
+    ensures ok { OnOk result (step_of C.core cluster.old event.now ≡ Ok cluster.new) }
+    ensures text { OnOk result (string_bytes text.new
+        ≡ (K.texts sink.old plan.now).event index cluster.old cluster.new) }
+    ensures err { IfErr result (StopsAt index (step_of C.core cluster.old event.now)) }
+    ensures stays { OnOk result (K.texts sink.new ≡ K.texts sink.old) }
+{
+    let before = cluster.sent();
+    apply(index, event, cluster)?;
+    sink.event(plan, index, before, cluster, text)?;
+    Ok(())
+}
