@@ -67,3 +67,7 @@ ran_put t r output_fault.Memory takes = (0, tt)
 pub whole_where_closed : (r : Result ⊤ AllocError) (was now : Text) → now ≡ (if is_ok r then was ++ (codes "</svg>" ++ line_feed) else was) → OnOk r (IsWhole now)
 whole_where_closed (Ok u) was now h = (was, h)
 whole_where_closed (Err e) was now h = tt
+
+-- a run that stops as one report stops as an equal one
+pub stops_same : {T : Type 0} (r : Result T CommandError) (a b : Report) → a ≡ b → IfErr r (StopsAs a) → IfErr r (StopsAs b)
+stops_same r a b is stops = subst (λ (x : Report). IfErr r (StopsAs x)) is stops
