@@ -150,7 +150,7 @@ fn apply<C: Exclusion + Knowledge>(
 {
     match state.apply(event) {
         Ok(()) => {
-            warn_if_refused(lines, plan, state.cluster(), number, event)?;
+            warn_if_refused(lines, plan, state, number, event)?;
             Ok(true)
         }
         Err(LineFailure::Memory) => Err(AllocError),
@@ -162,10 +162,11 @@ fn apply<C: Exclusion + Knowledge>(
 fn warn_if_refused<C: Exclusion + Knowledge>(
     lines: &mut FileReport<'_>,
     plan: &Plan,
-    cluster: &Cluster<C>,
+    state: &State<C>,
     number: u64,
     event: &SessionEvent,
 ) -> Result<(), AllocError> {
+    let cluster = state.cluster();
     let (SessionEvent::Happens(event), Some(newest)) = (event, cluster.trace().last()) else {
         return Ok(());
     };
@@ -225,7 +226,7 @@ where
     for parcel in 0..state.cluster().sent() {
         if state.is_under_way(parcel) {
             is_none = false;
-            warn_of_parcel(lines, plan, state.cluster(), number, parcel)?;
+            warn_of_parcel(lines, plan, state, number, parcel)?;
         }
     }
     if is_none {
@@ -238,13 +239,14 @@ where
 fn warn_of_parcel<C: Exclusion>(
     lines: &mut FileReport<'_>,
     plan: &Plan,
-    cluster: &Cluster<C>,
+    state: &State<C>,
     number: u64,
     parcel: u64,
 ) -> Result<(), AllocError>
 where
     C::Msg: Letter,
 {
+    let cluster = state.cluster();
     let Some(sent) = cluster.sent_parcel(parcel) else {
         return Ok(());
     };
