@@ -1,18 +1,14 @@
 //! Times a run of jobs, one for each node, over a network that loses nothing. Each adds 1 to one
 //! register in each of its sections.
 
-ghost use Rattle.mx_jobs.specs.Runs.{AreNew};
-
 use crate::shapes::{LIMIT, binary_tree, count_of, quorums_of};
 use anyhow::{Result, bail};
 use arrayvec::ArrayVec;
 use mx_jobs::{Job, RunOptions, Settings, fair_links, run, stations};
 use mx_journal::Write;
 use mx_maekawa::Maekawa;
-use mx_nodelaws::Exclusion;
 use mx_raymond::Raymond;
 use mx_ricart::Ricart;
-use mx_stations::Station;
 use std::alloc::{AllocError, Global};
 use std::rt::Clock;
 use std::thread::Threads;
@@ -66,18 +62,31 @@ fn adders(alloc: Global, nodes: usize, sections: u64) -> Result<Vec<Adder>, Allo
     Ok(all)
 }
 
-/// Runs this many sections for each of new stations, and returns how many were run.
-fn run_all<C: Exclusion + Send + 'static, R: Threads>(
-    rt: &R,
-    alloc: Global,
-    stations: Vec<Station<C>>,
-    sections: u64,
-) -> Result<usize>
-where
-    C::Msg: Send + 'static,
-    C::Shape: Send + 'static,
-    requires { AreNew C.core stations.items }
-{
+/// Runs this many sections for each node, and returns how many were run.
+fn ricart<R: Threads>(rt: &R, alloc: Global, nodes: u8, sections: u64) -> Result<usize> {
+    let stations = stations::<Ricart>(alloc, &count_of(nodes)?, &SETTINGS)?;
+    let links = fair_links(alloc, stations.len())?;
+    let jobs = adders(alloc, stations.len(), sections)?;
+    match run(rt, alloc, stations, jobs, links, OPTIONS) {
+        Ok(all) => Ok(all.gathered.receipts.len()),
+        Err(left) => bail!("no end: {}", left.fault),
+    }
+}
+
+/// Does the same by Maekawa's algorithm.
+fn maekawa<R: Threads>(rt: &R, alloc: Global, nodes: u8, sections: u64) -> Result<usize> {
+    let stations = stations::<Maekawa>(alloc, &quorums_of(nodes)?, &SETTINGS)?;
+    let links = fair_links(alloc, stations.len())?;
+    let jobs = adders(alloc, stations.len(), sections)?;
+    match run(rt, alloc, stations, jobs, links, OPTIONS) {
+        Ok(all) => Ok(all.gathered.receipts.len()),
+        Err(left) => bail!("no end: {}", left.fault),
+    }
+}
+
+/// Does the same by Raymond's algorithm.
+fn raymond<R: Threads>(rt: &R, alloc: Global, nodes: u8, sections: u64) -> Result<usize> {
+    let stations = stations::<Raymond>(alloc, &binary_tree(alloc, nodes)?, &SETTINGS)?;
     let links = fair_links(alloc, stations.len())?;
     let jobs = adders(alloc, stations.len(), sections)?;
     match run(rt, alloc, stations, jobs, links, OPTIONS) {
@@ -93,20 +102,10 @@ fn run_by<R: Threads + AllocGlobal>(
     nodes: u8,
     sections: u64,
 ) -> Result<usize> {
-    let alloc = rt.alloc();
     match algorithm {
-        "ricart" => {
-            let stations = stations::<Ricart>(alloc, &count_of(nodes)?, &SETTINGS)?;
-            run_all(rt, alloc, stations, sections)
-        }
-        "maekawa" => {
-            let stations = stations::<Maekawa>(alloc, &quorums_of(nodes)?, &SETTINGS)?;
-            run_all(rt, alloc, stations, sections)
-        }
-        "raymond" => {
-            let stations = stations::<Raymond>(alloc, &binary_tree(alloc, nodes)?, &SETTINGS)?;
-            run_all(rt, alloc, stations, sections)
-        }
+        "ricart" => ricart(rt, rt.alloc(), nodes, sections),
+        "maekawa" => maekawa(rt, rt.alloc(), nodes, sections),
+        "raymond" => raymond(rt, rt.alloc(), nodes, sections),
         _ => bail!("no such algorithm"),
     }
 }

@@ -2,14 +2,10 @@
 //! long they take to enter a given number of sections in all, and how many parcels that takes.
 
 use crate::gate::Meeting;
-use crate::nodes::worked;
-use crate::shapes::{LIMIT, binary_tree, count_of, quorums_of};
-use anyhow::{Result, bail};
-use mx_maekawa::Maekawa;
-use mx_nodelaws::Exclusion;
-use mx_raymond::Raymond;
-use mx_ricart::Ricart;
-use mx_stations::{Field, Station};
+use crate::nodes::{AnyStation, sections_of};
+use crate::shapes::stations_of;
+use anyhow::Result;
+use std::alloc::AllocError;
 use std::rt::Clock;
 use std::sync::atomic::{AtomicU64, Ordering};
 use std::thread;
@@ -24,29 +20,34 @@ fn total(numbers: &[u64]) -> u64 {
     sum
 }
 
-/// Runs the nodes, each for this many sections. Prints how many they entered, how many parcels were
-/// delivered, and the microseconds that they took.
-fn measure<C: Exclusion + Send, R: Threads + Sync + Clock + Print>(
+/// Runs the nodes, each for this many sections. Returns how many they entered, and how many parcels
+/// were delivered.
+fn run_nodes<R: Threads + Sync>(
     rt: &R,
-    stations: Vec<Station<C>>,
+    stations: Vec<AnyStation>,
     sections: u64,
-) -> Result<()>
-where
-    C::Msg: Send,
-    C::Shape: Send,
-{
+) -> Result<(u64, u64), AllocError> {
     let meeting = Meeting::new(stations.len() as u64);
     let parcels = AtomicU64::new(0);
-    let begun = Instant::now(rt)?;
     let each = thread::map_vec(
         rt,
         stations,
-        &|station: Station<C>| -> u64 { worked(station, &meeting, &parcels, sections) },
+        &|station: AnyStation| -> u64 { sections_of(station, &meeting, &parcels, sections) },
     )?;
+    Ok((total(each.as_slice()), parcels.load(Ordering::SeqCst)))
+}
+
+/// Runs the nodes, each for this many sections. Prints how many they entered, how many parcels were
+/// delivered, and the microseconds that they took.
+fn measure<R: Threads + Sync + Clock + Print>(
+    rt: &R,
+    stations: Vec<AnyStation>,
+    sections: u64,
+) -> Result<()> {
+    let begun = Instant::now(rt)?;
+    let (sections, parcels) = run_nodes(rt, stations, sections)?;
     let took = begun.elapsed(rt)?.as_micros();
-    let entered = total(each.as_slice());
-    let delivered = parcels.load(Ordering::SeqCst);
-    println!(rt; "{entered} {delivered} {took}")?;
+    println!(rt; "{sections} {parcels} {took}")?;
     Ok(())
 }
 
@@ -57,22 +58,6 @@ pub(crate) fn time_stations<R: Threads + Sync + Clock + Print + AllocGlobal>(
     nodes: u8,
     sections: u64,
 ) -> Result<()> {
-    let alloc = rt.alloc();
-    let each = sections / u64::from(nodes.max(1));
-    match algorithm {
-        "ricart" => {
-            let stations = Field::<Ricart>::stations(alloc, &count_of(nodes)?, 0, LIMIT, 1)?;
-            measure(rt, stations, each)
-        }
-        "maekawa" => {
-            let stations = Field::<Maekawa>::stations(alloc, &quorums_of(nodes)?, 0, LIMIT, 1)?;
-            measure(rt, stations, each)
-        }
-        "raymond" => {
-            let tree = binary_tree(alloc, nodes)?;
-            let stations = Field::<Raymond>::stations(alloc, &tree, 0, LIMIT, 1)?;
-            measure(rt, stations, each)
-        }
-        _ => bail!("no such algorithm"),
-    }
+    let stations = stations_of(rt.alloc(), algorithm, nodes)?;
+    measure(rt, stations, sections / u64::from(nodes.max(1)))
 }

@@ -1,13 +1,24 @@
-//! The work of a node.
+//! A node of any of the three algorithms, and its work.
 
 use crate::gate::Meeting;
 use mx_letters::{Fair, Fate, Fates};
+use mx_maekawa::Maekawa;
 use mx_nodelaws::Exclusion;
+use mx_raymond::Raymond;
+use mx_ricart::Ricart;
 use mx_stations::{Script, Station, Worked, work};
 use std::sync::atomic::{AtomicU64, Ordering};
 
 /// The greatest number of turns of a node.
 const MAX_TURNS: u64 = 1_000_000_000_000;
+
+/// A station that a thread can own, whichever its algorithm.
+#[derive(Drop)]
+pub(crate) enum AnyStation {
+    Ricart(Station<Ricart>),
+    Maekawa(Station<Maekawa>),
+    Raymond(Station<Raymond>),
+}
 
 /// A network that loses nothing, and counts the parcels that it delivers.
 #[derive(Drop)]
@@ -24,7 +35,7 @@ impl Fates for Counting<'_> {
 
 /// Works at a station, and returns how many sections the node has entered, if it has entered all of
 /// them.
-pub(crate) fn worked<C: Exclusion>(
+fn worked<C: Exclusion>(
     station: Station<C>,
     meeting: &Meeting,
     parcels: &AtomicU64,
@@ -38,5 +49,19 @@ pub(crate) fn worked<C: Exclusion>(
     match ended {
         Worked::Done => station.receipts().len() as u64,
         Worked::NotYet(_) | Worked::GateShut => 0,
+    }
+}
+
+/// Works at a station of any algorithm.
+pub(crate) fn sections_of(
+    station: AnyStation,
+    meeting: &Meeting,
+    parcels: &AtomicU64,
+    sections: u64,
+) -> u64 {
+    match station {
+        AnyStation::Ricart(station) => worked(station, meeting, parcels, sections),
+        AnyStation::Maekawa(station) => worked(station, meeting, parcels, sections),
+        AnyStation::Raymond(station) => worked(station, meeting, parcels, sections),
     }
 }
