@@ -77,27 +77,28 @@ fn run_lines<C: Exclusion + Knowledge>(
     let mut number = 0u64;
     for line in script.lines() {
         number = number.saturating_add(1);
-        if !run_line(lines, plan, state, number, line)? {
-            return Ok(());
+        match run_line(lines, plan, state, number, line) {
+            Ok(()) => {}
+            Err(LineFailure::Memory) => return Err(AllocError),
+            Err(_) => return Ok(()),
         }
     }
     Ok(())
 }
 
-/// Does what the line of this number asks for. Returns whether all of it could be done, as the
-/// functions below do.
+/// Does what the line of this number asks for.
 fn run_line<C: Exclusion + Knowledge>(
     lines: &mut FileReport<'_>,
     plan: &Plan,
     state: &mut State<C>,
     number: u64,
     line: &str,
-) -> Result<bool, AllocError> {
+) -> Result<(), LineFailure> {
     let words = words_in(lines.alloc(), line)?;
     match read_line(plan, words.as_slice()) {
         Ok(Some(line)) => repeat(lines, plan, state, number, &line),
-        Ok(None) => Ok(true),
-        Err(_) => Ok(false),
+        Ok(None) => Ok(()),
+        Err(error) => Err(LineFailure::WrongWord(error)),
     }
 }
 
@@ -107,13 +108,11 @@ fn repeat<C: Exclusion + Knowledge>(
     state: &mut State<C>,
     number: u64,
     line: &Line,
-) -> Result<bool, AllocError> {
+) -> Result<(), LineFailure> {
     for _count in 0..line.times {
-        if !perform(lines, plan, state, number, &line.order)? {
-            return Ok(false);
-        }
+        perform(lines, plan, state, number, &line.order)?;
     }
-    Ok(true)
+    Ok(())
 }
 
 /// Does what an order asks for, once.
@@ -123,19 +122,15 @@ fn perform<C: Exclusion + Knowledge>(
     state: &mut State<C>,
     number: u64,
     order: &Order,
-) -> Result<bool, AllocError> {
+) -> Result<(), LineFailure> {
     for count in 0..u64::MAX {
-        match state.next_event(order, count) {
-            Ok(Some(event)) => {
-                if !apply(lines, plan, state, number, &event)? {
-                    return Ok(false);
-                }
-            }
-            Ok(None) => return Ok(true),
-            Err(_) => return Ok(false),
+        let next = state.next_event(order, count)?;
+        match next {
+            Some(event) => apply(lines, plan, state, number, &event)?,
+            None => return Ok(()),
         }
     }
-    Ok(false)
+    Err(LineFailure::Refused(LineFault::TooMany))
 }
 
 /// Does one event, and warns if it is refused.
@@ -145,28 +140,33 @@ fn apply<C: Exclusion + Knowledge>(
     state: &mut State<C>,
     number: u64,
     event: &SessionEvent,
-) -> Result<bool, AllocError>
+) -> Result<(), LineFailure>
     requires { IsAllowed state.old event.now }
 {
-    match state.apply(event) {
-        Ok(()) => {
-            warn_if_refused(lines, plan, state, number, event)?;
-            Ok(true)
-        }
-        Err(LineFailure::Memory) => Err(AllocError),
-        Err(_) => Ok(false),
-    }
+    state.apply(event)?;
+    warn_of_newest(lines, plan, state, number, event)?;
+    Ok(())
 }
 
-/// Warns of the newest event of a cluster if it is refused.
-fn warn_if_refused<C: Exclusion + Knowledge>(
+/// Warns of the newest event of a state if it is refused.
+fn warn_of_newest<C: Exclusion + Knowledge>(
     lines: &mut FileReport<'_>,
     plan: &Plan,
     state: &State<C>,
     number: u64,
     event: &SessionEvent,
 ) -> Result<(), AllocError> {
-    let cluster = state.cluster();
+    warn_if_refused(lines, plan, state.cluster(), number, event)
+}
+
+/// Warns of the newest event of a cluster if it is refused.
+fn warn_if_refused<C: Exclusion + Knowledge>(
+    lines: &mut FileReport<'_>,
+    plan: &Plan,
+    cluster: &Cluster<C>,
+    number: u64,
+    event: &SessionEvent,
+) -> Result<(), AllocError> {
     let (SessionEvent::Happens(event), Some(newest)) = (event, cluster.trace().last()) else {
         return Ok(());
     };
