@@ -22,8 +22,8 @@ use Rattle.mx_cli.proofs.OutputLemmas.{Appends-keeps, Appends-nil}
 use Rattle.mx_scripts.specs.declared.script_error.ScriptError.TheVariants as script_error
 use Rattle.mx_scripts.specs.Ended.{EndsScript, IsFileOfNames, IsPrintError}
 use Rattle.mx_scripts.proofs.EndedLemmas.{short_script}
-use Rattle.mx_explain.specs.Asked.{Matter, run, script}
-use Rattle.mx_explain.specs.Explained.{EndsAs, Explains, ExplainsMatter, FailsToPrint}
+use Rattle.mx_explain.specs.Asked.{ExplainRequest, run, script}
+use Rattle.mx_explain.specs.Explained.{EndsAs, Explains, ExplainsRequest, FailsToPrint}
 
 -- ---- a run of which nobody reads what it prints
 
@@ -123,10 +123,10 @@ runs_out t = inl refl
 -- ---- a script
 
 -- where memory ran out, an explanation of whatever is asked for may have ended so
-pub short_matter : (t u : Bool) (told : Text → Option Telling) (matter : Matter) (old new : Held) (status : ℕ) → (status ≡ 5) × MayReport old new
-    → ExplainsMatter t u told matter old new status
-short_matter t u told (run request) old new status m = short_explains (t && u) told request old new status m
-short_matter t u told (script names) old new status m = short_script t u told names old new status m
+pub short_request : (t u : Bool) (told : Text → Option Telling) (request : ExplainRequest) (old new : Held) (status : ℕ) → (status ≡ 5) × MayReport old new
+    → ExplainsRequest t u told request old new status
+short_request t u told (run request) old new status m = short_explains (t && u) told request old new status m
+short_request t u told (script names) old new status m = short_script t u told names old new status m
 
 -- an explanation that is not printed
 pub fails_as_error : (t : Bool) (s : CommandError) → FailsToPrint t s → IsPrintError t (script_error.Command s)

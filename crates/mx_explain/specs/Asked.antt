@@ -5,41 +5,41 @@ use Rattle.clap.specs.Words.{App, Row, Text, first_of}
 use Rattle.mx_cli.specs.Table.{line_of}
 use Rattle.mx_cli.specs.Words.{Request, asked_of, by_name, check, is_given, names_of, replay, request_of}
 use Rattle.mx_cli.specs.declared.table.CommandId.TheVariants as id
-use Rattle.mx_explain.specs.declared.asking.Matter.{Matter as Given}
-use Rattle.mx_explain.specs.declared.asking.Matter.TheVariants as given
+use Rattle.mx_explain.specs.declared.request.ExplainRequest.{ExplainRequest as Given}
+use Rattle.mx_explain.specs.declared.request.ExplainRequest.TheVariants as given
 
 -- the whole command line
 unfoldable pub explain_line : App
 explain_line = line_of (id.Explain ∷ [])
 
 -- a check or a replay; or the script of a plan
-pub data Matter : Type 0 where
-  run : Request → Matter
-  script : Text × Text → Matter
+pub data ExplainRequest : Type 0 where
+  run : Request → ExplainRequest
+  script : Text × Text → ExplainRequest
 
-abbrev pub matter_of : Given → Matter
-matter_of (given.Run request) = run (request_of request)
-matter_of (given.Script names) = script (names_of names)
+abbrev pub explain_request_of : Given → ExplainRequest
+explain_request_of (given.Run request) = run (request_of request)
+explain_request_of (given.Script names) = script (names_of names)
 
 -- a script where that is asked for, else a replay
-abbrev pub matter_with : Bool → Text × Text → Matter
-matter_with is_script names = if is_script then script names else run (replay names)
+abbrev pub request_with : Bool → Text × Text → ExplainRequest
+request_with is_script names = if is_script then script names else run (replay names)
 
 -- a second file is named, else it is a check
-abbrev pub matter_on : Bool → Text → Option Text → Matter
-matter_on is_script plan None = run (check plan)
-matter_on is_script plan (Some events) = matter_with is_script (plan, events)
+abbrev pub request_on : Bool → Text → Option Text → ExplainRequest
+request_on is_script plan None = run (check plan)
+request_on is_script plan (Some events) = request_with is_script (plan, events)
 
 -- what was given for the arguments
-abbrev pub explain_in : List Row → Option Matter
+abbrev pub explain_in : List Row → Option ExplainRequest
 explain_in rows =
     option_map
-    (λ plan. matter_on (is_given (codes "script") rows) plan (first_of (codes "EVENTS") rows))
+    (λ plan. request_on (is_given (codes "script") rows) plan (first_of (codes "EVENTS") rows))
     (first_of (codes "PLAN") rows)
 
-abbrev pub request_in : Option (Text × List Row) → Option Matter
+abbrev pub request_in : Option (Text × List Row) → Option ExplainRequest
 request_in met = by_name (codes "explain") explain_in met
 
 -- what the words ask for, where they are `explain` with its arguments
-unfoldable pub request_asked : List Text → Option Matter
+unfoldable pub request_asked : List Text → Option ExplainRequest
 request_asked words = asked_of explain_line request_in words

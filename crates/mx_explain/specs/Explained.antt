@@ -14,7 +14,7 @@ use Rattle.mx_commands.specs.Ran.{end_text, status_of}
 use Rattle.mx_cli.specs.Closed.{FallsShort}
 use Rattle.mx_scripts.specs.Ended.{ScriptsOf}
 use Rattle.mx_diagnostics.specs.Reports.{AreShown, last_line, nothing_at_fault}
-use Rattle.mx_explain.specs.Asked.{Matter, run, script}
+use Rattle.mx_explain.specs.Asked.{ExplainRequest, run, script}
 
 -- the status of this report, and the line of its fault
 pub record EndsAs (names : Text × Text) (r : Report) (old new : Held) (status : ℕ) : Type 0 where
@@ -30,11 +30,11 @@ Explains takes_all told request old new status =
     (λ r. FallsShort takes_all old new status ⊎ EndsAs (names_in request) r old new status))
 
 -- an explanation of what the words ask for: of a script it ends as `script` does
-abbrev pub ExplainsMatter : Bool → Bool → (Text → Option Telling) → Matter → Held → Held → ℕ
+abbrev pub ExplainsRequest : Bool → Bool → (Text → Option Telling) → ExplainRequest → Held → Held → ℕ
     → Type 0
-ExplainsMatter takes_out takes_err told (run request) old new status =
+ExplainsRequest takes_out takes_err told (run request) old new status =
     Explains (takes_out && takes_err) told request old new status
-ExplainsMatter takes_out takes_err told (script names) old new status =
+ExplainsRequest takes_out takes_err told (script names) old new status =
     ScriptsOf takes_out takes_err told names old new status
 
 -- why an explanation is not printed: memory ran out, or the output refused, which one that takes

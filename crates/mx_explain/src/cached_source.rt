@@ -7,7 +7,7 @@ use std::alloc::{AllocError, Global};
 use std::rt::Files;
 
 /// Named bytes that can say why a name cannot be read.
-pub trait Reasons: Source {
+pub trait DetailedSource: Source {
     /// Returns the bytes of a name, which may have been read before.
     ///
     /// # Errors
@@ -17,7 +17,7 @@ pub trait Reasons: Source {
     fn fetched(&mut self, alloc: Global, name: &str) -> Result<Vec<u8>, Refusal>;
 }
 
-impl Reasons for Table<'_> {
+impl DetailedSource for Table<'_> {
     fn fetched(&mut self, alloc: Global, name: &str) -> Result<Vec<u8>, Refusal> {
         match self.bytes(alloc, name) {
             Ok(bytes) => Ok(bytes),
@@ -29,7 +29,7 @@ impl Reasons for Table<'_> {
     }
 }
 
-impl<R: Files + Input> Reasons for Streams<'_, R> {
+impl<R: Files + Input> DetailedSource for Streams<'_, R> {
     fn fetched(&mut self, alloc: Global, name: &str) -> Result<Vec<u8>, Refusal> {
         read_name(self.rt, alloc, name)
     }
@@ -44,12 +44,12 @@ pub(crate) struct Entry {
 
 /// A source whose bytes are read once: they are kept until they are fetched again.
 #[derive(Drop)]
-pub(crate) struct CachedSource<'s, S: Source + Reasons> {
+pub(crate) struct CachedSource<'s, S: Source + DetailedSource> {
     pub(crate) source: &'s mut S,
     pub(crate) entries: Vec<Entry>,
 }
 
-impl<'s, S: Source + Reasons> Source for CachedSource<'s, S> {
+impl<'s, S: Source + DetailedSource> Source for CachedSource<'s, S> {
     ghost told = { λ c. S.told c.source.now };
 
     fn bytes(&mut self, alloc: Global, name: &str) -> Result<Vec<u8>, SourceFault> {
@@ -64,7 +64,7 @@ impl<'s, S: Source + Reasons> Source for CachedSource<'s, S> {
     }
 }
 
-impl<'s, S: Source + Reasons> Reasons for CachedSource<'s, S> {
+impl<'s, S: Source + DetailedSource> DetailedSource for CachedSource<'s, S> {
     fn fetched(&mut self, alloc: Global, name: &str) -> Result<Vec<u8>, Refusal> {
         match take(&mut self.entries, name) {
             Some(bytes) => Ok(bytes),

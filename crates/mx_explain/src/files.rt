@@ -2,7 +2,7 @@
 
 ghost use Rattle.mx_diagnostics.specs.Reports.{IsLonger};
 
-use crate::cached_source::Reasons;
+use crate::cached_source::DetailedSource;
 use crate::runs::explain_run;
 use crate::script_runs::explain_script_run;
 use mx_cli::{Fault, Names, Request, are_dashes, split_line};
@@ -28,7 +28,7 @@ pub(crate) enum Second<'a> {
 }
 
 /// Adds what is wrong in the files of a check or of a replay that ended with this fault.
-pub(crate) fn explain_files<S: Source + Reasons>(
+pub(crate) fn explain_files<S: Source + DetailedSource>(
     report: &mut Report,
     request: &Request<'_>,
     fault: Option<Fault>,
@@ -48,7 +48,7 @@ pub(crate) fn explain_files<S: Source + Reasons>(
 
 /// Adds what is wrong in a plan that has no shape for this fault, or has one, and in what comes with
 /// it.
-pub(crate) fn explain_both<S: Source + Reasons>(
+pub(crate) fn explain_both<S: Source + DetailedSource>(
     report: &mut Report,
     names: &Names<'_>,
     second: &Second<'_>,
@@ -64,7 +64,7 @@ pub(crate) fn explain_both<S: Source + Reasons>(
 }
 
 /// A plan without events.
-fn explain_alone<S: Source + Reasons>(
+fn explain_alone<S: Source + DetailedSource>(
     report: &mut Report,
     name: &str,
     source: &mut S,
@@ -78,7 +78,7 @@ fn explain_alone<S: Source + Reasons>(
 }
 
 /// A plan in the first line of a text, and what comes with it in the rest.
-fn explain_one<S: Source + Reasons>(
+fn explain_one<S: Source + DetailedSource>(
     report: &mut Report,
     names: &Names<'_>,
     second: &Second<'_>,
@@ -95,7 +95,7 @@ fn explain_one<S: Source + Reasons>(
 }
 
 /// A plan and what comes with it in two files.
-fn explain_two<S: Source + Reasons>(
+fn explain_two<S: Source + DetailedSource>(
     report: &mut Report,
     names: &Names<'_>,
     second: &Second<'_>,
@@ -142,7 +142,7 @@ fn explain_second<'a>(
 }
 
 /// The bytes of a file, or a line of why it can't be read.
-fn fetched<S: Source + Reasons>(
+fn fetched<S: Source + DetailedSource>(
     report: &mut Report,
     name: &str,
     source: &mut S,

@@ -2,14 +2,14 @@
 //! expected there.
 #![tactic(auto)]
 
-mod asking;
 mod cached_source;
-mod explaining;
+mod explanation;
 mod files;
 mod refused_lines;
+mod request;
 mod runs;
 mod script_runs;
 mod scripts;
 
-pub use cached_source::Reasons;
-pub use explaining::explain;
+pub use cached_source::DetailedSource;
+pub use explanation::explain;

@@ -8,8 +8,8 @@ ghost use Rattle.mx_diagnostics.specs.Reports.{has_fault};
 ghost use Rattle.mx_explain.specs.Explained.{FailsToPrint, Prints, PrintsReport, TellsLines};
 ghost use Rattle.mx_scripts.specs.Ended.{EndsScript, ScriptsOf};
 
-use crate::cached_source::Reasons;
-use crate::explaining::put_report;
+use crate::cached_source::DetailedSource;
+use crate::explanation::put_report;
 use crate::files::{Second, explain_both};
 use mx_cli::{CommandError, Fault, Names};
 use mx_diagnostics::Report;
@@ -18,7 +18,7 @@ use mx_scripts::{RefusedLine, ScriptError, close_script, file_of_names};
 use std::alloc::{AllocError, Global};
 
 /// Tells how a script ends, and prints what is wrong in it. Returns the status.
-pub(crate) fn explain_script<S: Source + Reasons, O: Output, E: Output>(
+pub(crate) fn explain_script<S: Source + DetailedSource, O: Output, E: Output>(
     alloc: Global,
     names: &Names<'_>,
     source: &mut S,
@@ -38,7 +38,7 @@ pub(crate) fn explain_script<S: Source + Reasons, O: Output, E: Output>(
 }
 
 /// Lets the lines happen, and prints what is wrong. Returns how the script ended.
-fn end_and_explain<S: Source + Reasons, O: Output>(
+fn end_and_explain<S: Source + DetailedSource, O: Output>(
     alloc: Global,
     names: &Names<'_>,
     source: &mut S,
@@ -71,7 +71,7 @@ fn end_of<S: Source>(alloc: Global, names: &Names<'_>, source: &mut S) -> Result
 
 /// Prints what is wrong in files that were read with this end. Where memory ran out that is
 /// nothing.
-fn print_end<S: Source + Reasons, O: Output>(
+fn print_end<S: Source + DetailedSource, O: Output>(
     alloc: Global,
     names: &Names<'_>,
     ended: &Result<u8, ScriptError>,
@@ -95,7 +95,7 @@ fn print_end<S: Source + Reasons, O: Output>(
 
 /// Prints what is wrong in files that were read with this fault, or of which this line is refused,
 /// or that nothing is.
-fn print_wrong<S: Source + Reasons, O: Output>(
+fn print_wrong<S: Source + DetailedSource, O: Output>(
     alloc: Global,
     names: &Names<'_>,
     fault: Option<Fault>,
@@ -114,7 +114,7 @@ fn print_wrong<S: Source + Reasons, O: Output>(
 }
 
 /// What is wrong in a plan and a script.
-fn report_of<S: Source + Reasons>(
+fn report_of<S: Source + DetailedSource>(
     alloc: Global,
     names: &Names<'_>,
     fault: Option<Fault>,

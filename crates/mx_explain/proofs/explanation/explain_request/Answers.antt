@@ -6,7 +6,7 @@ use Rattle.mx_commands.specs.Jobs.{names_in}
 use Rattle.std.specs.Prelude.{◌&&◌}
 use Rattle.mx_explain.proofs.ExplainLemmas.{explained}
 use Rattle.mx_explain.proofs.TellsLemmas.{tells_closed}
-use Rattle.mx_explain.proofs.explaining.explain_request.Goals as goal
+use Rattle.mx_explain.proofs.explanation.explain_request.Goals as goal
 
 pub returns-clause-explains : goal.returns-clause-explains
 returns-clause-explains g c =

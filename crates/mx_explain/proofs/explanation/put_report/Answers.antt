@@ -2,7 +2,7 @@ use Rattle.std.proofs.Common.{◌≡◌, Err}
 use Rattle.mx_cli.specs.Outputs.{error_of}
 use Rattle.mx_commands.proofs.RunLemmas.{err_is}
 use Rattle.mx_explain.proofs.ExplainLemmas.{put_fails}
-use Rattle.mx_explain.proofs.explaining.put_report.Goals as goal
+use Rattle.mx_explain.proofs.explanation.put_report.Goals as goal
 
 pub returns-in_err-put-clause-fails : goal.returns-in_err-put-clause-fails
 returns-in_err-put-clause-fails g c =

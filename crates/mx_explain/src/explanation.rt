@@ -5,14 +5,14 @@ ghost use Rattle.mx_cli.specs.Words.{request_of, texts_of};
 ghost use Rattle.mx_cli.specs.Reports.{Answers, seen};
 ghost use Rattle.mx_cli.specs.Closed.{IsRunStatus, PassesOn};
 ghost use Rattle.mx_commands.specs.Ran.{RanOf};
-ghost use Rattle.mx_explain.specs.Asked.{explain_line, matter_of, request_asked};
-ghost use Rattle.mx_explain.specs.Explained.{Explains, ExplainsMatter, FailsToPrint, Prints, PrintsReport, TellsLines};
+ghost use Rattle.mx_explain.specs.Asked.{explain_line, explain_request_of, request_asked};
+ghost use Rattle.mx_explain.specs.Explained.{Explains, ExplainsRequest, FailsToPrint, Prints, PrintsReport, TellsLines};
 ghost use Rattle.mx_diagnostics.specs.Reports.{has_fault};
 ghost use Rattle.std.specs.Io.KnownBytes.{Keeps};
 
-use crate::asking::{Matter, parse};
-use crate::cached_source::{CachedSource, Reasons};
+use crate::cached_source::{CachedSource, DetailedSource};
 use crate::files::explain_files;
+use crate::request::{ExplainRequest, parse};
 use crate::scripts::explain_script;
 use mx_cli::{CommandError, Fault, Request, close, refuse};
 use mx_commands::{carry_out, names_in};
@@ -45,15 +45,15 @@ impl Output for NullOutput {
 /// - 0 if help was requested;
 /// - 1 if an output failed;
 /// - 2 for wrong arguments.
-pub fn explain<S: Source + Reasons, O: Output, E: Output>(
+pub fn explain<S: Source + DetailedSource, O: Output, E: Output>(
     alloc: Global,
     words: &[&str],
     source: &mut S,
     out: &mut O,
     err: &mut E,
 ) -> u8
-    ensures explains { IfSome (request_asked (texts_of words.entry.now)) (λ matter.
-        ExplainsMatter (O.takes_all out.old) (E.takes_all err.old) (S.told source.old) matter
+    ensures explains { IfSome (request_asked (texts_of words.entry.now)) (λ request.
+        ExplainsRequest (O.takes_all out.old) (E.takes_all err.old) (S.told source.old) request
         (E.written err.old) (E.written err.new) result) }
     ensures told { IsSome (request_asked (texts_of words.entry.now))
         → TellsLines (O.takes_all out.old && E.takes_all err.old) (O.written out.old)
@@ -65,22 +65,23 @@ pub fn explain<S: Source + Reasons, O: Output, E: Output>(
         (seen O.Output E.Output out.old err.old) (seen O.Output E.Output out.new err.new) result }
 {
     match parse(alloc, words) {
-        Ok(Some(matter)) => explain_cached(alloc, &matter, source, out, err),
+        Ok(Some(request)) => explain_cached(alloc, &request, source, out, err),
         Ok(None) => 2,
         Err(e) => refuse(alloc, &e, out, err),
     }
 }
 
 /// Explains what was asked for. Each file is read once.
-fn explain_cached<S: Source + Reasons, O: Output, E: Output>(
+fn explain_cached<S: Source + DetailedSource, O: Output, E: Output>(
     alloc: Global,
-    matter: &Matter<'_>,
+    request: &ExplainRequest<'_>,
     source: &mut S,
     out: &mut O,
     err: &mut E,
 ) -> u8
-    ensures explains { ExplainsMatter (O.takes_all out.old) (E.takes_all err.old)
-        (S.told source.old) (matter_of matter.now) (E.written err.old) (E.written err.new) result }
+    ensures explains { ExplainsRequest (O.takes_all out.old) (E.takes_all err.old)
+        (S.told source.old) (explain_request_of request.now)
+        (E.written err.old) (E.written err.new) result }
     ensures told { TellsLines (O.takes_all out.old && E.takes_all err.old) (O.written out.old)
         (O.written out.new) (E.written err.old) (E.written err.new) result }
     ensures passed { PassesOn (E.written err.old) (E.written err.new) (O.keeps_back out.new)
@@ -91,31 +92,32 @@ fn explain_cached<S: Source + Reasons, O: Output, E: Output>(
         source,
         entries: Vec::new(alloc),
     };
-    explain_matter(alloc, matter, &mut cached, out, err)
+    explain_cached_request(alloc, request, &mut cached, out, err)
 }
 
-fn explain_matter<S: Source + Reasons, O: Output, E: Output>(
+fn explain_cached_request<S: Source + DetailedSource, O: Output, E: Output>(
     alloc: Global,
-    matter: &Matter<'_>,
+    request: &ExplainRequest<'_>,
     source: &mut S,
     out: &mut O,
     err: &mut E,
 ) -> u8
-    ensures explains { ExplainsMatter (O.takes_all out.old) (E.takes_all err.old)
-        (S.told source.old) (matter_of matter.now) (E.written err.old) (E.written err.new) result }
+    ensures explains { ExplainsRequest (O.takes_all out.old) (E.takes_all err.old)
+        (S.told source.old) (explain_request_of request.now)
+        (E.written err.old) (E.written err.new) result }
     ensures told { TellsLines (O.takes_all out.old && E.takes_all err.old) (O.written out.old)
         (O.written out.new) (E.written err.old) (E.written err.new) result }
     ensures passed { PassesOn (E.written err.old) (E.written err.new) (O.keeps_back out.new)
         result }
     ensures status { IsRunStatus result }
 {
-    match matter {
-        Matter::Run(request) => explain_request(alloc, request, source, out, err),
-        Matter::Script(names) => explain_script(alloc, names, source, out, err),
+    match request {
+        ExplainRequest::Run(request) => explain_request(alloc, request, source, out, err),
+        ExplainRequest::Script(names) => explain_script(alloc, names, source, out, err),
     }
 }
 
-fn explain_request<S: Source + Reasons, O: Output, E: Output>(
+fn explain_request<S: Source + DetailedSource, O: Output, E: Output>(
     alloc: Global,
     request: &Request<'_>,
     source: &mut S,
@@ -136,7 +138,7 @@ fn explain_request<S: Source + Reasons, O: Output, E: Output>(
 
 /// Carries out what is to be explained, while nobody reads what it prints, and prints what is
 /// wrong. Returns how it ended.
-fn carry_out_and_explain<S: Source + Reasons, O: Output>(
+fn carry_out_and_explain<S: Source + DetailedSource, O: Output>(
     alloc: Global,
     request: &Request<'_>,
     source: &mut S,
@@ -156,7 +158,7 @@ fn carry_out_and_explain<S: Source + Reasons, O: Output>(
 
 /// Prints what is wrong in files that were read with this end. Where memory ran out that is
 /// nothing.
-fn print_end<S: Source + Reasons, O: Output>(
+fn print_end<S: Source + DetailedSource, O: Output>(
     alloc: Global,
     request: &Request<'_>,
     ended: &Result<u8, CommandError>,
@@ -182,7 +184,7 @@ fn print_end<S: Source + Reasons, O: Output>(
 }
 
 /// Prints what is wrong in files that are read with this fault, or that nothing is.
-fn print_explanation<S: Source + Reasons, O: Output>(
+fn print_explanation<S: Source + DetailedSource, O: Output>(
     alloc: Global,
     request: &Request<'_>,
     fault: Option<Fault>,
@@ -213,7 +215,7 @@ pub(crate) fn put_report<O: Output>(report: &Report, out: &mut O) -> Result<(), 
 }
 
 /// What is wrong in files that are read with this fault.
-fn report_of<S: Source + Reasons>(
+fn report_of<S: Source + DetailedSource>(
     alloc: Global,
     request: &Request<'_>,
     fault: Option<Fault>,

@@ -2,7 +2,7 @@ use Rattle.std.proofs.Common.{ℕ, Result, refl, subst, sym}
 use Rattle.mx_cli.specs.declared.faults.CommandError.{CommandError}
 use Rattle.mx_explain.specs.Explained.{Prints}
 use Rattle.mx_explain.proofs.TellsLemmas.{prints_none}
-use Rattle.mx_explain.proofs.explaining.print_end.Goals as goal
+use Rattle.mx_explain.proofs.explanation.print_end.Goals as goal
 
 pub returns-in-Err : goal.returns-in-Err
 returns-in-Err g c =

@@ -3,7 +3,7 @@ use Rattle.mx_cli.specs.Words.{request_of}
 use Rattle.mx_commands.proofs.RunLemmas.{err_is}
 use Rattle.mx_explain.proofs.ExplainLemmas.{ran_of_for, ran_unprinted}
 use Rattle.mx_explain.proofs.TellsLemmas.{prints_nothing}
-use Rattle.mx_explain.proofs.explaining.carry_out_and_explain.Goals as goal
+use Rattle.mx_explain.proofs.explanation.carry_out_and_explain.Goals as goal
 
 pub returns-in_err-print_end-clause-ran : goal.returns-in_err-print_end-clause-ran
 returns-in_err-print_end-clause-ran g c =
