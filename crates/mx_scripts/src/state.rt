@@ -45,6 +45,13 @@ impl<C: Exclusion> State<C> {
         &self.cluster
     }
 
+    /// What has become of the parcels, and which links are cut.
+    pub fn in_flight(&self) -> &InFlight
+        ensures { result.now ≡ self.now.fates }
+    {
+        &self.in_flight
+    }
+
     /// Whether a parcel was neither delivered nor lost.
     pub fn is_under_way(&self, number: u64) -> bool
         ensures { result ≡ is_under_way self.now.fates number }

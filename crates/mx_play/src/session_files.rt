@@ -1,18 +1,18 @@
-//! What a session starts from: its plan, and a script whose lines come first.
+//! The files of a session: its plan, and a script whose lines come first.
 
 ghost use Rattle.std.specs.Prelude.{◌≡◌, IfOk, option_map};
 ghost use Rattle.mx_cli.specs.Reading.{is_dash};
 ghost use Rattle.mx_play.specs.PlayWords.{request_of};
 ghost use Rattle.mx_play.specs.Played.{IsLinePlan, IsPlanNamed, IsScriptOf, told_of_name, told_of_script};
 
-use crate::reading::{Given, Lines};
+use crate::lines::{LineRead, Lines};
 use crate::words::Request;
 use mx_cli::{CommandError, Fault, Named, PlanAndText, fetch, fetch_plan, plan_in};
 use mx_io::Source;
 use mx_plan::Plan;
 use std::alloc::Global;
 
-/// Reads the plan, and the script where one is named.
+/// Reads the plan, and the script if one is named.
 pub(crate) fn fetch_start<S: Source, L: Lines>(
     alloc: Global,
     request: &Request<'_>,
@@ -29,7 +29,7 @@ pub(crate) fn fetch_start<S: Source, L: Lines>(
     Ok(PlanAndText { plan, text })
 }
 
-/// The plan of a name. Where that is standard input, its first line is the plan.
+/// The plan of a name. If that is standard input, its first line is the plan.
 fn plan_of<S: Source, L: Lines>(
     alloc: Global,
     name: &str,
@@ -52,14 +52,14 @@ fn first_plan<L: Lines>(alloc: Global, lines: &mut L) -> Result<Plan, CommandErr
 {
     let mut line = Vec::new(alloc);
     match lines.next(&mut line)? {
-        Given::Line | Given::End => plan_in(alloc, line.as_slice()),
-        Given::TooLong | Given::Unreadable => Err(CommandError::Fault(Fault::CannotRead(
+        LineRead::Line | LineRead::End => plan_in(alloc, line.as_slice()),
+        LineRead::TooLong | LineRead::Unreadable => Err(CommandError::Fault(Fault::CannotRead(
             Named::Plan,
         ))),
     }
 }
 
-/// The script, where one is named.
+/// The script, if one is named.
 fn script_of<S: Source>(
     alloc: Global,
     name: Option<&str>,
