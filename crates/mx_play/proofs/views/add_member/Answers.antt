@@ -1,7 +1,7 @@
 use Rattle.std.proofs.Common.{◌≡◌, ◌<◌, ◌++◌, ℕ, OnOk, Some, length, rules, slice_get, string_bytes, subst, sym}
-use Rattle.mx_play.specs.Sessions.{node_shown}
+use Rattle.mx_play.specs.Views.{node_shown}
 use Rattle.mx_format.proofs.Places.{is_there, place_written}
-use Rattle.mx_play.proofs.showing.add_member.Goals as goal
+use Rattle.mx_play.proofs.views.add_member.Goals as goal
 
 pub member-requires : goal.member-requires
 member-requires g c = (search rules, search rules)
@@ -20,7 +20,7 @@ pub returns : goal.returns
 returns g c =
     let core = g.C.Exclusion.core in
     let knows = g.C.Knowledge.knows in
-    let p = c.args.plan.now in
+    let p = c.args.setting.now.plan.now in
     let members = c.args.cluster.now.members in
     let m = c.in-Some.member.now in
     let r = c.add_shown.result in
