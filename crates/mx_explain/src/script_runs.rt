@@ -1,5 +1,7 @@
-//! What is told of a run of a script: which events are refused, which line can't be done, and which
+//! What a run of a script reports: which events are refused, which line cannot be done, and which
 //! parcels are under way there.
+
+ghost use Rattle.mx_scripts.specs.States.{IsAllowed};
 
 use crate::refused_lines::explain_refused;
 use crate::runs::refusal;
@@ -7,17 +9,16 @@ use mx_commands::by_shape;
 use mx_diagnostics::FileReport;
 use mx_format::{Letter, add_parcel_line};
 use mx_knowledge::Knowledge;
-use mx_lines::{Line, LineFault, Order, Scope, read_line, words_in};
-use mx_network::{Cluster, Event, StepFault};
+use mx_lines::{Line, LineFault, Order, read_line, words_in};
+use mx_network::{Cluster, Event};
 use mx_nodelaws::Exclusion;
 use mx_plan::{Plan, read_plan};
-use mx_scripts::{InFlight, RefusedLine};
-use mx_stamps::{MAX_EVENTS, NodeId};
+use mx_scripts::{LineFailure, RefusedLine, SessionEvent, State};
 use mx_trace::{Cause, Outcome};
 use std::alloc::{AllocError, Global};
 
-/// Warns of each event of a script that is refused, and tells of the line that can't be done. The
-/// plan was read before, so that only memory can be at fault.
+/// Warns of each event of a script that is refused, and reports the line that cannot be done. The
+/// plan was read before, so only memory can be at fault.
 pub(crate) fn explain_script_run<'a>(
     alloc: Global,
     file: &'a str,
@@ -50,21 +51,21 @@ fn run_by_shape(
     )
 }
 
-/// Each line in turn, up to the first that can't be done; then why it can't.
+/// Does each line in turn, up to the first that cannot be done; then reports why it cannot.
 fn run_all<C: Exclusion + Knowledge>(
     lines: &mut FileReport<'_>,
     plan: &Plan,
-    mut cluster: Cluster<C>,
+    cluster: Cluster<C>,
     script: &str,
     refused: Option<&RefusedLine>,
 ) -> Result<(), AllocError>
 where
     C::Msg: Letter,
 {
-    let mut mail = InFlight::new(lines.alloc());
-    run_lines(lines, plan, &mut cluster, &mut mail, script)?;
+    let mut state = State::of(lines.alloc(), cluster);
+    run_lines(lines, plan, &mut state, script)?;
     match refused {
-        Some(line) => tell_refused(lines, plan, &cluster, &mail, line),
+        Some(line) => report_refused(lines, plan, &state, line),
         None => Ok(()),
     }
 }
@@ -72,14 +73,13 @@ where
 fn run_lines<C: Exclusion + Knowledge>(
     lines: &mut FileReport<'_>,
     plan: &Plan,
-    cluster: &mut Cluster<C>,
-    mail: &mut InFlight,
+    state: &mut State<C>,
     script: &str,
 ) -> Result<(), AllocError> {
     let mut number = 0u64;
     for line in script.lines() {
         number = number.saturating_add(1);
-        if !run_line(lines, plan, cluster, mail, number, line)? {
+        if !run_line(lines, plan, state, number, line)? {
             return Ok(());
         }
     }
@@ -91,155 +91,90 @@ fn run_lines<C: Exclusion + Knowledge>(
 fn run_line<C: Exclusion + Knowledge>(
     lines: &mut FileReport<'_>,
     plan: &Plan,
-    cluster: &mut Cluster<C>,
-    mail: &mut InFlight,
+    state: &mut State<C>,
     number: u64,
     line: &str,
 ) -> Result<bool, AllocError> {
     let words = words_in(lines.alloc(), line)?;
-    if words.is_empty() {
-        return Ok(true);
-    }
-    match line_in(plan, words.as_slice()) {
-        Some(line) => repeat(lines, plan, cluster, mail, number, &line),
-        None => Ok(false),
-    }
-}
-
-/// What words ask for, if they are as they should be.
-fn line_in(plan: &Plan, words: &[&str]) -> Option<Line> {
-    match read_line(plan, words) {
-        Ok(line) => line,
-        Err(_) => None,
+    match read_line(plan, words.as_slice()) {
+        Ok(Some(line)) => repeat(lines, plan, state, number, &line),
+        Ok(None) => Ok(true),
+        Err(_) => Ok(false),
     }
 }
 
 fn repeat<C: Exclusion + Knowledge>(
     lines: &mut FileReport<'_>,
     plan: &Plan,
-    cluster: &mut Cluster<C>,
-    mail: &mut InFlight,
+    state: &mut State<C>,
     number: u64,
     line: &Line,
 ) -> Result<bool, AllocError> {
-    for _ in 0..line.times {
-        if !obey(lines, plan, cluster, mail, number, &line.order)? {
+    for _count in 0..line.times {
+        if !perform(lines, plan, state, number, &line.order)? {
             return Ok(false);
         }
     }
     Ok(true)
 }
 
-fn obey<C: Exclusion + Knowledge>(
+/// Does what an order asks for, once.
+fn perform<C: Exclusion + Knowledge>(
     lines: &mut FileReport<'_>,
     plan: &Plan,
-    cluster: &mut Cluster<C>,
-    mail: &mut InFlight,
+    state: &mut State<C>,
     number: u64,
     order: &Order,
 ) -> Result<bool, AllocError> {
-    match order {
-        Order::Happens(event) => happen(lines, plan, cluster, mail, number, event),
-        Order::AllArrive(scope) => deliver_all(lines, plan, cluster, mail, number, scope),
-        Order::Arrives(from, to) => {
-            let parcel = mail.oldest_between(cluster, *from, *to);
-            deliver(lines, plan, cluster, mail, number, parcel)
+    for count in 0..u64::MAX {
+        match state.next_event(order, count) {
+            Ok(Some(event)) => {
+                if !apply(lines, plan, state, number, &event)? {
+                    return Ok(false);
+                }
+            }
+            Ok(None) => return Ok(true),
+            Err(_) => return Ok(false),
         }
-        Order::ArrivesAgain(from, to) => {
-            let parcel = mail.last_between(*from, *to);
-            deliver(lines, plan, cluster, mail, number, parcel)
-        }
-        Order::IsLost(from, to) => Ok(lose(cluster, mail, *from, *to)),
-        Order::AllAreLost(scope) => {
-            lose_all(cluster, mail, scope);
+    }
+    Ok(false)
+}
+
+/// Does one event, and warns if it is refused.
+fn apply<C: Exclusion + Knowledge>(
+    lines: &mut FileReport<'_>,
+    plan: &Plan,
+    state: &mut State<C>,
+    number: u64,
+    event: &SessionEvent,
+) -> Result<bool, AllocError>
+    requires { IsAllowed state.old event.now }
+{
+    match state.apply(event) {
+        Ok(()) => {
+            warn_if_refused(lines, plan, state.cluster(), number, event)?;
             Ok(true)
         }
-        Order::LinksChange(change) => {
-            mail.change(change);
-            Ok(true)
-        }
+        Err(LineFailure::Memory) => Err(AllocError),
+        Err(_) => Ok(false),
     }
 }
 
-/// Delivers the parcels under way that a line means, the oldest first, until none is left that is
-/// on a link that is not cut.
-fn deliver_all<C: Exclusion + Knowledge>(
+/// Warns of the newest event of a cluster if it is refused.
+fn warn_if_refused<C: Exclusion + Knowledge>(
     lines: &mut FileReport<'_>,
     plan: &Plan,
-    cluster: &mut Cluster<C>,
-    mail: &mut InFlight,
+    cluster: &Cluster<C>,
     number: u64,
-    scope: &Scope,
-) -> Result<bool, AllocError> {
-    for _ in 0..MAX_EVENTS {
-        let parcel = mail.next_to_arrive(cluster, scope);
-        if parcel.is_none() {
-            return Ok(true);
-        }
-        if !deliver(lines, plan, cluster, mail, number, parcel)? {
-            return Ok(false);
-        }
-    }
-    Ok(true)
-}
-
-/// Delivers a parcel, if there is one.
-fn deliver<C: Exclusion + Knowledge>(
-    lines: &mut FileReport<'_>,
-    plan: &Plan,
-    cluster: &mut Cluster<C>,
-    mail: &mut InFlight,
-    number: u64,
-    parcel: Option<u64>,
-) -> Result<bool, AllocError> {
-    match parcel {
-        Some(parcel) => happen(lines, plan, cluster, mail, number, &Event::Deliver(parcel)),
-        None => Ok(false),
-    }
-}
-
-/// Loses the oldest parcel under way from one node to another. Returns whether there is one.
-fn lose<C: Exclusion>(cluster: &Cluster<C>, mail: &mut InFlight, from: NodeId, to: NodeId) -> bool {
-    match mail.oldest_between(cluster, from, to) {
-        Some(parcel) => {
-            mail.lose(parcel);
-            true
-        }
-        None => false,
-    }
-}
-
-/// Loses the parcels under way that a line means.
-fn lose_all<C: Exclusion>(cluster: &Cluster<C>, mail: &mut InFlight, scope: &Scope) {
-    for parcel in 0..cluster.sent() {
-        if mail.is_waiting(cluster, scope, parcel) {
-            mail.lose(parcel);
-        }
-    }
-}
-
-/// Does an event, unless its link is cut, and warns if it is refused.
-fn happen<C: Exclusion + Knowledge>(
-    lines: &mut FileReport<'_>,
-    plan: &Plan,
-    cluster: &mut Cluster<C>,
-    mail: &mut InFlight,
-    number: u64,
-    event: &Event,
-) -> Result<bool, AllocError> {
-    if cluster.trace().len() >= MAX_EVENTS || !mail.can_pass(event, cluster) {
-        return Ok(false);
-    }
-    let outcome = match cluster.step(*event) {
-        Ok(outcome) => outcome,
-        Err(StepFault::Memory) => return Err(AllocError),
-        Err(_) => return Ok(false),
+    event: &SessionEvent,
+) -> Result<(), AllocError> {
+    let (SessionEvent::Happens(event), Some(newest)) = (event, cluster.trace().last()) else {
+        return Ok(());
     };
-    mail.note(event, cluster)?;
-    if let Outcome::Refused(cause) = outcome {
-        warn_of_event(lines, plan, cluster, number, event, cause)?;
+    match newest.outcome {
+        Outcome::Refused(cause) => warn_of_event(lines, plan, cluster, number, event, cause),
+        _ => Ok(()),
     }
-    Ok(true)
 }
 
 /// Warns of the newest event, which is refused. If lines are only counted, why is not looked up.
@@ -259,12 +194,11 @@ fn warn_of_event<C: Exclusion + Knowledge>(
     lines.warn_of_line(number, text.as_str())
 }
 
-/// Tells of a line that can't be done, and what is under way if it names a parcel that is not.
-fn tell_refused<C: Exclusion>(
+/// Reports a line that cannot be done, and the parcels under way if it names one that is not.
+fn report_refused<C: Exclusion>(
     lines: &mut FileReport<'_>,
     plan: &Plan,
-    cluster: &Cluster<C>,
-    mail: &InFlight,
+    state: &State<C>,
     line: &RefusedLine,
 ) -> Result<(), AllocError>
 where
@@ -273,7 +207,7 @@ where
     explain_refused(lines, line)?;
     match line.fault {
         LineFault::NoParcel | LineFault::NotUnderWay => {
-            warn_of_parcels(lines, plan, cluster, mail, line.number)
+            warn_of_parcels(lines, plan, state, line.number)
         }
         _ => Ok(()),
     }
@@ -283,18 +217,17 @@ where
 fn warn_of_parcels<C: Exclusion>(
     lines: &mut FileReport<'_>,
     plan: &Plan,
-    cluster: &Cluster<C>,
-    mail: &InFlight,
+    state: &State<C>,
     number: u64,
 ) -> Result<(), AllocError>
 where
     C::Msg: Letter,
 {
     let mut is_none = true;
-    for parcel in 0..cluster.sent() {
-        if mail.is_under_way(parcel) {
+    for parcel in 0..state.cluster().sent() {
+        if state.is_under_way(parcel) {
             is_none = false;
-            warn_of_parcel(lines, plan, cluster, number, parcel)?;
+            warn_of_parcel(lines, plan, state.cluster(), number, parcel)?;
         }
     }
     if is_none {

@@ -1,12 +1,13 @@
 -- What the lines of a script do.
-use Rattle.std.proofs.Common.{◌≡◌, ◌≤◌, ◌<◌, ◌∙◌, ℕ, zero, suc, List, [], ◌∷◌, ◌++◌, Option, Some, None, Result, Ok, Err, OnOk, IfOk, IfSome, length, add-one, ◌+◌, ◌-◌, refl, sym, ap, subst, arith}
+use Rattle.std.proofs.Common.{◌≡◌, ◌≤◌, ◌<◌, ◌∙◌, ℕ, zero, suc, List, [], ◌∷◌, ◌++◌, Option, Some, None, Result, Ok, Err, OnOk, IfOk, IfSome, length, add-one, ◌+◌, ◌-◌, refl, sym, ap, subst, arith, inl, inr}
 use Rattle.std.specs.Prelude.{IsTrue}
 use Rattle.std.specs.Borrow.{Bor}
 use Rattle.std.proofs.lemmas.List.{length-append, length-map, map-append}
 use Rattle.std.specs.Str.Lines.{lines}
 use Rattle.mx_stamps.specs.declared.limits.TheConstants.{MAX_EVENTS}
 use Rattle.mx_nodelaws.specs.Core.{Core}
-use Rattle.mx_network.specs.Step.{ClusterState, step_of}
+use Rattle.mx_network.specs.Step.{ClusterState, IsFaultOf, step_of}
+use Rattle.mx_network.specs.declared.faults.StepFault.{StepFault}
 use Rattle.mx_trace.specs.declared.outcome.Entry.{Entry}
 use Rattle.mx_events.specs.declared.event.Event.{Event}
 use Rattle.mx_events.specs.declared.event.Event.TheVariants.{Deliver}
@@ -24,8 +25,9 @@ use Rattle.mx_scripts.specs.Lines.{Does, DoesAll, DoesIfSome, DoesText, IsNext, 
 use Rattle.mx_scripts.specs.Files.{file_text}
 use Rattle.mx_scripts.specs.Played.{Plays, events_of}
 use Rattle.mx_scripts.specs.ScriptFiles.{IsFileOfScript}
-use Rattle.mx_scripts.specs.Scripts.{IsOver}
-use Rattle.mx_scripts.specs.States.{Admits, Brings, IsAllowed, IsDrawnOf, RunState, before_any}
+use Rattle.mx_scripts.specs.Scripts.{IsOver, failure_of_step}
+use Rattle.mx_scripts.specs.States.{Admits, Brings, IsAllowed, IsDrawnOf, IsNotApplied, RunState, before_any}
+use Rattle.mx_scripts.specs.declared.script_error.LineFailure.{LineFailure}
 use Rattle.mx_scripts.specs.declared.session_event.SessionEvent.{SessionEvent}
 use Rattle.mx_scripts.specs.declared.session_event.SessionEvent.TheVariants.{Happens, IsLost, LinksChange}
 use Rattle.mx_scripts.proofs.FateLemmas.{waiting_under_way}
@@ -113,6 +115,14 @@ module _ {H S M : Type 0} (core : Core H S M) (o : Order) where
   repeats_end times i now le =
       let n : times - i ≡ 0 = omega (arith, le) in
       subst (λ (k : ℕ). Repeats core o k now [] now) (sym n) (refl, refl)
+
+-- ---- why an event is not applied
+
+module _ {H S M : Type 0} (core : Core H S M) where
+  pub not_applied : (old new : RunState S M) (e : Event) (fault : StepFault) (why : LineFailure) → IsFaultOf (step_of core old.cluster e) fault → why ≡ failure_of_step fault → new ≡ old
+      → IsNotApplied core old (Happens e) new why
+  not_applied old new e fault why (inl x) is same = inl (is ∙ ap failure_of_step x.0)
+  not_applied old new e fault why (inr x) is same = inr (same, fault, x, is)
 
 -- ---- the events of the lines lead from one cluster to another
 

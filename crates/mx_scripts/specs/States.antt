@@ -1,10 +1,14 @@
 -- A cluster with what has become of its parcels, and what happens to both.
-use Rattle.std.specs.Prelude.{ℕ, ◌≡◌, ◌<◌, ⊤, IsTrue, Ok, Option, Some, length}
+use Rattle.std.specs.Prelude.{ℕ, ◌≡◌, ◌<◌, ◌⊎◌, ⊤, IsTrue, Ok, Err, Option, Some, length}
 use Rattle.mx_stamps.specs.declared.limits.TheConstants.{MAX_EVENTS}
 use Rattle.mx_nodelaws.specs.Core.{Core}
 use Rattle.mx_network.specs.Step.{ClusterState, step_of}
+use Rattle.mx_network.specs.declared.faults.StepFault.{StepFault}
 use Rattle.mx_explorer.specs.Drawn.{IsDrawn}
 use Rattle.mx_scripts.specs.Fates.{Fates, at_first, can_pass, is_under_way, lost, noted, relinked}
+use Rattle.mx_scripts.specs.Scripts.{failure_of_step}
+use Rattle.mx_scripts.specs.declared.script_error.LineFailure.{LineFailure}
+use Rattle.mx_scripts.specs.declared.script_error.LineFailure.TheVariants as failure
 use Rattle.mx_scripts.specs.declared.session_event.SessionEvent.{SessionEvent}
 use Rattle.mx_scripts.specs.declared.session_event.SessionEvent.TheVariants.{Happens, IsLost, LinksChange}
 
@@ -49,3 +53,15 @@ module _ {H S M : Type 0} (core : Core H S M) where
       × IsTrue (is_under_way old.fates k)
   Brings old (LinksChange change) new =
       (new.cluster ≡ old.cluster) × (new.fates ≡ relinked change old.fates)
+
+  -- the cluster has no such node or parcel, and nothing changes
+  abbrev pub IsRefusedBy : RunState S M → SessionEvent → RunState S M → LineFailure → Type 0
+  IsRefusedBy old (Happens e) new why =
+      (new ≡ old) × (fault : StepFault) × (step_of core old.cluster e ≡ Err fault)
+      × (why ≡ failure_of_step fault)
+  IsRefusedBy old (IsLost k) new why = ⊥
+  IsRefusedBy old (LinksChange change) new why = ⊥
+
+  -- why this does not happen: memory ran out, or the cluster refuses it
+  abbrev pub IsNotApplied : RunState S M → SessionEvent → RunState S M → LineFailure → Type 0
+  IsNotApplied old e new why = (why ≡ failure.Memory) ⊎ IsRefusedBy old e new why

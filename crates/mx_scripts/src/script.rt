@@ -4,7 +4,6 @@ ghost use Rattle.std.specs.Prelude.{◌≡◌, List, [], string_bytes, IfOk, OnO
 ghost use Rattle.std.specs.Str.Lines.{lines};
 ghost use Rattle.mx_scripts.specs.Lines.{Does, DoesAll, DoesText, Performs, Reads};
 ghost use Rattle.mx_scripts.specs.ScriptFiles.{IsFileOfScript, IsScriptFile};
-ghost use Rattle.mx_scripts.specs.States.{before_any};
 ghost use Rattle.mx_scripts.specs.declared.session_event.SessionEvent.{SessionEvent};
 
 use crate::files::file_of;
@@ -12,6 +11,7 @@ use crate::script_error::{LineFailure, ScriptError};
 use crate::state::State;
 use mx_commands::by_shape;
 use mx_lines::{Line, LineFault, Order, read_line, words_in};
+use mx_network::Cluster;
 use mx_nodelaws::Exclusion;
 use mx_plan::Plan;
 use std::alloc::Global;
@@ -24,22 +24,22 @@ pub(crate) fn script_file(alloc: Global, plan: &Plan, script: &str) -> Result<St
     by_shape!(
         alloc,
         plan,
-        |cluster| file_of_script(alloc, plan, State::of(alloc, cluster), script)
+        |cluster| file_of_script(alloc, plan, cluster, script)
     )
 }
 
-/// The lines happen before any parcel was sent; then the file of what happened.
+/// Does the lines in a cluster at rest; then makes the file of what happened.
 fn file_of_script<C: Exclusion>(
     alloc: Global,
     plan: &Plan,
-    mut state: State<C>,
+    cluster: Cluster<C>,
     script: &str,
 ) -> Result<String, ScriptError>
-    requires fresh { state ≡ before_any state.cluster }
-    requires empty { state.cluster.trace ≡ [] }
+    requires { cluster.trace ≡ [] }
     ensures { IfOk result (λ text.
-        IsFileOfScript C.core plan.now state.cluster script.now (string_bytes text)) }
+        IsFileOfScript C.core plan.now cluster script.now (string_bytes text)) }
 {
+    let mut state = State::of(alloc, cluster);
     do_script(alloc, plan, script, &mut state)?;
     let text = file_of(alloc, plan, state.cluster().trace())?;
     Ok(text)

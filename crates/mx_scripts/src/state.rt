@@ -1,8 +1,8 @@
 //! A cluster, and what has become of its parcels.
 
-ghost use Rattle.std.specs.Prelude.{◌≡◌, IsTrue, OnOk};
+ghost use Rattle.std.specs.Prelude.{◌≡◌, IfErr, IsTrue, OnOk};
 ghost use Rattle.mx_scripts.specs.Fates.{can_pass, is_under_way};
-ghost use Rattle.mx_scripts.specs.States.{Brings, IsAllowed, before_any};
+ghost use Rattle.mx_scripts.specs.States.{Brings, IsAllowed, IsNotApplied, before_any};
 
 use crate::in_flight::InFlight;
 use crate::script_error::LineFailure;
@@ -70,10 +70,12 @@ impl<C: Exclusion> State<C> {
     ///
     /// # Errors
     ///
-    /// `Refused` if the cluster has no such node or parcel, `Memory` if it runs out.
+    /// `Refused` if the cluster has no such node or parcel: then nothing changes. `Memory` if it
+    /// runs out.
     pub fn apply(&mut self, event: &SessionEvent) -> Result<(), LineFailure>
         requires { IsAllowed self.old event.now }
-        ensures { OnOk result (Brings C.core self.old event.now self.new) }
+        ensures ok { OnOk result (Brings C.core self.old event.now self.new) }
+        ensures err { IfErr result (IsNotApplied C.core self.old event.now self.new) }
     {
         match event {
             SessionEvent::Happens(event) => self.advance(event),
@@ -106,8 +108,10 @@ impl<C: Exclusion> State<C> {
     /// An event happens.
     fn advance(&mut self, event: &Event) -> Result<(), LineFailure>
         requires { IsTrue (can_pass self.old.fates self.old.cluster.sent event.now) }
-        ensures { OnOk result
+        ensures ok { OnOk result
             (Brings C.core self.old (SessionEvent.Happens event.now) self.new) }
+        ensures err { IfErr result
+            (IsNotApplied C.core self.old (SessionEvent.Happens event.now) self.new) }
     {
         self.cluster.advance(*event)?;
         self.in_flight.note(event, &self.cluster)?;

@@ -9,4 +9,4 @@ returns-in-Ok-clause-done g c =
 
 pub returns-in-Err-clause-err : goal.returns-in-Err-clause-err
 returns-in-Err-clause-err g c =
-    print_fails (g.O.Output.takes_all c.args.out.now) (g.O.Output.written c.args.out.now) (g.O.Output.written c.print.new.out) c.as_bytes.result.now c.in-Err.stop c.in-Err.ensures.ran
+    print_fails (g.O.Output.takes_all c.args.out.now) (g.O.Output.written c.args.out.now) (g.O.Output.written c.print.new.out) c.as_bytes.result.now c.in-Err.error c.in-Err.ensures.ran

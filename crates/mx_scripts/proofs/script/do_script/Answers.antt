@@ -17,5 +17,5 @@ loop-line-preserved g c =
 pub returns : goal.returns
 returns g c =
     let l = c.loop-line in
-    let ended = YieldsList-end (YieldsList-from_lines c.args.script.now c.lines-line-items.ensures.rest) l.yielded _ l.yielded_by _ _ c.in-None.is c.next.ensures.steps in
+    let ended = YieldsList-end (YieldsList-from_lines {s = c.into_iter-line-iterator.result} c.args.script.now cc) l.yielded _ l.yielded_by _ _ c.in-None.is c.next.ensures.steps in
     subst (λ (texts : List Text). DoesAll g.C.Exclusion.core c.args.plan.now texts c.args.state.now l.state) ended.0 l.invariant

@@ -8,8 +8,8 @@ use Rattle.mx_scripts.proofs.script.file_of_script.Goals as goal
 
 pub returns : goal.returns
 returns g c =
-    let does = subst (λ (s : RunState g.row.C.Denot g.row.C-Msg.Denot). DoesAll g.C.Exclusion.core c.args.plan.now (lines c.args.script.now) s c.do_script.new.state) c.requires.fresh
+    let does = subst (λ (s : RunState g.row.C.Denot g.row.C-Msg.Denot). DoesAll g.C.Exclusion.core c.args.plan.now (lines c.args.script.now) s c.do_script.new.state) c.of-state.ensures
     c.in_ok-do_script.ensures in
     let same = c.trace.ensures.value ∙ ap (λ (x : ClusterState g.row.C.Denot g.row.C-Msg.Denot). x.trace) c.cluster.ensures in
-    file_of_lines g.C.Exclusion.core c.args.plan.now c.args.script.now c.args.state.cluster c.do_script.new.state c.trace.result.now (string_bytes c.in_ok-text.text) c.requires.empty
+    file_of_lines g.C.Exclusion.core c.args.plan.now c.args.script.now c.args.cluster c.do_script.new.state c.trace.result.now (string_bytes c.in_ok-text.text) c.requires
     does same c.in_ok-text.ensures

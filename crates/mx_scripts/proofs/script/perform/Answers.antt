@@ -21,7 +21,7 @@ loop-count-preserved g c =
     let e = c.in-Some.event in
     let next = subst (λ (o : Option SessionEvent). IsNext s.fates s.cluster.sent c.args.order.now l.count o) c.in-Some.is c.in_ok-next.ensures.next in
     let allowed = subst (λ (o : Option SessionEvent). IfSome o (IsAllowed s)) c.in-Some.is c.in_ok-next.ensures.allowed in
-    λ last es x. l.invariant last (e ∷ es) (performs_next g.C.Exclusion.core c.args.order.now l.count e es s c.apply.new.self last next allowed c.in_ok-apply-in-Some.ensures x)
+    λ last es x. l.invariant last (e ∷ es) (performs_next g.C.Exclusion.core c.args.order.now l.count e es s c.apply.new.self last next allowed c.in_ok-apply-in-Some.ensures.ok x)
 
 pub returns-in-None : goal.returns-in-None
 returns-in-None g c =
