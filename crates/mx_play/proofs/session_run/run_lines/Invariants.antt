@@ -1,14 +1,11 @@
 use Rattle.mx_format.specs.LetterTexts.{letter_text}
-use Rattle.mx_play.specs.Sessions.{HasTalked, IsSession, state}
-use Rattle.mx_play.proofs.talking.talk.Given as goal
+use Rattle.mx_play.specs.Sessions.{IsSession}
+use Rattle.mx_play.specs.Turns.{HasRun}
+use Rattle.mx_play.proofs.session_run.run_lines.Given as goal
 
 abbrev pub invariant-loop-number : goal.invariant-loop-number
-invariant-loop-number g l =
-    let core = g.C.Exclusion.core in
-    let now = state l.session.moment l.session.done.items l.session.marks.items l.session.undone.items in
-    record {
-      talked : HasTalked core (letter_text g.C.Msg.Letter.parts) g.C.Knowledge.knows l.plan l.shape
-          (state l.initial.session.moment l.initial.session.done.items l.initial.session.marks.items l.initial.session.undone.items) now
-          (g.O.Output.written l.initial.out) (g.O.Output.written l.out);
-      is : IsSession core l.plan l.shape now;
-    }
+invariant-loop-number g l = record {
+  run : HasRun g.C.Exclusion.core (letter_text g.C.Msg.Letter.parts) g.C.Knowledge.knows l.setting.plan.now l.setting.shape.now l.initial.session l.session
+      (g.O.Output.written l.initial.out) (g.O.Output.written l.out);
+  is : IsSession g.C.Exclusion.core l.setting.plan.now l.setting.shape.now l.session;
+}

@@ -1,9 +1,8 @@
 use Rattle.mx_format.specs.LetterTexts.{letter_text}
-use Rattle.mx_play.specs.Sessions.{state}
-use Rattle.mx_play.proofs.SessionLemmas.{talked_not}
-use Rattle.mx_play.proofs.playing.go_on.Goals as goal
+use Rattle.mx_play.proofs.TurnLemmas.{run_not}
+use Rattle.mx_play.proofs.session_run.run_rest.Goals as goal
 
-pub returns-in-None-clause-talked : goal.returns-in-None-clause-talked
-returns-in-None-clause-talked g c =
-    let s = c.args.session.now in
-    talked_not g.C.Exclusion.core (letter_text g.C.Msg.Letter.parts) c.args.plan.now g.C.Knowledge.knows c.args.shape.now (state s.moment s.done.items s.marks.items s.undone.items) (g.O.Output.written c.args.out.now)
+pub returns-in-None-clause-run : goal.returns-in-None-clause-run
+returns-in-None-clause-run g c =
+    let s = c.args.setting.now in
+    run_not g.C.Exclusion.core (letter_text g.C.Msg.Letter.parts) g.C.Knowledge.knows s.plan.now s.shape.now c.args.session.now (g.O.Output.written c.args.out.now)
