@@ -5,7 +5,6 @@ ghost use Rattle.mx_play.specs.Histories.{first_state};
 ghost use Rattle.mx_play.specs.Sessions.{at_start};
 
 use crate::undo::Undone;
-use mx_commands::start;
 use mx_nodelaws::Exclusion;
 use mx_plan::Plan;
 use mx_scripts::{SessionEvent, State};
@@ -50,8 +49,7 @@ pub(crate) fn first_state<C: Exclusion>(setting: &Setting<'_, C>) -> Result<Stat
     ensures { IfOk result (λ state.
         state ≡ first_state C.core setting.now.plan.now setting.now.shape.now) }
 {
-    let cluster = start(setting.alloc, setting.plan, setting.shape)?;
-    Ok(State::of(setting.alloc, cluster))
+    State::start(setting.alloc, setting.plan, setting.shape)
 }
 
 /// A session before any line.
