@@ -1,7 +1,7 @@
 -- What the lines of a session do, one after another.
 use Rattle.std.specs.Prelude.{ℕ, ◌≡◌, ◌≤◌, ◌<◌, ◌-◌, ⊤, List, [], ◌∷◌, ◌++◌, Option, Some, None, drop, length, take, slice_index_or}
 use Rattle.std.specs.Io.KnownBytes.{Appends}
-use Rattle.std.specs.Str.Utf8.{IsUtf8}
+use Rattle.std.specs.Str.{IsUtf8}
 use Rattle.mx_nodelaws.specs.Core.{Core}
 use Rattle.mx_network.specs.Step.{RunsTo}
 use Rattle.mx_lines.specs.declared.commands.SessionCommand.{SessionCommand}

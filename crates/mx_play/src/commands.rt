@@ -1,7 +1,7 @@
 //! What the commands of a session do.
 
-ghost use Rattle.std.specs.Prelude.{◌≡◌, ◌++◌, [], IfOk, OnOk, length, string_bytes};
-ghost use Rattle.std.specs.Str.Utf8.{IsUtf8};
+ghost use Rattle.std.specs.Prelude.{◌≡◌, ◌∷◌, ◌++◌, [], IfOk, OnOk, length, string_bytes};
+ghost use Rattle.std.specs.Str.{IsUtf8};
 ghost use Rattle.mx_format.specs.LetterTexts.{letter_text};
 ghost use Rattle.mx_play.specs.Commands.{IsSecondWord, IsOverPlan, second_of};
 ghost use Rattle.mx_play.specs.Sessions.{IsSession};
@@ -15,12 +15,12 @@ use crate::help::add_words;
 use crate::interpreter::repeat;
 use crate::session::{Session, Setting};
 use crate::undo::{redo_lines, truncate, undo_lines};
-use crate::views::show;
+use crate::views::{add_events, show};
 use mx_format::Letter;
 use mx_knowledge::Knowledge;
 use mx_lines::{Line, SessionCommand, words_in};
 use mx_nodelaws::Exclusion;
-use mx_scripts::{LineFailure, add_file};
+use mx_scripts::LineFailure;
 use std::alloc::{AllocError, Global};
 use std::str;
 
@@ -53,7 +53,7 @@ where
             Ok(None)
         }
         SessionCommand::Events => {
-            add_file(setting.plan, session.state.cluster().trace(), text)?;
+            add_events(setting.plan, &session.state, text)?;
             Ok(None)
         }
         SessionCommand::Mark => {

@@ -1,10 +1,11 @@
 //! What a line of a script does to a session.
 
-ghost use Rattle.std.specs.Prelude.{◌≡◌, List, string_bytes, OnErr, OnOk};
+ghost use Rattle.std.specs.Prelude.{◌≡◌, ◌++◌, List, string_bytes, OnErr, OnOk};
 ghost use Rattle.mx_format.specs.LetterTexts.{letter_text};
 ghost use Rattle.mx_scripts.specs.Lines.{Performs, Repeats};
 ghost use Rattle.mx_scripts.specs.States.{Brings, IsAllowed};
 ghost use Rattle.mx_scripts.specs.declared.session_event.SessionEvent.{SessionEvent};
+ghost use Rattle.mx_play.specs.Histories.{new_text};
 ghost use Rattle.mx_play.specs.Sessions.{Adds, AddsOne, Extends};
 
 use crate::event_texts::add_new;
@@ -12,7 +13,7 @@ use crate::session::{Session, Setting};
 use mx_format::Letter;
 use mx_lines::{Line, LineFault, Order};
 use mx_nodelaws::Exclusion;
-use mx_scripts::{LineFailure, SessionEvent};
+use mx_scripts::{LineFailure, SessionEvent, State};
 
 /// Does what a line asks for, as often as it says. Appends the texts of the events.
 ///
@@ -78,10 +79,28 @@ where
         event.now session.old session.new (string_bytes text.old) (string_bytes text.new)) }
     ensures err { OnErr result (Extends session.old session.new) }
 {
-    let index = session.state.cluster().trace().len();
-    let sent = session.state.cluster().sent();
-    session.state.apply(event)?;
-    add_new(setting.plan, session.state.cluster(), index, sent, text)?;
+    apply_to(setting, event, &mut session.state, text)?;
     session.done.push(*event)?;
+    Ok(())
+}
+
+/// Does one event, and appends its text.
+fn apply_to<C: Exclusion>(
+    setting: &Setting<'_, C>,
+    event: &SessionEvent,
+    state: &mut State<C>,
+    text: &mut String,
+) -> Result<(), LineFailure>
+where
+    C::Msg: Letter,
+    requires { IsAllowed state.old event.now }
+    ensures brings { OnOk result (Brings C.core state.old event.now state.new) }
+    ensures printed { OnOk result (string_bytes text.new ≡ string_bytes text.old
+        ++ new_text C.core (letter_text C.Msg.parts) setting.now.plan.now state.old state.new) }
+{
+    let index = state.cluster().trace().len();
+    let sent = state.cluster().sent();
+    state.apply(event)?;
+    add_new(setting.plan, state.cluster(), index, sent, text)?;
     Ok(())
 }

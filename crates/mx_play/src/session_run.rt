@@ -19,6 +19,7 @@ use mx_format::Letter;
 use mx_io::Output;
 use mx_knowledge::Knowledge;
 use mx_nodelaws::Exclusion;
+use mx_scripts::State;
 use std::alloc::AllocError;
 
 /// Runs a session before any line: the lines of a script, and then those that come. Returns the
@@ -43,7 +44,7 @@ where
     let mut listed = Listed { rest: script };
     let next = run_lines(setting, 1, &mut listed, session, out, err)?;
     run_rest(setting, next, lines, session, out, err)?;
-    finish(setting, session, out)
+    finish(setting, &session.state, out)
 }
 
 /// Runs the lines that come, the first of which has this number, unless the session has ended.
@@ -213,19 +214,18 @@ fn report<C: Exclusion, E: Output>(
 /// Prints the closing lines and the verdict. Returns the status.
 fn finish<C: Exclusion, O: Output>(
     setting: &Setting<'_, C>,
-    session: &Session<C>,
+    state: &State<C>,
     out: &mut O,
 ) -> Result<u8, CommandError>
 where
     C::Msg: Letter,
-    requires { length session.now.state.cluster.members ≡ length setting.now.plan.now.nodes }
+    requires { length state.now.cluster.members ≡ length setting.now.plan.now.nodes }
     ensures closes { IfOk result (λ _. Appends (O.written out.old) (O.written out.new)
-        (closing_text C.core (letter_text C.Msg.parts) setting.now.plan.now
-        session.now.state.cluster)) }
+        (closing_text C.core (letter_text C.Msg.parts) setting.now.plan.now state.now.cluster)) }
     ensures zero { IfOk result (λ status. status ≡ 0) }
 {
     let mut text = String::new(setting.alloc);
-    let verdict = add_closing(setting.plan, session.state.cluster(), &mut text)?;
+    let verdict = add_closing(setting.plan, state.cluster(), &mut text)?;
     out.put(text.as_bytes())?;
     Ok(verdict_status(verdict))
 }

@@ -5,6 +5,8 @@ ghost use Rattle.mx_format.specs.LetterTexts.{letter_text};
 ghost use Rattle.mx_format.specs.FactTexts.{facts_line};
 ghost use Rattle.mx_format.specs.Lines.{texts_from};
 ghost use Rattle.mx_scripts.specs.Fates.{is_under_way};
+ghost use Rattle.mx_scripts.specs.Files.{file_text};
+ghost use Rattle.mx_scripts.specs.Played.{events_of};
 ghost use Rattle.mx_play.specs.Cuts.{is_to};
 ghost use Rattle.mx_play.specs.Views.{node_shown, standing_lines, view_text, waiting_line, waiting_lines};
 
@@ -16,7 +18,7 @@ use mx_member::{Member, SentParcel};
 use mx_network::Cluster;
 use mx_nodelaws::Exclusion;
 use mx_plan::Plan;
-use mx_scripts::State;
+use mx_scripts::{State, add_file};
 use mx_stamps::{MAX_NODES, NodeId};
 use std::alloc::{AllocError, Global};
 
@@ -38,6 +40,18 @@ where
     add_standing(setting, to, state.cluster(), text)?;
     add_cuts(setting.plan, to, state.in_flight(), text)?;
     add_waiting(setting.plan, to, state, text)
+}
+
+/// Appends the events as a file.
+pub(crate) fn add_events<C: Exclusion>(
+    plan: &Plan,
+    state: &State<C>,
+    text: &mut String,
+) -> Result<(), AllocError>
+    ensures { OnOk result (string_bytes text.new ≡ string_bytes text.old
+        ++ file_text plan.now (events_of state.now.cluster.trace)) }
+{
+    add_file(plan, state.cluster().trace(), text)
 }
 
 /// Appends the line of each node, or of one.
