@@ -12,6 +12,8 @@ use Rattle.mx_scripts.specs.Fates.{Fates, noted}
 use Rattle.mx_scripts.specs.States.{Brings, IsAllowed, RunState}
 use Rattle.mx_scripts.specs.declared.session_event.SessionEvent.{SessionEvent}
 use Rattle.mx_scripts.specs.declared.session_event.SessionEvent.TheVariants.{Happens, IsLost, LinksChange}
+use Rattle.mx_format.specs.ParcelTexts.{parcel_lines}
+use Rattle.mx_commands.specs.Runs.{event_lines}
 use Rattle.mx_commands.proofs.RunLemmas.{grows}
 use Rattle.mx_play.specs.Histories.{CanLead, Leads, Makes, events_in, new_text}
 
@@ -133,3 +135,10 @@ module _ {H S M : Type 0} (core : Core H S M) where
 
     pub makes_one : (e : SessionEvent) (old new : RunState S M) → IsAllowed old e → Brings core old e new → Makes core letter_text p old (e ∷ []) new (new_text core letter_text p old new)
     makes_one e old new a b = (new, [], a, b, sym (append_nil (new_text core letter_text p old new)), (refl, refl))
+
+    -- the text from these places on
+    pub text_is : (event parcel : ℕ) (old new : RunState S M) (t t' : Text) → event ≡ length old.cluster.trace → parcel ≡ length old.cluster.sent
+        → t' ≡ t ++ (event_lines p event (drop event new.cluster.trace) ++ parcel_lines letter_text p parcel (drop parcel new.cluster.sent)) → t' ≡ t ++ new_text core letter_text p old new
+    text_is event parcel old new t t' is_event is_parcel x =
+        x ∙ ap (λ (k : ℕ). t ++ (event_lines p k (drop k new.cluster.trace) ++ parcel_lines letter_text p parcel (drop parcel new.cluster.sent))) is_event
+        ∙ ap (λ (k : ℕ). t ++ (event_lines p (length old.cluster.trace) (drop (length old.cluster.trace) new.cluster.trace) ++ parcel_lines letter_text p k (drop k new.cluster.sent))) is_parcel

@@ -1,5 +1,5 @@
 -- What lines make of a session.
-use Rattle.std.proofs.Common.{◌≡◌, ◌∙◌, ◌⊎◌, ℕ, zero, suc, List, [], ◌∷◌, ◌++◌, length, take, drop, refl, sym, ap, subst, append_assoc, inl, inr}
+use Rattle.std.proofs.Common.{◌≡◌, ◌≤◌, ◌-◌, ◌∙◌, ◌⊎◌, ℕ, zero, suc, List, [], ◌∷◌, ◌++◌, length, take, drop, slice_index_or, refl, sym, ap, subst, append_assoc, inl, inr}
 use Rattle.mx_stamps.specs.Lists.{IsIn}
 use Rattle.mx_stamps.proofs.Lists.{append_nil}
 use Rattle.mx_nodelaws.specs.Core.{Core}
@@ -19,7 +19,7 @@ use Rattle.mx_scripts.specs.declared.session_event.SessionEvent.TheVariants.{Hap
 use Rattle.mx_scripts.proofs.LineLemmas.{next_drawn}
 use Rattle.mx_play.specs.Histories.{CanLead, Leads, Makes, events_in, first_state}
 use Rattle.mx_play.specs.Sessions.{Adds, Extends, IsSession, SessionState, at_start, undone_in}
-use Rattle.mx_play.specs.Turns.{IsDone, IsUndone}
+use Rattle.mx_play.specs.Turns.{IsDone, IsRedone, IsUndone}
 use Rattle.mx_play.specs.declared.undo.Undone.{Undone}
 use Rattle.mx_play.proofs.HistoryLemmas.{leads_append, leads_members, leads_one, leads_prefix, leads_split, makes_leads}
 
@@ -133,9 +133,9 @@ module _ {H S M : Type 0} (core : Core H S M) (p : Fields) (shape : H) where
   undone_next a us u now leads rest =
       (rest.0, subst (λ (l : List SessionEvent). Leads core now l rest.0) (sym (undone_last us u)) (leads_append core u.done.items (undone_in us) now a.state rest.0 leads rest.1))
 
-  pub session_undone : (n : ℕ) (a c : SessionState S M) (u : Undone) → G a → c.done ≡ take n a.done → Leads core first (take n a.done) c.state
+  truncated : (n : ℕ) (a c : SessionState S M) (u : Undone) → G a → c.done ≡ take n a.done → Leads core first (take n a.done) c.state
       → u.done.items ≡ drop n a.done → c.undone ≡ a.undone ++ u ∷ [] → IsSession core p shape c
-  session_undone n a c u g listed leads tail pushed =
+  truncated n a c u g listed leads tail pushed =
       let whole : Leads core first (take n a.done ++ drop n a.done) a.state = subst (λ (l : List SessionEvent). Leads core first l a.state) (take_and_drop n a.done) g.leads in
       let parts = leads_split core (take n a.done) (drop n a.done) first a.state whole in
       let here : Leads core c.state (drop n a.done) a.state =
@@ -148,6 +148,30 @@ module _ {H S M : Type 0} (core : Core H S M) (p : Fields) (shape : H) where
       (subst (λ (us : List Undone). O (undone_in us)) (sym pushed)
       (subst O (sym (undone_last a.undone u))
       (over_append (length p.nodes) (length p.registers) u.done.items (undone_in a.undone) (subst O (sym tail) rest.1) g.later)))
+
+  pub session_undone : (n : ℕ) (a b c : SessionState S M) (u : Undone) → G a → b.done ≡ take n a.done → Leads core first (take n a.done) b.state → b.undone ≡ a.undone
+      → c.state ≡ b.state → c.done ≡ b.done → c.undone ≡ b.undone ++ u ∷ [] → u.done.items ≡ drop n a.done → IsSession core p shape c
+  session_undone n a b c u g listed leads kept state done undone tail =
+      truncated n a c u g (done ∙ listed) (subst (λ (m : RunState S M). Leads core first (take n a.done) m) (sym state) leads) tail
+      (undone ∙ ap (λ (us : List Undone). us ++ u ∷ []) kept)
+
+  -- the last lines were undone
+  pub was_undone : (count left n : ℕ) (a b c : SessionState S M) (u : Undone) → count ≤ length a.marks → left ≡ length a.marks - count → n ≡ slice_index_or a.marks left (length a.done)
+      → b.done ≡ take n a.done → Leads core first (take n a.done) b.state → b.marks ≡ a.marks → b.undone ≡ a.undone
+      → c.state ≡ b.state → c.done ≡ b.done → c.marks ≡ take left b.marks → c.undone ≡ b.undone ++ u ∷ [] → u.done.items ≡ drop n a.done → u.marks.items ≡ drop left a.marks
+      → IsUndone core p shape count a c
+  was_undone count left n a b c u few is before listed leads marks kept state done taken undone tail tail_marks =
+      let here : n ≡ slice_index_or a.marks (length a.marks - count) (length a.done) = before ∙ ap (λ (k : ℕ). slice_index_or a.marks k (length a.done)) is in
+      record {
+        few = few;
+        marks = taken ∙ ap (λ (l : List ℕ). take left l) marks ∙ ap (λ (k : ℕ). take k a.marks) is;
+        done = done ∙ listed ∙ ap (λ (k : ℕ). take k a.done) here;
+        last = u;
+        undone = undone ∙ ap (λ (us : List Undone). us ++ u ∷ []) kept;
+        taken = tail ∙ ap (λ (k : ℕ). drop k a.done) here;
+        taken_marks = tail_marks ∙ ap (λ (k : ℕ). drop k a.marks) is;
+        leads = subst (λ (m : RunState S M). Leads core first c.done m) (sym state) (subst (λ (l : List SessionEvent). Leads core first l b.state) (sym (done ∙ listed)) leads);
+      }
 
   module _ (a : SessionState S M) (us : List Undone) (u : Undone) (g : G a) (popped : a.undone ≡ us ++ u ∷ []) where
     redone_whole : CanLead core a.state (u.done.items ++ undone_in us)
@@ -174,6 +198,19 @@ module _ {H S M : Type 0} (core : Core H S M) (p : Fields) (shape : H) where
         (subst O (sym listed) (over_append (length p.nodes) (length p.registers) a.done u.done.items g.over over.0))
         (subst (λ (l : List Undone). CanLead core c.state (undone_in l)) (sym rest) here)
         (subst (λ (l : List Undone). O (undone_in l)) (sym rest) over.1)
+
+  -- what was undone last was redone
+  pub was_redone : (a b c : SessionState S M) (u : Undone) → a.undone ≡ b.undone ++ u ∷ [] → b.state ≡ a.state → b.done ≡ a.done → b.marks ≡ a.marks
+      → Leads core b.state u.done.items c.state → c.done ≡ b.done ++ u.done.items → c.marks ≡ b.marks ++ u.marks.items → c.undone ≡ b.undone → IsRedone core a c
+  was_redone a b c u popped state done marks leads listed marked left = record {
+    rest = b.undone;
+    last = u;
+    undone = popped;
+    left = left;
+    done = listed ∙ ap (λ (l : List SessionEvent). l ++ u.done.items) done;
+    marks = marked ∙ ap (λ (l : List ℕ). l ++ u.marks.items) marks;
+    leads = subst (λ (m : RunState S M). Leads core m u.done.items c.state) state leads;
+  }
 
   pub can_truncate : (n : ℕ) (a : SessionState S M) → G a → CanLead core first (take n a.done)
   can_truncate n a g = leads_prefix core n a.done first a.state g.leads

@@ -1,10 +1,12 @@
 -- Turns of a session, one after another.
-use Rattle.std.proofs.Common.{◌≡◌, ◌∙◌, List, [], ◌∷◌, ◌++◌, Result, Ok, Err, Option, Some, None, IfOk, refl, sym, ap, subst, append_assoc}
+use Rattle.std.proofs.Common.{◌≡◌, ◌∙◌, ℕ, List, [], ◌∷◌, ◌++◌, Result, Ok, Err, Option, Some, None, IfOk, refl, sym, ap, subst, append_assoc}
 use Rattle.std.specs.Io.KnownBytes.{Appends}
 use Rattle.mx_stamps.proofs.Lists.{append_nil}
 use Rattle.mx_nodelaws.specs.Core.{Core}
 use Rattle.mx_knowledge.specs.Facts.{Known}
 use Rattle.mx_lines.specs.declared.commands.SessionCommand.{SessionCommand}
+use Rattle.mx_lines.specs.declared.commands.SessionCommand.TheVariants.{Does, Redo, Undo}
+use Rattle.mx_lines.specs.declared.lines.Line.{Line}
 use Rattle.mx_plan.specs.Text.{Text}
 use Rattle.mx_plan.specs.Fields.{Fields}
 use Rattle.mx_io.specs.Outputs.{Held}
@@ -12,7 +14,7 @@ use Rattle.mx_cli.proofs.OutputLemmas.{Appends-nil, Appends-trans}
 use Rattle.mx_commands.specs.Runs.{closing_text}
 use Rattle.mx_play.specs.Histories.{first_state}
 use Rattle.mx_play.specs.Sessions.{IsSession, SessionState, at_start}
-use Rattle.mx_play.specs.Turns.{HasExecuted, HasRun, HasTurned, IsPlayed, PrintsTurn, TakesAll, Turn, executes, refuses}
+use Rattle.mx_play.specs.Turns.{HasDone, HasExecuted, HasRedone, HasRun, HasTurned, HasUndone, IsPlayed, PrintsTurn, TakesAll, Turn, executes, refuses}
 use Rattle.mx_play.specs.declared.faults.InputFault.{InputFault}
 use Rattle.mx_play.specs.declared.input.Input.{Input}
 use Rattle.mx_play.specs.declared.input.Input.TheVariants as input
@@ -30,6 +32,25 @@ module _ {H S M : Type 0} (core : Core H S M) (letter_text : Fields → M → Te
       → IfOk r (λ _. HasTurned core letter_text knows p shape (input.Command command) line a b text)
   turned_on_ok (Ok fault) command line a b text x = turned_by fault command line a b text x
   turned_on_ok (Err e) command line a b text x = tt
+
+  -- what a command of a line comes to
+  pub executed_line : {E : Type 0} (r : Result (Option InputFault) E) (line : Line) (from : Text) (a b : SessionState S M) (text : Text) → IfOk r (λ fault. HasDone core letter_text p fault line a b text)
+      → IfOk r (λ fault. HasExecuted core letter_text knows p shape fault (Does line) from a b text)
+  executed_line (Ok None) line from a b text x = x
+  executed_line (Ok (Some fault)) line from a b text x = (tt, x)
+  executed_line (Err e) line from a b text x = tt
+
+  pub executed_undo : {E : Type 0} (r : Result (Option InputFault) E) (count : ℕ) (from : Text) (a b : SessionState S M) (text : Text) → text ≡ []
+      → IfOk r (λ fault. HasUndone core p shape fault count a b) → IfOk r (λ fault. HasExecuted core letter_text knows p shape fault (Undo count) from a b text)
+  executed_undo (Ok None) count from a b text empty x = (x, empty)
+  executed_undo (Ok (Some fault)) count from a b text empty x = (x.0, record { same = x.1; printed = empty })
+  executed_undo (Err e) count from a b text empty x = tt
+
+  pub executed_redo : {E : Type 0} (r : Result (Option InputFault) E) (from : Text) (a b : SessionState S M) (text : Text) → text ≡ []
+      → IfOk r (λ fault. HasRedone core fault a b) → IfOk r (λ fault. HasExecuted core letter_text knows p shape fault Redo from a b text)
+  executed_redo (Ok None) from a b text empty x = (x, empty)
+  executed_redo (Ok (Some fault)) from a b text empty x = (x.0, record { same = x.1; printed = empty })
+  executed_redo (Err e) from a b text empty x = tt
 
   takes_on : (ts us : List Turn) (a b c : SessionState S M) (t s : Text) → TakesAll core letter_text knows p shape ts a b t → TakesAll core letter_text knows p shape us b c s
       → TakesAll core letter_text knows p shape (ts ++ us) a c (t ++ s)

@@ -6,7 +6,9 @@ ghost use Rattle.mx_format.specs.LetterTexts.{letter_text};
 ghost use Rattle.mx_play.specs.Commands.{IsSecondWord, IsOverPlan, second_of};
 ghost use Rattle.mx_play.specs.Sessions.{IsSession};
 ghost use Rattle.mx_play.specs.Turns.{HasDone, HasExecuted};
-ghost use Rattle.mx_play.specs.Views.{mark_line};
+ghost use Rattle.mx_play.specs.Views.{mark_line, view_text};
+ghost use Rattle.mx_scripts.specs.Files.{file_text};
+ghost use Rattle.mx_scripts.specs.Played.{events_of};
 ghost use Rattle.mx_lines.specs.Names.{texts_of};
 ghost use Rattle.mx_scripts.specs.Scripts.{IsOver};
 
@@ -14,13 +16,14 @@ use crate::faults::InputFault;
 use crate::help::add_words;
 use crate::interpreter::repeat;
 use crate::session::{Session, Setting};
-use crate::undo::{redo_lines, truncate, undo_lines};
+use crate::undo::{event_count, redo_lines, truncate, undo_lines};
 use crate::views::{add_events, show};
 use mx_format::Letter;
 use mx_knowledge::Knowledge;
 use mx_lines::{Line, SessionCommand, words_in};
 use mx_nodelaws::Exclusion;
 use mx_scripts::LineFailure;
+use mx_stamps::NodeId;
 use std::alloc::{AllocError, Global};
 use std::str;
 
@@ -49,11 +52,11 @@ where
         SessionCommand::Undo(count) => undo_lines(setting, *count, session),
         SessionCommand::Redo => redo_lines(setting, session),
         SessionCommand::Show(to) => {
-            show(setting, to, &session.state, text)?;
+            show_session(setting, to, session, text)?;
             Ok(None)
         }
         SessionCommand::Events => {
-            add_events(setting.plan, &session.state, text)?;
+            list_session(setting, session, text)?;
             Ok(None)
         }
         SessionCommand::Mark => {
@@ -86,7 +89,7 @@ where
     ensures is { IfOk result (λ _.
         IsSession C.core setting.now.plan.now setting.now.shape.now session.new) }
 {
-    let before = session.done.len();
+    let before = event_count(session);
     match repeat(setting, line, session, text) {
         Ok(()) => {
             commit(before, session)?;
@@ -111,6 +114,35 @@ fn commit<C: Exclusion>(before: usize, session: &mut Session<C>) -> Result<(), A
     session.marks.push(before)?;
     session.undone.clear();
     Ok(())
+}
+
+/// Appends what `show` prints.
+fn show_session<C: Exclusion + Knowledge>(
+    setting: &Setting<'_, C>,
+    to: &Option<NodeId>,
+    session: &Session<C>,
+    text: &mut String,
+) -> Result<(), AllocError>
+where
+    C::Msg: Letter,
+    requires members { length session.now.state.cluster.members ≡ length setting.now.plan.now.nodes }
+    ensures { OnOk result (string_bytes text.new ≡ string_bytes text.old
+        ++ view_text C.core (letter_text C.Msg.parts) setting.now.plan.now C.knows to.now
+        session.now.state) }
+{
+    show(setting, to, &session.state, text)
+}
+
+/// Appends the events as a file.
+fn list_session<C: Exclusion>(
+    setting: &Setting<'_, C>,
+    session: &Session<C>,
+    text: &mut String,
+) -> Result<(), AllocError>
+    ensures { OnOk result (string_bytes text.new ≡ string_bytes text.old
+        ++ file_text setting.now.plan.now (events_of session.now.state.cluster.trace)) }
+{
+    add_events(setting.plan, &session.state, text)
 }
 
 /// Appends the line of a mark.

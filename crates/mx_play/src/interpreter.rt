@@ -1,6 +1,6 @@
 //! What a line of a script does to a session.
 
-ghost use Rattle.std.specs.Prelude.{◌≡◌, ◌++◌, List, string_bytes, OnErr, OnOk};
+ghost use Rattle.std.specs.Prelude.{◌≡◌, ◌++◌, List, length, string_bytes, OnErr, OnOk};
 ghost use Rattle.mx_format.specs.LetterTexts.{letter_text};
 ghost use Rattle.mx_scripts.specs.Lines.{Performs, Repeats};
 ghost use Rattle.mx_scripts.specs.States.{Brings, IsAllowed};
@@ -74,7 +74,7 @@ fn apply<C: Exclusion>(
 ) -> Result<(), LineFailure>
 where
     C::Msg: Letter,
-    requires { IsAllowed session.old.state event.now }
+    requires allowed { IsAllowed session.old.state event.now }
     ensures ok { OnOk result (AddsOne C.core (letter_text C.Msg.parts) setting.now.plan.now
         event.now session.old session.new (string_bytes text.old) (string_bytes text.new)) }
     ensures err { OnErr result (Extends session.old session.new) }
@@ -93,14 +93,22 @@ fn apply_to<C: Exclusion>(
 ) -> Result<(), LineFailure>
 where
     C::Msg: Letter,
-    requires { IsAllowed state.old event.now }
+    requires allowed { IsAllowed state.old event.now }
     ensures brings { OnOk result (Brings C.core state.old event.now state.new) }
     ensures printed { OnOk result (string_bytes text.new ≡ string_bytes text.old
         ++ new_text C.core (letter_text C.Msg.parts) setting.now.plan.now state.old state.new) }
 {
-    let index = state.cluster().trace().len();
-    let sent = state.cluster().sent();
+    let (events, parcels) = counts(state);
     state.apply(event)?;
-    add_new(setting.plan, state.cluster(), index, sent, text)?;
+    add_new(setting.plan, state, events, parcels, text)?;
     Ok(())
+}
+
+/// How many events there were, and how many parcels were sent.
+fn counts<C: Exclusion>(state: &State<C>) -> (usize, u64)
+    ensures events { result.0 ≡ length state.now.cluster.trace }
+    ensures parcels { result.1 ≡ length state.now.cluster.sent }
+{
+    let cluster = state.cluster();
+    (cluster.trace().len(), cluster.sent())
 }

@@ -13,13 +13,12 @@ use crate::faults::{InputFault, InputFaultLine};
 use crate::input::{Input, greet, is_end, read_input};
 use crate::lines::{Lines, Listed};
 use crate::session::{Session, Setting};
+use crate::views::add_end;
 use mx_cli::{CommandError, Fault, Named, write_line};
-use mx_commands::{add_closing, verdict_status};
 use mx_format::Letter;
 use mx_io::Output;
 use mx_knowledge::Knowledge;
 use mx_nodelaws::Exclusion;
-use mx_scripts::State;
 use std::alloc::AllocError;
 
 /// Runs a session before any line: the lines of a script, and then those that come. Returns the
@@ -44,7 +43,7 @@ where
     let mut listed = Listed { rest: script };
     let next = run_lines(setting, 1, &mut listed, session, out, err)?;
     run_rest(setting, next, lines, session, out, err)?;
-    finish(setting, &session.state, out)
+    finish(setting, session, out)
 }
 
 /// Runs the lines that come, the first of which has this number, unless the session has ended.
@@ -214,18 +213,36 @@ fn report<C: Exclusion, E: Output>(
 /// Prints the closing lines and the verdict. Returns the status.
 fn finish<C: Exclusion, O: Output>(
     setting: &Setting<'_, C>,
-    state: &State<C>,
+    session: &Session<C>,
     out: &mut O,
 ) -> Result<u8, CommandError>
 where
     C::Msg: Letter,
-    requires { length state.now.cluster.members ≡ length setting.now.plan.now.nodes }
+    requires members { length session.now.state.cluster.members ≡ length setting.now.plan.now.nodes }
     ensures closes { IfOk result (λ _. Appends (O.written out.old) (O.written out.new)
-        (closing_text C.core (letter_text C.Msg.parts) setting.now.plan.now state.now.cluster)) }
+        (closing_text C.core (letter_text C.Msg.parts) setting.now.plan.now
+        session.now.state.cluster)) }
     ensures zero { IfOk result (λ status. status ≡ 0) }
 {
     let mut text = String::new(setting.alloc);
-    let verdict = add_closing(setting.plan, state.cluster(), &mut text)?;
+    let status = end_session(setting, session, &mut text)?;
     out.put(text.as_bytes())?;
-    Ok(verdict_status(verdict))
+    Ok(status)
+}
+
+/// Appends the closing lines and the verdict. Returns the status.
+fn end_session<C: Exclusion>(
+    setting: &Setting<'_, C>,
+    session: &Session<C>,
+    text: &mut String,
+) -> Result<u8, AllocError>
+where
+    C::Msg: Letter,
+    requires members { length session.now.state.cluster.members ≡ length setting.now.plan.now.nodes }
+    ensures text { OnOk result (string_bytes text.new ≡ string_bytes text.old
+        ++ closing_text C.core (letter_text C.Msg.parts) setting.now.plan.now
+        session.now.state.cluster) }
+    ensures zero { IfOk result (λ status. status ≡ 0) }
+{
+    add_end(setting.plan, &session.state, text)
 }

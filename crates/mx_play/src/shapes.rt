@@ -1,19 +1,14 @@
 //! A session in the cluster of a plan, by the plan's algorithm.
 
-ghost use Rattle.std.specs.Prelude.{◌≡◌, length, IfOk};
-ghost use Rattle.mx_format.specs.LetterTexts.{letter_text};
+ghost use Rattle.std.specs.Prelude.{◌≡◌, IfOk};
 ghost use Rattle.mx_play.specs.Played.{IsPlayedBy};
-ghost use Rattle.mx_play.specs.Turns.{IsPlayed};
 
 use crate::lines::Lines;
 use crate::session::{Setting, first_session};
 use crate::session_run::run_session;
 use mx_cli::{CommandError, PlanAndText};
-use mx_format::Letter;
 use mx_io::Output;
-use mx_knowledge::Knowledge;
 use mx_maekawa::Maekawa;
-use mx_nodelaws::Exclusion;
 use mx_plan::Shape;
 use mx_raymond::Raymond;
 use mx_ricart::Ricart;
@@ -37,34 +32,18 @@ pub(crate) fn run_by_plan<L: Lines, O: Output, E: Output>(
     match plan.shape() {
         Shape::Ricart(shape) => {
             let setting = Setting::<Ricart> { alloc, plan, shape };
-            run_first(&setting, script, lines, out, err)
+            let mut session = first_session(&setting)?;
+            run_session(&setting, script, lines, &mut session, out, err)
         }
         Shape::Maekawa(shape) => {
             let setting = Setting::<Maekawa> { alloc, plan, shape };
-            run_first(&setting, script, lines, out, err)
+            let mut session = first_session(&setting)?;
+            run_session(&setting, script, lines, &mut session, out, err)
         }
         Shape::Raymond(shape) => {
             let setting = Setting::<Raymond> { alloc, plan, shape };
-            run_first(&setting, script, lines, out, err)
+            let mut session = first_session(&setting)?;
+            run_session(&setting, script, lines, &mut session, out, err)
         }
     }
-}
-
-/// Runs a session before any line. Returns the status.
-fn run_first<C: Exclusion + Knowledge, L: Lines, O: Output, E: Output>(
-    setting: &Setting<'_, C>,
-    script: &[u8],
-    lines: &mut L,
-    out: &mut O,
-    err: &mut E,
-) -> Result<u8, CommandError>
-where
-    C::Msg: Letter,
-    requires { C.core.count setting.now.shape.now ≡ length setting.now.plan.now.nodes }
-    ensures played { IfOk result (λ _. IsPlayed C.core (letter_text C.Msg.parts) C.knows
-        setting.now.plan.now setting.now.shape.now (O.written out.old) (O.written out.new)) }
-    ensures zero { IfOk result (λ status. status ≡ 0) }
-{
-    let mut session = first_session(setting)?;
-    run_session(setting, script, lines, &mut session, out, err)
 }

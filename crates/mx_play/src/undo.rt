@@ -1,6 +1,6 @@
 //! What is undone, and what is redone.
 
-ghost use Rattle.std.specs.Prelude.{◌≡◌, ◌++◌, [], IfOk, OnOk, drop, length, slice_index_or, take};
+ghost use Rattle.std.specs.Prelude.{◌≡◌, ◌∷◌, ◌++◌, [], IfNone, IfOk, IfSome, OnOk, drop, length, slice_index_or, take};
 ghost use Rattle.mx_format.specs.LetterTexts.{letter_text};
 ghost use Rattle.mx_play.specs.Histories.{CanLead, Leads, first_state};
 ghost use Rattle.mx_play.specs.Sessions.{IsSession};
@@ -35,17 +35,32 @@ pub(crate) fn undo_lines<C: Exclusion>(
     ensures is { IfOk result (λ _.
         IsSession C.core setting.now.plan.now setting.now.shape.now session.new) }
 {
-    let lines = session.marks.len();
+    let lines = line_count(session);
     if count > lines as u64 {
         return Ok(Some(InputFault::TooFew(lines)));
     }
     let left = lines - count as usize;
-    let before = mark_at(session.marks.as_slice(), left, session.done.len());
+    let before = events_before(session, left);
     let undone = tail_of(setting.alloc, session, before, left)?;
     truncate(setting, before, session)?;
+    keep_undone(left, undone, session)?;
+    Ok(None)
+}
+
+/// Only this many lines are left, and what was undone can be redone.
+fn keep_undone<C: Exclusion>(
+    left: usize,
+    undone: Undone,
+    session: &mut Session<C>,
+) -> Result<(), AllocError>
+    ensures state { session.new.state ≡ session.old.state }
+    ensures done { session.new.done ≡ session.old.done }
+    ensures marks { session.new.marks ≡ take left session.old.marks }
+    ensures undone { OnOk result (session.new.undone ≡ session.old.undone ++ undone ∷ []) }
+{
     session.marks.truncate(left);
     session.undone.push(undone)?;
-    Ok(None)
+    Ok(())
 }
 
 /// Redoes what was undone last. Nothing changes if nothing was undone.
@@ -58,16 +73,30 @@ pub(crate) fn redo_lines<C: Exclusion>(
     ensures is { IfOk result (λ _.
         IsSession C.core setting.now.plan.now setting.now.shape.now session.new) }
 {
-    let Some(undone) = session.undone.pop() else {
-        return Ok(Some(InputFault::NoUndo));
-    };
-    redo(&undone, session)?;
-    Ok(None)
+    match pop_undone(session) {
+        Some(undone) => {
+            redo(&undone, session)?;
+            Ok(None)
+        }
+        None => Ok(Some(InputFault::NoUndo)),
+    }
+}
+
+/// Takes what was undone last.
+fn pop_undone<C: Exclusion>(session: &mut Session<C>) -> Option<Undone>
+    ensures state { session.new.state ≡ session.old.state }
+    ensures done { session.new.done ≡ session.old.done }
+    ensures marks { session.new.marks ≡ session.old.marks }
+    ensures some { IfSome result (λ undone.
+        session.old.undone ≡ session.new.undone ++ undone ∷ []) }
+    ensures none { IfNone result ((session.old.undone ≡ []) × (session.new ≡ session.old)) }
+{
+    session.undone.pop()
 }
 
 /// Does again what was undone.
 fn redo<C: Exclusion>(undone: &Undone, session: &mut Session<C>) -> Result<(), AllocError>
-    requires { CanLead C.core session.old.state undone.now.done.items }
+    requires leads { CanLead C.core session.old.state undone.now.done.items }
     ensures leads { OnOk result
         (Leads C.core session.old.state undone.now.done.items session.new.state) }
     ensures done { OnOk result (session.new.done ≡ session.old.done ++ undone.now.done.items) }
@@ -86,7 +115,8 @@ pub(crate) fn truncate<C: Exclusion>(
     count: usize,
     session: &mut Session<C>,
 ) -> Result<(), AllocError>
-    requires { CanLead C.core (first_state C.core setting.now.plan.now setting.now.shape.now)
+    requires leads { CanLead C.core
+        (first_state C.core setting.now.plan.now setting.now.shape.now)
         (take count session.old.done) }
     ensures leads { OnOk result (Leads C.core
         (first_state C.core setting.now.plan.now setting.now.shape.now)
@@ -95,9 +125,27 @@ pub(crate) fn truncate<C: Exclusion>(
     ensures marks { session.new.marks ≡ session.old.marks }
     ensures undone { session.new.undone ≡ session.old.undone }
 {
-    session.done.truncate(count);
-    session.state = first_state(setting)?;
-    reapply_all(session.done.as_slice(), &mut session.state)
+    go_back(setting, count, &mut session.state, &mut session.done)
+}
+
+/// Goes back to the first `count` events.
+fn go_back<C: Exclusion>(
+    setting: &Setting<'_, C>,
+    count: usize,
+    state: &mut State<C>,
+    done: &mut Vec<SessionEvent>,
+) -> Result<(), AllocError>
+    requires leads { CanLead C.core
+        (first_state C.core setting.now.plan.now setting.now.shape.now)
+        (take count done.old.items) }
+    ensures leads { OnOk result (Leads C.core
+        (first_state C.core setting.now.plan.now setting.now.shape.now)
+        (take count done.old.items) state.new) }
+    ensures done { done.new.items ≡ take count done.old.items }
+{
+    done.truncate(count);
+    *state = first_state(setting)?;
+    reapply_all(done.as_slice(), state)
 }
 
 /// Does again what happened once, one event after another.
@@ -109,9 +157,10 @@ fn reapply_all<C: Exclusion>(
     ensures { OnOk result (Leads C.core state.old events.now state.new) }
 {
     for event in events {
-        // what happened once is refused only without memory
-        if state.apply(event).is_err() {
-            return Err(AllocError);
+        match state.apply(event) {
+            Ok(()) => {}
+            // what happened once is refused only without memory
+            Err(_) => return Err(AllocError),
         }
     }
     Ok(())
@@ -142,9 +191,27 @@ fn items_from<T: Copy>(alloc: Global, items: &[T], place: usize) -> Result<Vec<T
     }
 }
 
-/// How much had happened before the line of this number, counted from 0; or all, if there is none.
-fn mark_at(marks: &[usize], line: usize, all: usize) -> usize
-    ensures { result ≡ slice_index_or marks.now line all }
+/// How many lines were done.
+fn line_count<C: Exclusion>(session: &Session<C>) -> usize
+    ensures { result ≡ length session.now.marks }
 {
-    if line < marks.len() { marks[line] } else { all }
+    session.marks.len()
+}
+
+/// How much has happened.
+pub(crate) fn event_count<C: Exclusion>(session: &Session<C>) -> usize
+    ensures { result ≡ length session.now.done }
+{
+    session.done.len()
+}
+
+/// How much had happened before the line of this number, counted from 0; or all, if there is none.
+fn events_before<C: Exclusion>(session: &Session<C>, line: usize) -> usize
+    ensures { result
+        ≡ slice_index_or session.now.marks line (length session.now.done) }
+{
+    match session.marks.get(line) {
+        Some(count) => *count,
+        None => session.done.len(),
+    }
 }

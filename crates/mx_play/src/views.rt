@@ -1,9 +1,10 @@
 //! What `show` prints of a session.
 
-ghost use Rattle.std.specs.Prelude.{◌≡◌, ◌+◌, ◌<◌, ◌++◌, ◌&&◌, drop, length, string_bytes, OnOk, Some};
+ghost use Rattle.std.specs.Prelude.{◌≡◌, ◌+◌, ◌<◌, ◌++◌, ◌&&◌, drop, length, string_bytes, IfOk, OnOk, Some};
 ghost use Rattle.mx_format.specs.LetterTexts.{letter_text};
 ghost use Rattle.mx_format.specs.FactTexts.{facts_line};
 ghost use Rattle.mx_format.specs.Lines.{texts_from};
+ghost use Rattle.mx_commands.specs.Runs.{closing_text};
 ghost use Rattle.mx_scripts.specs.Fates.{is_under_way};
 ghost use Rattle.mx_scripts.specs.Files.{file_text};
 ghost use Rattle.mx_scripts.specs.Played.{events_of};
@@ -12,6 +13,7 @@ ghost use Rattle.mx_play.specs.Views.{node_shown, standing_lines, view_text, wai
 
 use crate::cuts::add_cuts;
 use crate::session::Setting;
+use mx_commands::{add_closing, verdict_status};
 use mx_format::{Letter, add_facts_line, add_member_line, add_parcel_line};
 use mx_knowledge::Knowledge;
 use mx_member::{Member, SentParcel};
@@ -52,6 +54,23 @@ pub(crate) fn add_events<C: Exclusion>(
         ++ file_text plan.now (events_of state.now.cluster.trace)) }
 {
     add_file(plan, state.cluster().trace(), text)
+}
+
+/// Appends the closing lines and the verdict. Returns the status.
+pub(crate) fn add_end<C: Exclusion>(
+    plan: &Plan,
+    state: &State<C>,
+    text: &mut String,
+) -> Result<u8, AllocError>
+where
+    C::Msg: Letter,
+    requires { length state.now.cluster.members ≡ length plan.now.nodes }
+    ensures text { OnOk result (string_bytes text.new ≡ string_bytes text.old
+        ++ closing_text C.core (letter_text C.Msg.parts) plan.now state.now.cluster) }
+    ensures zero { IfOk result (λ status. status ≡ 0) }
+{
+    let verdict = add_closing(plan, state.cluster(), text)?;
+    Ok(verdict_status(verdict))
 }
 
 /// Appends the line of each node, or of one.

@@ -9,8 +9,8 @@ run_lines-requires g c =
     let s = c.args.setting.now in
     (search rules, session_start g.C.Exclusion.core s.plan.now s.shape.now c.args.session.now c.requires.start c.requires.count)
 
-pub finish-requires : goal.finish-requires
-finish-requires g c = (search rules, c.in_ok-run_rest.ensures.is.members)
+pub finish-requires-clause-members : goal.finish-requires-clause-members
+finish-requires-clause-members g c = c.in_ok-run_rest.ensures.is.members
 
 pub returns-clause-played : goal.returns-clause-played
 returns-clause-played g c =
@@ -20,6 +20,6 @@ returns-clause-played g c =
     let o = g.O.Output.written c.args.out.now in
     let o' = g.O.Output.written c.run_rest.new.out in
     whole_on_ok core letter g.C.Knowledge.knows s.plan.now s.shape.now c.finish.result c.args.session.now c.run_rest.new.session o o' (g.O.Output.written c.finish.new.out) c.requires.start
-    (run_on core letter g.C.Knowledge.knows s.plan.now s.shape.now c.args.session.now c.run_lines-next.new.session c.run_rest.new.session o (g.O.Output.written c.run_lines-next.new.out) o'
+    (run_on core letter g.C.Knowledge.knows s.plan.now s.shape.now c.args.session.now c.run_lines.new.session c.run_rest.new.session o (g.O.Output.written c.run_lines.new.out) o'
     c.in_ok-next.ensures.run c.in_ok-run_rest.ensures.run)
     c.in_ok-run_rest.ensures.is c.finish.ensures.closes

@@ -3,17 +3,17 @@ use Rattle.mx_plan.specs.Fields.{IsShape}
 use Rattle.mx_plan.specs.declared.shape.Shape.{Shape}
 use Rattle.mx_play.proofs.shapes.run_by_plan.Goals as goal
 
-pub run_first-requires : goal.run_first-requires
-run_first-requires g c =
+pub run_session-requires : goal.run_session-requires
+run_session-requires g c =
     let valid = subst (λ (s : Shape). IsShape (length c.args.start.now.plan.nodes) s) c.in-Ricart.is c.shape.ensures.valid in
-    (search rules, valid)
+    (search rules, (valid, search rules))
 
-pub run_first-requires-in-Maekawa : goal.run_first-requires-in-Maekawa
-run_first-requires-in-Maekawa g c =
+pub run_session-requires-in-Maekawa : goal.run_session-requires-in-Maekawa
+run_session-requires-in-Maekawa g c =
     let valid = subst (λ (s : Shape). IsShape (length c.args.start.now.plan.nodes) s) c.in-Maekawa.is c.shape.ensures.valid in
-    (search rules, valid.2)
+    (search rules, (valid.2, search rules))
 
-pub run_first-requires-in-Raymond : goal.run_first-requires-in-Raymond
-run_first-requires-in-Raymond g c =
+pub run_session-requires-in-Raymond : goal.run_session-requires-in-Raymond
+run_session-requires-in-Raymond g c =
     let valid = subst (λ (s : Shape). IsShape (length c.args.start.now.plan.nodes) s) c.in-Raymond.is c.shape.ensures.valid in
-    (search rules, valid.1)
+    (search rules, (valid.1, search rules))

@@ -17,7 +17,7 @@ pub loop-event-preserved : goal.loop-event-preserved
 loop-event-preserved g c =
     let l = c.loop-event in
     λ last leads. leads_at g.C.Exclusion.core c.args.events.now l.event-index c.event-item.result l.state last c.loop-event-test.true (l.invariant last leads) c.apply.new.self
-    (subst (λ (e : SessionEvent). Brings g.C.Exclusion.core l.state e c.apply.new.self) c.event-item.is c.in_ok-apply.ensures.ok)
+    (subst (λ (e : SessionEvent). Brings g.C.Exclusion.core l.state e c.apply.new.self) c.event-item.is c.in-Ok.ensures.ok)
 
 pub returns : goal.returns
 returns g c =
