@@ -137,8 +137,9 @@ module _ {H S M : Type 0} (core : Core H S M) where
     makes_one e old new a b = (new, [], a, b, sym (append_nil (new_text core letter_text p old new)), (refl, refl))
 
     -- the text from these places on
-    pub text_is : (event parcel : ℕ) (old new : RunState S M) (t t' : Text) → event ≡ length old.cluster.trace → parcel ≡ length old.cluster.sent
-        → t' ≡ t ++ (event_lines p event (drop event new.cluster.trace) ++ parcel_lines letter_text p parcel (drop parcel new.cluster.sent)) → t' ≡ t ++ new_text core letter_text p old new
-    text_is event parcel old new t t' is_event is_parcel x =
-        x ∙ ap (λ (k : ℕ). t ++ (event_lines p k (drop k new.cluster.trace) ++ parcel_lines letter_text p parcel (drop parcel new.cluster.sent))) is_event
+    pub text_is : (event parcel : ℕ) (old new : RunState S M) (g : ClusterState S M) (t t' : Text) → event ≡ length old.cluster.trace → parcel ≡ length old.cluster.sent → g ≡ new.cluster
+        → t' ≡ t ++ (event_lines p event (drop event g.trace) ++ parcel_lines letter_text p parcel (drop parcel g.sent)) → t' ≡ t ++ new_text core letter_text p old new
+    text_is event parcel old new g t t' is_event is_parcel is x =
+        x ∙ ap (λ (h : ClusterState S M). t ++ (event_lines p event (drop event h.trace) ++ parcel_lines letter_text p parcel (drop parcel h.sent))) is
+        ∙ ap (λ (k : ℕ). t ++ (event_lines p k (drop k new.cluster.trace) ++ parcel_lines letter_text p parcel (drop parcel new.cluster.sent))) is_event
         ∙ ap (λ (k : ℕ). t ++ (event_lines p (length old.cluster.trace) (drop (length old.cluster.trace) new.cluster.trace) ++ parcel_lines letter_text p k (drop k new.cluster.sent))) is_parcel

@@ -9,27 +9,24 @@ use mx_format::{EventLine, Letter, add_parcel_line};
 use mx_network::{Cluster, Entry};
 use mx_nodelaws::Exclusion;
 use mx_plan::Plan;
-use mx_scripts::State;
 use std::alloc::AllocError;
 
 /// Appends the lines of the events from one number on, and then those of the parcels from another.
 pub(crate) fn add_new<C: Exclusion>(
     plan: &Plan,
-    state: &State<C>,
+    cluster: &Cluster<C>,
     event: usize,
     parcel: u64,
     text: &mut String,
 ) -> Result<(), AllocError>
 where
     C::Msg: Letter,
-    requires events { event ≤ length state.now.cluster.trace }
-    requires parcels { parcel ≤ length state.now.cluster.sent }
+    requires events { event ≤ length cluster.now.trace }
+    requires parcels { parcel ≤ length cluster.now.sent }
     ensures { OnOk result (string_bytes text.new ≡ string_bytes text.old
-        ++ (event_lines plan.now event (drop event state.now.cluster.trace)
-        ++ parcel_lines (letter_text C.Msg.parts) plan.now parcel
-        (drop parcel state.now.cluster.sent))) }
+        ++ (event_lines plan.now event (drop event cluster.now.trace)
+        ++ parcel_lines (letter_text C.Msg.parts) plan.now parcel (drop parcel cluster.now.sent))) }
 {
-    let cluster = state.cluster();
     add_events(plan, cluster.trace(), event, text)?;
     add_parcels(plan, cluster, parcel, text)
 }

@@ -100,7 +100,7 @@ where
 {
     let (events, parcels) = counts(state);
     state.apply(event)?;
-    add_new(setting.plan, state, events, parcels, text)?;
+    add_new(setting.plan, state.cluster(), events, parcels, text)?;
     Ok(())
 }
 

@@ -19,10 +19,10 @@ returns-in_ok-commit-in-Ok-clause-is g c =
     line_session g.C.Exclusion.core s.plan.now s.shape.now (letter_text g.C.Msg.Letter.parts) c.args.line.now c.args.session.now c.repeat.new.session c.commit.new.session c.event_count-before.result r.0
     (string_bytes c.args.text.now) (string_bytes c.repeat.new.text) c.requires.over r.1 r.2 c.requires.empty c.event_count-before.ensures k.state k.done k.marks k.undone c.requires.is
 
-pub truncate-requires-clause-leads : goal.truncate-requires-clause-leads
-truncate-requires-clause-leads g c =
+pub truncate-requires : goal.truncate-requires
+truncate-requires g c =
     let s = c.args.setting.now in
-    can_return g.C.Exclusion.core s.plan.now s.shape.now c.args.session.now c.repeat.new.session c.event_count-before.result c.requires.is c.in-Err.ensures.err c.event_count-before.ensures
+    (first_of (search rules, search (rules, c.requires-raw)), can_return g.C.Exclusion.core s.plan.now s.shape.now c.args.session.now c.repeat.new.session c.event_count-before.result c.requires.is c.in-Err.ensures.err c.event_count-before.ensures)
 
 pub returns-in_ok-truncate-in-Err : goal.returns-in_ok-truncate-in-Err
 returns-in_ok-truncate-in-Err g c =

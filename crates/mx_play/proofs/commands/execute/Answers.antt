@@ -5,11 +5,11 @@ use Rattle.mx_play.specs.Views.{mark_line}
 use Rattle.mx_play.proofs.TurnLemmas.{executed_line, executed_redo, executed_undo}
 use Rattle.mx_play.proofs.commands.execute.Goals as goal
 
-pub do_line-requires-clause-over : goal.do_line-requires-clause-over
-do_line-requires-clause-over g c = rw c.in-Does.is at c.requires.over
+pub do_line-requires : goal.do_line-requires
+do_line-requires g c = (first_of (search rules, search (rules, c.requires-raw)), (c.requires.is, (rw c.in-Does.is at c.requires.over, c.requires.empty)))
 
-pub show_session-requires-clause-members : goal.show_session-requires-clause-members
-show_session-requires-clause-members g c = c.requires.is.members
+pub show_session-requires : goal.show_session-requires
+show_session-requires g c = (first_of (search rules, search (rules, c.requires-raw)), c.requires.is.members)
 
 pub returns-in-Does-clause-executed : goal.returns-in-Does-clause-executed
 returns-in-Does-clause-executed g c =

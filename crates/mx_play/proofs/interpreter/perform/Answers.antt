@@ -1,4 +1,4 @@
-use Rattle.std.proofs.Common.{Option, Some, None, string_bytes, subst}
+use Rattle.std.proofs.Common.{Option, Some, None, rules, string_bytes, subst}
 use Rattle.std.specs.Prelude.{IfSome}
 use Rattle.mx_format.specs.LetterTexts.{letter_text}
 use Rattle.mx_scripts.specs.Lines.{IsNext}
@@ -11,10 +11,10 @@ use Rattle.mx_play.proofs.interpreter.perform.Goals as goal
 pub loop-count-init : goal.loop-count-init
 loop-count-init g c = performing_first g.C.Exclusion.core (letter_text g.C.Msg.Letter.parts) c.args.setting.now.plan.now c.args.order.now c.args.session.now (string_bytes c.args.text.now)
 
-pub apply-requires-clause-allowed : goal.apply-requires-clause-allowed
-apply-requires-clause-allowed g c =
+pub apply-requires : goal.apply-requires
+apply-requires g c =
     let allowed = subst (λ (s : SessionState g.row.C.Denot g.row.C-Msg.Denot). IfSome c.in_ok-next.next (IsAllowed s.state)) c.session.view_is c.in_ok-next.ensures.allowed in
-    subst (λ (o : Option SessionEvent). IfSome o (IsAllowed c.loop-count.session.state)) c.in-Some.is allowed
+    (search rules, subst (λ (o : Option SessionEvent). IfSome o (IsAllowed c.loop-count.session.state)) c.in-Some.is allowed)
 
 pub loop-count-preserved : goal.loop-count-preserved
 loop-count-preserved g c =

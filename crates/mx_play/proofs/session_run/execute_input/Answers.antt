@@ -5,7 +5,7 @@ use Rattle.mx_play.proofs.TurnLemmas.{turned_on_ok}
 use Rattle.mx_play.proofs.session_run.execute_input.Goals as goal
 
 pub execute-requires : goal.execute-requires
-execute-requires g c = (search rules, (c.requires.is, (rw c.in-Command.is at c.requires.input, c.requires.empty)))
+execute-requires g c = (first_of (search rules, search (rules, c.requires-raw)), (c.requires.is, (rw c.in-Command.is at c.requires.input, c.requires.empty)))
 
 pub returns-in-Fault-clause-turned : goal.returns-in-Fault-clause-turned
 returns-in-Fault-clause-turned g c = rw c.in-Fault.is (record { turn = rests; is = tt; takes = record { same = refl; printed = c.requires.empty } })

@@ -7,10 +7,10 @@ use Rattle.mx_play.proofs.session_run.run_session.Goals as goal
 pub run_lines-requires : goal.run_lines-requires
 run_lines-requires g c =
     let s = c.args.setting.now in
-    (search rules, session_start g.C.Exclusion.core s.plan.now s.shape.now c.args.session.now c.requires.start c.requires.count)
+    (first_of (search rules, search (rules, c.requires-raw)), session_start g.C.Exclusion.core s.plan.now s.shape.now c.args.session.now c.requires.start c.requires.count)
 
-pub finish-requires-clause-members : goal.finish-requires-clause-members
-finish-requires-clause-members g c = c.in_ok-run_rest.ensures.is.members
+pub finish-requires : goal.finish-requires
+finish-requires g c = (first_of (search rules, search (rules, c.requires-raw)), c.in_ok-run_rest.ensures.is.members)
 
 pub returns-clause-played : goal.returns-clause-played
 returns-clause-played g c =

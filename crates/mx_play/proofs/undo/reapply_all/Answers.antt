@@ -8,7 +8,7 @@ use Rattle.mx_play.proofs.undo.reapply_all.Goals as goal
 pub apply-requires : goal.apply-requires
 apply-requires g c =
     let l = c.loop-event in (
-      search rules,
+      first_of (search rules, search (rules, c.requires-raw)),
       subst (λ (e : SessionEvent). IsAllowed l.state e) (sym c.event-item.is)
           (allowed_at g.C.Exclusion.core c.args.events.now l.event-index c.event-item.result l.state c.requires.0 c.loop-event-test.true (l.invariant c.requires.0 c.requires.1)),
     )

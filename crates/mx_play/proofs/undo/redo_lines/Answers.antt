@@ -1,17 +1,19 @@
-use Rattle.std.proofs.Common.{◌∙◌, ◌++◌, List, ap, subst, sym}
+use Rattle.std.proofs.Common.{◌∙◌, ◌++◌, List, ap, rules, subst, sym}
 use Rattle.mx_scripts.specs.States.{RunState}
 use Rattle.mx_scripts.specs.declared.session_event.SessionEvent.{SessionEvent}
 use Rattle.mx_play.specs.Histories.{CanLead, Leads}
 use Rattle.mx_play.proofs.SessionLemmas.{can_redo, session_redone, was_redone}
 use Rattle.mx_play.proofs.undo.redo_lines.Goals as goal
 
-pub redo-requires-clause-leads : goal.redo-requires-clause-leads
-redo-requires-clause-leads g c =
+pub redo-requires : goal.redo-requires
+redo-requires g c =
     let s = c.args.setting.now in
     let u = c.in-Some.undone in
-    let p = c.pop_undone.new.session in
-    subst (λ (m : RunState g.row.C.Denot g.row.C-Msg.Denot). CanLead g.C.Exclusion.core m u.done.items) (sym c.pop_undone.ensures.state)
-    (can_redo g.C.Exclusion.core s.plan.now s.shape.now c.args.session.now p.undone u c.requires c.in-Some.ensures.some)
+    let p = c.pop_undone.new.session in (
+      first_of (search rules, search (rules, c.requires-raw)),
+      subst (λ (m : RunState g.row.C.Denot g.row.C-Msg.Denot). CanLead g.C.Exclusion.core m u.done.items) (sym c.pop_undone.ensures.state)
+          (can_redo g.C.Exclusion.core s.plan.now s.shape.now c.args.session.now p.undone u c.requires c.in-Some.ensures.some),
+    )
 
 pub returns-in_ok-redo-in-Some-clause-redone : goal.returns-in_ok-redo-in-Some-clause-redone
 returns-in_ok-redo-in-Some-clause-redone g c =

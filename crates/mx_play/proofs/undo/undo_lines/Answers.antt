@@ -2,10 +2,10 @@ use Rattle.std.proofs.Common.{◌≡◌, ◌≤◌, ◌∙◌, ◌-◌, ℕ, ap,
 use Rattle.mx_play.proofs.SessionLemmas.{can_truncate, session_undone, was_undone}
 use Rattle.mx_play.proofs.undo.undo_lines.Goals as goal
 
-pub truncate-requires-clause-leads : goal.truncate-requires-clause-leads
-truncate-requires-clause-leads g c =
+pub truncate-requires : goal.truncate-requires
+truncate-requires g c =
     let s = c.args.setting.now in
-    can_truncate g.C.Exclusion.core s.plan.now s.shape.now c.events_before-before.result c.args.session.now c.requires
+    (first_of (search rules, search (rules, c.requires-raw)), can_truncate g.C.Exclusion.core s.plan.now s.shape.now c.events_before-before.result c.args.session.now c.requires)
 
 pub returns-clause-is : goal.returns-clause-is
 returns-clause-is g c =
