@@ -1,8 +1,9 @@
 -- What the lines of a script do.
-use Rattle.std.proofs.Common.{◌≡◌, ◌≤◌, ◌<◌, ◌∙◌, ℕ, zero, suc, List, [], ◌∷◌, ◌++◌, Option, Some, None, Result, Ok, Err, OnOk, IfOk, IfSome, length, add-one, ◌+◌, ◌-◌, refl, sym, ap, subst, arith, inl, inr}
-use Rattle.std.specs.Prelude.{IsTrue}
+use Rattle.std.proofs.Common.{◌≡◌, ◌≤◌, ◌<◌, ◌∙◌, ℕ, zero, suc, List, [], ◌∷◌, ◌++◌, Option, Some, None, Result, Ok, Err, OnOk, IfOk, IfSome, length, add-one, ◌+◌, ◌-◌, refl, sym, ap, subst, arith, get_or, inl, inr, take, ◌⊎◌}
+use Rattle.std.specs.Prelude.{IfErr, IsErrAnd, IsTrue}
 use Rattle.std.specs.Borrow.{Bor}
 use Rattle.std.proofs.lemmas.List.{length-append, length-map, map-append}
+use Rattle.std.proofs.lemmas.Option.{slice_get_read}
 use Rattle.std.specs.Str.Lines.{lines}
 use Rattle.mx_stamps.specs.declared.limits.TheConstants.{MAX_EVENTS}
 use Rattle.mx_nodelaws.specs.Core.{Core}
@@ -13,26 +14,26 @@ use Rattle.mx_events.specs.declared.event.Event.{Event}
 use Rattle.mx_events.specs.declared.event.Event.TheVariants.{Deliver}
 use Rattle.mx_plan.specs.Text.{Text}
 use Rattle.mx_plan.specs.Fields.{Fields}
-use Rattle.mx_explorer.specs.Drawn.{IsDrawn}
 use Rattle.mx_lines.specs.Names.{known_of, texts_of}
 use Rattle.mx_lines.specs.declared.lines.Line.{Line}
 use Rattle.mx_lines.specs.declared.orders.Order.{Order}
 use Rattle.mx_lines.specs.declared.orders.Order.TheVariants as order
-use Rattle.mx_lines.specs.declared.orders.Scope.{Scope}
 use Rattle.mx_lines.specs.declared.orders.Scope.TheVariants.{Link}
-use Rattle.mx_scripts.specs.Fates.{Fates, is_waiting, is_under_way}
-use Rattle.mx_scripts.specs.Lines.{Does, DoesAll, DoesIfSome, DoesText, IsNext, Once, Performs, Reads, Repeats}
+use Rattle.mx_scripts.specs.Fates.{Fates, is_under_way}
+use Rattle.mx_scripts.specs.Lines.{DoesAll, DoesIfSome, DoesText, IsNext, Once, Performs, IsNotDone, Misreads, Reads, Repeats, StopsAfter, StopsAt, StopsWithin}
 use Rattle.mx_scripts.specs.Files.{file_text}
 use Rattle.mx_scripts.specs.Played.{Plays, events_of}
 use Rattle.mx_scripts.specs.ScriptFiles.{IsFileOfScript}
+use Rattle.mx_scripts.proofs.OverLemmas.{read_over}
+use Rattle.mx_scripts.proofs.PlayedLemmas.{file_of_played, noted, plays_step}
 use Rattle.mx_scripts.specs.Scripts.{IsOver, failure_of_step}
 use Rattle.mx_scripts.specs.States.{Admits, Brings, IsAllowed, IsDrawnOf, IsNotApplied, RunState, before_any}
 use Rattle.mx_scripts.specs.declared.script_error.LineFailure.{LineFailure}
+use Rattle.mx_scripts.specs.declared.script_error.LineFailure.TheVariants as failure
+use Rattle.mx_scripts.specs.declared.script_error.ScriptError.{ScriptError}
 use Rattle.mx_scripts.specs.declared.session_event.SessionEvent.{SessionEvent}
 use Rattle.mx_scripts.specs.declared.session_event.SessionEvent.TheVariants.{Happens, IsLost, LinksChange}
 use Rattle.mx_scripts.proofs.FateLemmas.{waiting_under_way}
-use Rattle.mx_scripts.proofs.OverLemmas.{read_over}
-use Rattle.mx_scripts.proofs.PlayedLemmas.{file_of_played, noted, plays_step}
 
 not_none : {A : Type 0} (x : A) → ◌≡◌ {A = Option A} (Some x) None → ⊥
 not_none x e = cc
@@ -105,6 +106,25 @@ module _ {H S M : Type 0} (core : Core H S M) (o : Order) where
   performs_next done e es old mid new next allowed brings x =
       (mid, next, allowed, brings, subst (λ (n : ℕ). Performs core o n mid es new) (add-one done) x)
 
+  pub stops_next : (done : ℕ) (e : SessionEvent) (es : List SessionEvent) (old mid : RunState S M) (why : LineFailure) → IsNext old.fates old.cluster.sent o done (Some e) → IsAllowed old e
+      → Brings core old e mid → StopsAfter core o (done + 1) mid es why → StopsAfter core o done old (e ∷ es) why
+  stops_next done e es old mid why next allowed brings x =
+      (mid, next, allowed, brings, subst (λ (n : ℕ). StopsAfter core o n mid es why) (add-one done) x)
+
+  -- one time more was done
+  pub within_next : (times i : ℕ) (old mid : RunState S M) (why : LineFailure) → i < times → (es : List SessionEvent) × Performs core o 0 old es mid
+      → StopsWithin core o (times - (i + 1)) mid why → StopsWithin core o (times - i) old why
+  within_next times i old mid why lt x y =
+      let n : times - i ≡ suc (times - (i + 1)) = omega (arith, lt) in
+      subst (λ (k : ℕ). StopsWithin core o k old why) (sym n) (inr (mid, x.0, x.1, y))
+
+  -- this time is not done
+  pub within_here : (times i : ℕ) (old : RunState S M) (why : LineFailure) → i < times → (es : List SessionEvent) × StopsAfter core o 0 old es why
+      → StopsWithin core o (times - i) old why
+  within_here times i old why lt x =
+      let n : times - i ≡ suc (times - (i + 1)) = omega (arith, lt) in
+      subst (λ (k : ℕ). StopsWithin core o k old why) (sym n) (inl x)
+
   pub repeats_next : (times i : ℕ) (first rest : List SessionEvent) (old mid new : RunState S M) → i < times → Performs core o 0 old first mid
       → Repeats core o (times - (i + 1)) mid rest new → Repeats core o (times - i) old (first ++ rest) new
   repeats_next times i first rest old mid new lt x y =
@@ -118,11 +138,24 @@ module _ {H S M : Type 0} (core : Core H S M) (o : Order) where
 
 -- ---- why an event is not applied
 
-module _ {H S M : Type 0} (core : Core H S M) where
-  pub not_applied : (old new : RunState S M) (e : Event) (fault : StepFault) (why : LineFailure) → IsFaultOf (step_of core old.cluster e) fault → why ≡ failure_of_step fault → new ≡ old
-      → IsNotApplied core old (Happens e) new why
-  not_applied old new e fault why (inl x) is same = inl (is ∙ ap failure_of_step x.0)
-  not_applied old new e fault why (inr x) is same = inr (same, fault, x, is)
+pub err_of : {T : Type 0} (P : LineFailure → Type 0) (r : Result T LineFailure) (why : LineFailure) → IsErrAnd r (λ w. w ≡ why) → P why → IfErr r P
+err_of P (Ok t) why h p = tt
+err_of P (Err w) why h p = subst P (sym h) p
+
+module _ {H S M : Type 0} (core : Core H S M) (fates : Fates) where
+  abbrev with_cluster : ClusterState S M → RunState S M
+  with_cluster g = record { cluster = g; fates = fates }
+
+  refused_by : (old new : ClusterState S M) (e : Event) (fault : StepFault) → IsFaultOf (step_of core old e) fault → new ≡ old
+      → IsNotApplied core (with_cluster old) (Happens e) (with_cluster new) (failure_of_step fault)
+  refused_by old new e fault (inl x) same = inl (ap failure_of_step x.0)
+  refused_by old new e fault (inr x) same = inr (ap with_cluster same, fault, x, refl)
+
+  pub not_applied : {T : Type 0} (r : Result T LineFailure) (old new : ClusterState S M) (e : Event) (fault : StepFault) → IsErrAnd r (λ why. why ≡ failure_of_step fault)
+      → IsFaultOf (step_of core old e) fault → new ≡ old → IfErr r (IsNotApplied core (with_cluster old) (Happens e) (with_cluster new))
+  not_applied (Ok t) old new e fault h is same = tt
+  not_applied (Err why) old new e fault h is same =
+      subst (λ (w : LineFailure). IsNotApplied core (with_cluster old) (Happens e) (with_cluster new) w) (sym h) (refused_by old new e fault is same)
 
 -- ---- the events of the lines lead from one cluster to another
 
@@ -239,6 +272,12 @@ module _ {H S M : Type 0} (core : Core H S M) (p : Fields) where
     file = file_of_played core p start last.cluster trace text empty (all_plays (lines script) (before_any start) last does) same is;
   }
 
+  pub file_from : {T : Type 0} (bytes : T → Text) (script : Text) (start : ClusterState S M) (old last : RunState S M) (r : Result T ScriptError) → old ≡ before_any start → start.trace ≡ []
+      → OnOk r (DoesAll core p (lines script) old last) → IfOk r (λ t. bytes t ≡ file_text p (events_of last.cluster.trace)) → IfOk r (λ t. IsFileOfScript core p start script (bytes t))
+  file_from bytes script start old last (Ok t) fresh empty does is =
+      file_of_lines script start last last.cluster.trace (bytes t) empty (subst (λ (s : RunState S M). DoesAll core p (lines script) s last) fresh does) refl is
+  file_from bytes script start old last (Err e) fresh empty does is = tt
+
   -- ---- a loop over the lines
 
   all_more : (texts : List Text) (text : Text) (old mid new : RunState S M) → DoesAll core p texts old mid → DoesText core p text mid new → DoesAll core p (texts ++ text ∷ []) old new
@@ -251,3 +290,26 @@ module _ {H S M : Type 0} (core : Core H S M) (p : Fields) where
   does_more lines line old mid new x y =
       subst (λ (l : List Text). DoesAll core p l old new) (sym (map-append (λ (text : Bor Text). text.now) lines (line ∷ [])))
       (all_more (texts_of lines) line.now old mid new x y)
+
+  -- ---- a line that is not done
+
+  pub misread : (text : Text) (old : RunState S M) (why : LineFailure) → (why ≡ failure.Memory) ⊎ Misreads p text why → IsNotDone core p text old why
+  misread text old why (inl x) = inl x
+  misread text old why (inr x) = inr (inl x)
+
+  pub not_repeated : {T : Type 0} (r : Result T LineFailure) (text : Text) (line : Line) (old : RunState S M) → Reads p text (Some line)
+      → IfErr r (StopsWithin core line.order line.times old) → IfErr r (IsNotDone core p text old)
+  not_repeated (Ok t) text line old reads x = tt
+  not_repeated (Err why) text line old reads x = inr (inr (line, reads, x))
+
+  -- the line after those that were yielded is not done
+  pub stops_here : (texts : List Text) (yielded : List (Bor Text)) (text : Text) (old mid : RunState S M) (why : LineFailure) → DoesAll core p (texts_of yielded) old mid
+      → texts_of yielded ≡ take (length yielded) texts → (length yielded < length texts) × (text ≡ get_or texts (length yielded) text) → IsNotDone core p text mid why
+      → StopsAt core p texts old (length yielded) why
+  stops_here texts yielded text old mid why does so_far turn not = (
+    text,
+    mid,
+    subst (λ (l : List Text). DoesAll core p l old mid) so_far does,
+    slice_get_read texts (length texts) (length yielded) text refl turn.0 turn.1,
+    not,
+  )

@@ -1,6 +1,7 @@
 -- What a line of a script does.
-use Rattle.std.specs.Prelude.{ℕ, zero, suc, ◌≡◌, Bool, false, List, [], ◌∷◌, ◌++◌, Option, Some, None, Ok, slice_index_or}
+use Rattle.std.specs.Prelude.{ℕ, zero, suc, ◌≡◌, ◌≤◌, ◌⊎◌, Bool, false, List, [], ◌∷◌, ◌++◌, Option, Some, None, Ok, Err, slice_get, slice_index_or, min, take, ◌+◌, ◌-◌, ◌^◌}
 use Rattle.std.specs.Borrow.{Bor}
+use Rattle.mx_stamps.specs.declared.limits.TheConstants.{MAX_EVENTS}
 use Rattle.mx_nodelaws.specs.Core.{Core}
 use Rattle.mx_events.specs.declared.event.Event.TheVariants.{Deliver}
 use Rattle.mx_plan.specs.Text.{Text}
@@ -8,13 +9,20 @@ use Rattle.mx_plan.specs.Fields.{Fields}
 use Rattle.mx_lines.specs.Lines.{line_of}
 use Rattle.mx_lines.specs.Names.{known_of, texts_of}
 use Rattle.mx_lines.specs.Words.{AreWords, before_comment}
+use Rattle.mx_lines.specs.declared.errors.LineFault.{LineFault}
+use Rattle.mx_lines.specs.declared.errors.LineFault.TheVariants.{NotUnderWay, NotDelivered, TooMany}
+use Rattle.mx_lines.specs.declared.errors.LineError.{LineError}
 use Rattle.mx_lines.specs.declared.lines.Line.{Line}
 use Rattle.mx_lines.specs.declared.orders.Order.{Order}
 use Rattle.mx_lines.specs.declared.orders.Order.TheVariants as order
 use Rattle.mx_lines.specs.declared.orders.Scope.TheVariants.{Link}
-use Rattle.mx_scripts.specs.Fates.{Fates, IsOldest, can_arrive, is_waiting}
+use Rattle.mx_scripts.specs.Fates.{Fates, IsOldest, NoneWaits, can_arrive, is_waiting}
 use Rattle.mx_scripts.specs.Links.{link_of}
-use Rattle.mx_scripts.specs.States.{Brings, IsAllowed, RunState}
+use Rattle.mx_scripts.specs.Scripts.{IsErrorAt}
+use Rattle.mx_scripts.specs.States.{Bars, Brings, IsAllowed, IsNotApplied, RunState}
+use Rattle.mx_scripts.specs.declared.script_error.LineFailure.{LineFailure}
+use Rattle.mx_scripts.specs.declared.script_error.LineFailure.TheVariants as failure
+use Rattle.mx_scripts.specs.declared.script_error.ScriptError.{ScriptError}
 use Rattle.mx_scripts.specs.declared.session_event.SessionEvent.{SessionEvent}
 use Rattle.mx_scripts.specs.declared.session_event.SessionEvent.TheVariants.{Happens, IsLost, LinksChange}
 
@@ -51,11 +59,36 @@ module _ {P : Type 0} (d : Fates) (sent : List (ℕ × ℕ × P)) where
   IsNext (order.ArrivesAgain from to) done next = Once done (λ e. IsAgain d from to e) next
   IsNext (order.LinksChange change) done next = Once done (λ e. e ≡ LinksChange change) next
 
+  -- an order has no next event, since there is no such parcel
+  abbrev pub Misses : Order → ℕ → LineFault → Type 0
+  Misses (order.Arrives from to) done fault =
+      (done ≡ 0) × (fault ≡ NotUnderWay) × NoneWaits d sent (Link from to)
+  Misses (order.IsLost from to) done fault =
+      (done ≡ 0) × (fault ≡ NotUnderWay) × NoneWaits d sent (Link from to)
+  Misses (order.ArrivesAgain from to) done fault =
+      (done ≡ 0) × (fault ≡ NotDelivered)
+      × (slice_index_or d.last (link_of from to) None ≡ None)
+  Misses _ done fault = ⊥
+
+-- why an order, of which so many events have happened, asks for nothing that can happen: there is no
+-- such parcel, or the next event is held up
+abbrev pub IsNoNext : {S M : Type 0} → RunState S M → Order → ℕ → LineFault → Type 0
+IsNoNext s order done fault =
+    Misses s.fates s.cluster.sent order done fault
+    ⊎ ((next : Option SessionEvent) × IsNext s.fates s.cluster.sent order done next
+    × Bars s next fault)
+
 -- the words of a line ask for this
 abbrev pub Reads : Fields → Text → Option Line → Type 0
 Reads p text read =
     (words : List (Bor Text)) × AreWords (before_comment text) words
     × (line_of (known_of p) (texts_of words) ≡ Ok read)
+
+-- a word of a line is wrong
+abbrev pub Misreads : Fields → Text → LineFailure → Type 0
+Misreads p text why =
+    (words : List (Bor Text)) × (error : LineError) × AreWords (before_comment text) words
+    × (line_of (known_of p) (texts_of words) ≡ Err error) × (why ≡ failure.WrongWord error)
 
 module _ {H S M : Type 0} (core : Core H S M) where
   -- an order of which so many events have happened asks for these, and each leads to the state in
@@ -78,6 +111,30 @@ module _ {H S M : Type 0} (core : Core H S M) where
   abbrev pub Does : Line → RunState S M → RunState S M → Type 0
   Does line old new = (es : List SessionEvent) × Repeats line.order line.times old es new
 
+  -- an order of which so many events have happened stops here: it has no next event that can happen,
+  -- the next is not applied, or there have been too many
+  abbrev pub Stops : Order → ℕ → RunState S M → LineFailure → Type 0
+  Stops order done s why =
+      ((fault : LineFault) × IsNoNext s order done fault × (why ≡ failure.Refused fault))
+      ⊎ (((e : SessionEvent) × (new : RunState S M)
+      × IsNext s.fates s.cluster.sent order done (Some e) × IsNotApplied core s e new why)
+      ⊎ ((MAX_EVENTS ≤ done) × (why ≡ failure.Refused TooMany)))
+
+  -- it stops after these events
+  abbrev pub StopsAfter : Order → ℕ → RunState S M → List SessionEvent → LineFailure → Type 0
+  StopsAfter order done old [] why = Stops order done old why
+  StopsAfter order done old (e ∷ es) why =
+      (mid : RunState S M) × IsNext old.fates old.cluster.sent order done (Some e)
+      × IsAllowed old e × Brings core old e mid × StopsAfter order (suc done) mid es why
+
+  -- it stops at one of so many times
+  abbrev pub StopsWithin : Order → ℕ → RunState S M → LineFailure → Type 0
+  StopsWithin order zero old why = ⊥
+  StopsWithin order (suc times) old why =
+      ((es : List SessionEvent) × StopsAfter order 0 old es why)
+      ⊎ ((mid : RunState S M) × (es : List SessionEvent) × Performs order 0 old es mid
+      × StopsWithin order times mid why)
+
   -- a line without words asks for nothing
   abbrev pub DoesIfSome : Option Line → RunState S M → RunState S M → Type 0
   DoesIfSome None old new = new ≡ old
@@ -93,3 +150,22 @@ module _ {H S M : Type 0} (core : Core H S M) where
     DoesAll [] old new = new ≡ old
     DoesAll (text ∷ texts) old new =
         (mid : RunState S M) × DoesText text old mid × DoesAll texts mid new
+
+    -- why a line is not done: memory ran out, a word is wrong, or what it asks for stops
+    abbrev pub IsNotDone : Text → RunState S M → LineFailure → Type 0
+    IsNotDone text old why =
+        (why ≡ failure.Memory)
+        ⊎ (Misreads p text why
+        ⊎ ((line : Line) × Reads p text (Some line) × StopsWithin line.order line.times old why))
+
+    -- the lines before this one, counted from 0, were done, and it is not
+    abbrev pub StopsAt : List Text → RunState S M → ℕ → LineFailure → Type 0
+    StopsAt texts old n why =
+        (text : Text) × (mid : RunState S M) × DoesAll (take n texts) old mid
+        × (slice_get texts n ≡ Some text) × IsNotDone text mid why
+
+    -- the error is that of the first line that is not done, whose number is counted from 1 in 64 bits
+    abbrev pub StopsBy : List Text → RunState S M → ScriptError → Type 0
+    StopsBy texts old error =
+        (n : ℕ) × (why : LineFailure) × StopsAt texts old n why
+        × IsErrorAt (min (n + 1) (2 ^ 64 - 1)) why error

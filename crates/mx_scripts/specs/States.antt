@@ -1,7 +1,9 @@
 -- A cluster with what has become of its parcels, and what happens to both.
-use Rattle.std.specs.Prelude.{ℕ, ◌≡◌, ◌<◌, ◌⊎◌, ⊤, IsTrue, Ok, Err, Option, Some, length}
+use Rattle.std.specs.Prelude.{ℕ, ◌≡◌, ◌≤◌, ◌<◌, ◌⊎◌, ⊤, false, IsTrue, Ok, Err, Option, Some, length}
 use Rattle.mx_stamps.specs.declared.limits.TheConstants.{MAX_EVENTS}
 use Rattle.mx_nodelaws.specs.Core.{Core}
+use Rattle.mx_lines.specs.declared.errors.LineFault.{LineFault}
+use Rattle.mx_lines.specs.declared.errors.LineFault.TheVariants.{LinkCut, TooMany}
 use Rattle.mx_network.specs.Step.{ClusterState, step_of}
 use Rattle.mx_network.specs.declared.faults.StepFault.{StepFault}
 use Rattle.mx_explorer.specs.Drawn.{IsDrawn}
@@ -33,6 +35,13 @@ IsAllowed s (LinksChange change) = ⊤
 abbrev pub Admits : {S M : Type 0} → RunState S M → Option SessionEvent → Type 0
 Admits s (Some (Happens e)) = IsAllowed s (Happens e)
 Admits s _ = ⊤
+
+-- why an event can't happen: the cluster has had as many as may be, or a link is cut
+abbrev pub Bars : {S M : Type 0} → RunState S M → Option SessionEvent → LineFault → Type 0
+Bars s (Some (Happens e)) fault =
+    ((fault ≡ TooMany) × (MAX_EVENTS ≤ length s.cluster.trace))
+    ⊎ ((fault ≡ LinkCut) × (can_pass s.fates s.cluster.sent e ≡ false))
+Bars s _ fault = ⊥
 
 -- an event of the cluster names nodes below `nodes` and registers below `registers`
 abbrev pub IsDrawnOf : ℕ → ℕ → SessionEvent → Type 0

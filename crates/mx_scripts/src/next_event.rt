@@ -2,9 +2,9 @@
 
 ghost use Rattle.std.specs.Prelude.{◌≡◌, None, Some, IfErr, IfOk, IfSome, OnOk, slice_index_or};
 ghost use Rattle.mx_scripts.specs.Fates.{IsOldest, NoneWaits, can_arrive, is_waiting};
-ghost use Rattle.mx_scripts.specs.Lines.{Finds, IsAgain, IsNext, Once, arrival};
+ghost use Rattle.mx_scripts.specs.Lines.{Finds, IsAgain, IsNext, IsNoNext, Misses, Once, arrival};
 ghost use Rattle.mx_scripts.specs.Links.{link_of};
-ghost use Rattle.mx_scripts.specs.States.{Admits, IsAllowed};
+ghost use Rattle.mx_scripts.specs.States.{Admits, Bars, IsAllowed};
 
 use crate::session_event::SessionEvent;
 use crate::state::State;
@@ -39,6 +39,7 @@ impl<C: Exclusion> State<C> {
         ensures next { IfOk result
             (IsNext self.now.fates self.now.cluster.sent order.now done) }
         ensures allowed { IfOk result (λ next. IfSome next (IsAllowed self.now)) }
+        ensures err { IfErr result (IsNoNext self.now order.now done) }
     {
         let next = self.asked(order, done)?;
         self.admit(&next)?;
@@ -47,8 +48,10 @@ impl<C: Exclusion> State<C> {
 
     /// The next event that an order asks for, whether or not it can happen.
     fn asked(&self, order: &Order, done: u64) -> Result<Option<SessionEvent>, LineFault>
-        ensures { IfOk result
+        ensures next { IfOk result
             (IsNext self.now.fates self.now.cluster.sent order.now done) }
+        ensures err { IfErr result
+            (Misses self.now.fates self.now.cluster.sent order.now done) }
     {
         match order {
             Order::AllArrive(scope) => Ok(self.next_arrival(scope)),
@@ -90,9 +93,11 @@ impl<C: Exclusion> State<C> {
         to: NodeId,
         done: u64,
     ) -> Result<Option<SessionEvent>, LineFault>
-        ensures { IfOk result (Once done (λ e. Finds
+        ensures next { IfOk result (Once done (λ e. Finds
             (is_waiting self.now.fates self.now.cluster.sent (Scope.Link from to)) arrival
             (Some e))) }
+        ensures err { IfErr result
+            (Misses self.now.fates self.now.cluster.sent (Order.Arrives from to) done) }
     {
         if done > 0 {
             return Ok(None);
@@ -108,9 +113,11 @@ impl<C: Exclusion> State<C> {
         to: NodeId,
         done: u64,
     ) -> Result<Option<SessionEvent>, LineFault>
-        ensures { IfOk result (Once done (λ e. Finds
+        ensures next { IfOk result (Once done (λ e. Finds
             (is_waiting self.now.fates self.now.cluster.sent (Scope.Link from to))
             SessionEvent.IsLost (Some e))) }
+        ensures err { IfErr result
+            (Misses self.now.fates self.now.cluster.sent (Order.IsLost from to) done) }
     {
         if done > 0 {
             return Ok(None);
@@ -126,7 +133,9 @@ impl<C: Exclusion> State<C> {
         to: NodeId,
         done: u64,
     ) -> Result<Option<SessionEvent>, LineFault>
-        ensures { IfOk result (Once done (λ e. IsAgain self.now.fates from to e)) }
+        ensures next { IfOk result (Once done (λ e. IsAgain self.now.fates from to e)) }
+        ensures err { IfErr result
+            (Misses self.now.fates self.now.cluster.sent (Order.ArrivesAgain from to) done) }
     {
         if done > 0 {
             return Ok(None);
@@ -166,7 +175,8 @@ impl<C: Exclusion> State<C> {
 
     /// Whether the next event can happen: the cluster may have one more, and its link is not cut.
     fn admit(&self, next: &Option<SessionEvent>) -> Result<(), LineFault>
-        ensures { OnOk result (Admits self.now next.now) }
+        ensures ok { OnOk result (Admits self.now next.now) }
+        ensures err { IfErr result (Bars self.now next.now) }
     {
         match next {
             Some(SessionEvent::Happens(event)) => self.admit_event(event),
@@ -176,7 +186,8 @@ impl<C: Exclusion> State<C> {
 
     /// Whether an event can happen.
     fn admit_event(&self, event: &Event) -> Result<(), LineFault>
-        ensures { OnOk result (IsAllowed self.now (SessionEvent.Happens event.now)) }
+        ensures ok { OnOk result (IsAllowed self.now (SessionEvent.Happens event.now)) }
+        ensures err { IfErr result (Bars self.now (Some (SessionEvent.Happens event.now))) }
     {
         if self.cluster.trace().len() >= MAX_EVENTS {
             return Err(LineFault::TooMany);

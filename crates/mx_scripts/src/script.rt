@@ -1,9 +1,12 @@
 //! `script`: the events that the lines of a script ask for, as a file.
 
-ghost use Rattle.std.specs.Prelude.{◌≡◌, List, [], string_bytes, IfOk, OnOk};
+ghost use Rattle.std.specs.Prelude.{◌≡◌, ◌⊎◌, List, [], string_bytes, IfErr, IfOk, OnOk};
 ghost use Rattle.std.specs.Str.Lines.{lines};
-ghost use Rattle.mx_scripts.specs.Lines.{Does, DoesAll, DoesText, Performs, Reads};
+ghost use Rattle.mx_scripts.specs.Files.{file_text};
+ghost use Rattle.mx_scripts.specs.Lines.{Does, DoesAll, DoesText, IsNotDone, Misreads, Performs, Reads, StopsAfter, StopsBy, StopsWithin};
+ghost use Rattle.mx_scripts.specs.Played.{events_of};
 ghost use Rattle.mx_scripts.specs.ScriptFiles.{IsFileOfScript, IsScriptFile};
+ghost use Rattle.mx_scripts.specs.States.{before_any};
 ghost use Rattle.mx_scripts.specs.declared.session_event.SessionEvent.{SessionEvent};
 
 use crate::files::file_of;
@@ -11,7 +14,6 @@ use crate::script_error::{LineFailure, ScriptError};
 use crate::state::State;
 use mx_commands::by_shape;
 use mx_lines::{Line, LineFault, Order, read_line, words_in};
-use mx_network::Cluster;
 use mx_nodelaws::Exclusion;
 use mx_plan::Plan;
 use std::alloc::Global;
@@ -21,27 +23,40 @@ pub(crate) fn script_file(alloc: Global, plan: &Plan, script: &str) -> Result<St
     ensures { IfOk result (λ text.
         IsScriptFile plan.now script.now (string_bytes text) plan.now.shape) }
 {
-    by_shape!(
-        alloc,
-        plan,
-        |cluster| file_of_script(alloc, plan, cluster, script)
-    )
+    by_shape!(alloc, plan, |cluster| {
+        let mut state = State::of(alloc, cluster);
+        file_of_script(alloc, plan, script, &mut state)
+    })
 }
 
-/// Does the lines in a cluster at rest; then makes the file of what happened.
+/// The file of what the lines do, from before any parcel was sent.
 fn file_of_script<C: Exclusion>(
     alloc: Global,
     plan: &Plan,
-    cluster: Cluster<C>,
     script: &str,
+    state: &mut State<C>,
 ) -> Result<String, ScriptError>
-    requires { cluster.trace ≡ [] }
+    requires fresh { state.old ≡ before_any state.old.cluster }
+    requires empty { state.old.cluster.trace ≡ [] }
     ensures { IfOk result (λ text.
-        IsFileOfScript C.core plan.now cluster script.now (string_bytes text)) }
+        IsFileOfScript C.core plan.now state.old.cluster script.now (string_bytes text)) }
 {
-    let mut state = State::of(alloc, cluster);
-    do_script(alloc, plan, script, &mut state)?;
-    let text = file_of(alloc, plan, state.cluster().trace())?;
+    file_after(alloc, plan, script, state)
+}
+
+/// Does the lines; then makes the file of all that has happened.
+fn file_after<C: Exclusion>(
+    alloc: Global,
+    plan: &Plan,
+    script: &str,
+    state: &mut State<C>,
+) -> Result<String, ScriptError>
+    ensures does { OnOk result (DoesAll C.core plan.now (lines script.now) state.old state.new) }
+    ensures file { IfOk result (λ text.
+        string_bytes text ≡ file_text plan.now (events_of state.new.cluster.trace)) }
+{
+    do_script(alloc, plan, script, state)?;
+    let text = file_of(alloc, plan, state.trace())?;
     Ok(text)
 }
 
@@ -52,7 +67,8 @@ fn do_script<C: Exclusion>(
     script: &str,
     state: &mut State<C>,
 ) -> Result<(), ScriptError>
-    ensures { OnOk result (DoesAll C.core plan.now (lines script.now) state.old state.new) }
+    ensures ok { OnOk result (DoesAll C.core plan.now (lines script.now) state.old state.new) }
+    ensures err { IfErr result (StopsBy C.core plan.now (lines script.now) state.old) }
 {
     let mut number = 0u64;
     for line in script.lines() {
@@ -71,7 +87,8 @@ fn do_line<C: Exclusion>(
     line: &str,
     state: &mut State<C>,
 ) -> Result<(), LineFailure>
-    ensures { OnOk result (DoesText C.core plan.now line.now state.old state.new) }
+    ensures ok { OnOk result (DoesText C.core plan.now line.now state.old state.new) }
+    ensures err { IfErr result (IsNotDone C.core plan.now line.now state.old) }
 {
     match line_in(alloc, plan, line)? {
         Some(line) => repeat(&line, state),
@@ -81,7 +98,9 @@ fn do_line<C: Exclusion>(
 
 /// What a line asks for.
 fn line_in(alloc: Global, plan: &Plan, line: &str) -> Result<Option<Line>, LineFailure>
-    ensures { IfOk result (Reads plan.now line.now) }
+    ensures ok { IfOk result (Reads plan.now line.now) }
+    ensures err { IfErr result (λ why.
+        (why ≡ LineFailure.Memory) ⊎ Misreads plan.now line.now why) }
 {
     let words = words_in(alloc, line)?;
     match read_line(plan, words.as_slice()) {
@@ -92,7 +111,9 @@ fn line_in(alloc: Global, plan: &Plan, line: &str) -> Result<Option<Line>, LineF
 
 /// Does what a line asks for, as often as it says.
 fn repeat<C: Exclusion>(line: &Line, state: &mut State<C>) -> Result<(), LineFailure>
-    ensures { OnOk result (Does C.core line.now state.old state.new) }
+    ensures ok { OnOk result (Does C.core line.now state.old state.new) }
+    ensures err { IfErr result
+        (StopsWithin C.core line.now.order line.now.times state.old) }
 {
     for _count in 0..line.times {
         perform(&line.order, state)?;
@@ -102,8 +123,10 @@ fn repeat<C: Exclusion>(line: &Line, state: &mut State<C>) -> Result<(), LineFai
 
 /// Does what an order asks for, once.
 fn perform<C: Exclusion>(order: &Order, state: &mut State<C>) -> Result<(), LineFailure>
-    ensures { OnOk result ((es : List SessionEvent)
+    ensures ok { OnOk result ((es : List SessionEvent)
         × Performs C.core order.now 0 state.old es state.new) }
+    ensures err { IfErr result (λ why. (es : List SessionEvent)
+        × StopsAfter C.core order.now 0 state.old es why) }
 {
     for count in 0..u64::MAX {
         let next = state.next_event(order, count)?;

@@ -10,7 +10,7 @@ use crate::script_error::LineFailure;
 use crate::session_event::SessionEvent;
 use mx_commands::start;
 use mx_lines::LinkChange;
-use mx_network::{Cluster, Event};
+use mx_network::{Cluster, Entry, Event};
 use mx_nodelaws::Exclusion;
 use mx_plan::Plan;
 use std::alloc::{AllocError, Global};
@@ -64,6 +64,13 @@ impl<C: Exclusion> State<C> {
         ensures { result.now ≡ self.now.fates }
     {
         &self.in_flight
+    }
+
+    /// The events so far, with their outcomes.
+    pub(crate) fn trace(&self) -> &[Entry]
+        ensures { result.now ≡ self.now.cluster.trace }
+    {
+        self.cluster.trace()
     }
 
     /// Whether a parcel was neither delivered nor lost.

@@ -1,5 +1,4 @@
 use Rattle.std.proofs.Common.{◌≡◌, refl}
-use Rattle.mx_scripts.specs.declared.session_event.SessionEvent.{SessionEvent}
 use Rattle.mx_scripts.proofs.LineLemmas.{once_later, once_now}
 use Rattle.mx_scripts.proofs.next_event.once.Goals as goal
 

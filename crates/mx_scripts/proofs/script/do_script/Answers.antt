@@ -1,21 +1,45 @@
-use Rattle.std.proofs.Common.{List, refl, subst}
-use Rattle.std.proofs.lemmas.Iterator.Consumers.{YieldsList-end}
+use Rattle.std.proofs.Common.{◌≡◌, ◌+◌, ◌-◌, ◌^◌, ◌∷◌, [], ℕ, List, arith, length, min, refl, subst}
+use Rattle.std.proofs.lemmas.Iterator.Consumers.{YieldsList-end, YieldsList-so_far, YieldsList-turn}
 use Rattle.std.proofs.lemmas.Iterator.Splits.{YieldsList-from_lines}
+use Rattle.std.proofs.lemmas.List.{length-append}
 use Rattle.mx_plan.specs.Text.{Text}
 use Rattle.mx_scripts.specs.Lines.{DoesAll}
-use Rattle.mx_scripts.proofs.LineLemmas.{does_more}
+use Rattle.mx_scripts.specs.Scripts.{IsErrorAt}
+use Rattle.mx_scripts.proofs.LineLemmas.{does_more, stops_here}
 use Rattle.mx_scripts.proofs.script.do_script.Goals as goal
 
+-- the number of the next line
+next_number : (number next count : ℕ) → number ≡ min count (2 ^ 64 - 1) → next ≡ min (number + 1) (2 ^ 64 - 1) → next ≡ min (count + 1) (2 ^ 64 - 1)
+next_number number next count is h = omega (arith, is, h)
+
 pub loop-line-init : goal.loop-line-init
-loop-line-init g c = refl
+loop-line-init g c = record { does = refl; number = refl }
 
 pub loop-line-preserved : goal.loop-line-preserved
 loop-line-preserved g c =
     let l = c.loop-line in
-    does_more g.C.Exclusion.core c.args.plan.now l.yielded c.in-Some.line c.args.state.now l.state c.do_line.new.state l.invariant c.in_default.ensures
+    let more = length-append l.yielded (c.in-Some.line ∷ []) in
+    let next = next_number l.number c.saturating_add-number.result (length l.yielded) l.invariant.number c.saturating_add-number.ensures in
+    record {
+      does = does_more g.C.Exclusion.core c.args.plan.now l.yielded c.in-Some.line c.args.state.now l.state c.do_line.new.state l.invariant.does c.in_default.ensures.ok;
+      number = omega (arith, more, next);
+    }
 
-pub returns : goal.returns
-returns g c =
+pub returns-clause-ok : goal.returns-clause-ok
+returns-clause-ok g c =
     let l = c.loop-line in
     let ended = YieldsList-end (YieldsList-from_lines {s = c.into_iter-line-iterator.result} c.args.script.now cc) l.yielded _ l.yielded_by _ _ c.in-None.is c.next.ensures.steps in
-    subst (λ (texts : List Text). DoesAll g.C.Exclusion.core c.args.plan.now texts c.args.state.now l.state) ended.0 l.invariant
+    subst (λ (texts : List Text). DoesAll g.C.Exclusion.core c.args.plan.now texts c.args.state.now l.state) ended.0 l.invariant.does
+
+pub returns-in-Err-clause-err : goal.returns-in-Err-clause-err
+returns-in-Err-clause-err g c =
+    let l = c.loop-line in
+    let road = YieldsList-from_lines {s = c.into_iter-line-iterator.result} c.args.script.now cc in
+    let so_far = YieldsList-so_far road l.yielded _ l.yielded_by in
+    let turn = YieldsList-turn road l.yielded _ l.yielded_by _ _ c.in-Some.line c.in-Some.is c.next.ensures.steps in
+    let next = next_number l.number c.saturating_add-number.result (length l.yielded) l.invariant.number c.saturating_add-number.ensures in (
+      length l.yielded,
+      c.in-Err.fault,
+      stops_here g.C.Exclusion.core c.args.plan.now _ l.yielded c.in-Some.line.now c.args.state.now l.state c.in-Err.fault l.invariant.does so_far turn c.in-Err.ensures.err,
+      subst (λ (k : ℕ). IsErrorAt k c.in-Err.fault c.at_line.result) next c.at_line.ensures,
+    )

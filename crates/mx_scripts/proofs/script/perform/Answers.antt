@@ -1,13 +1,16 @@
-use Rattle.std.proofs.Common.{◌∷◌, [], Option, refl, rules, subst}
+use Rattle.std.proofs.Common.{◌∷◌, [], List, Option, arith, inl, inr, refl, rules, subst}
 use Rattle.std.specs.Prelude.{IfSome}
-use Rattle.mx_scripts.specs.Lines.{IsNext}
+use Rattle.mx_lines.specs.declared.errors.LineFault.TheVariants.{TooMany}
+use Rattle.mx_scripts.specs.Lines.{IsNext, StopsAfter}
 use Rattle.mx_scripts.specs.States.{IsAllowed}
+use Rattle.mx_scripts.specs.declared.script_error.LineFailure.{LineFailure}
+use Rattle.mx_scripts.specs.declared.script_error.LineFailure.TheVariants as failure
 use Rattle.mx_scripts.specs.declared.session_event.SessionEvent.{SessionEvent}
-use Rattle.mx_scripts.proofs.LineLemmas.{performs_next}
+use Rattle.mx_scripts.proofs.LineLemmas.{err_of, performs_next, stops_next}
 use Rattle.mx_scripts.proofs.script.perform.Goals as goal
 
 pub loop-count-init : goal.loop-count-init
-loop-count-init g c = λ last es x. (es, x)
+loop-count-init g c = record { does = λ last es x. (es, x); stops = λ why es x. (es, x) }
 
 pub apply-requires : goal.apply-requires
 apply-requires g c =
@@ -21,10 +24,37 @@ loop-count-preserved g c =
     let e = c.in-Some.event in
     let next = subst (λ (o : Option SessionEvent). IsNext s.fates s.cluster.sent c.args.order.now l.count o) c.in-Some.is c.in_ok-next.ensures.next in
     let allowed = subst (λ (o : Option SessionEvent). IfSome o (IsAllowed s)) c.in-Some.is c.in_ok-next.ensures.allowed in
-    λ last es x. l.invariant last (e ∷ es) (performs_next g.C.Exclusion.core c.args.order.now l.count e es s c.apply.new.self last next allowed c.in_ok-apply-in-Some.ensures.ok x)
+    record {
+      does = λ last es x. l.invariant.does last (e ∷ es)
+          (performs_next g.C.Exclusion.core c.args.order.now l.count e es s c.apply.new.self last next allowed c.in_ok-apply-in-Some.ensures.ok x);
+      stops = λ why es x. l.invariant.stops why (e ∷ es)
+          (stops_next g.C.Exclusion.core c.args.order.now l.count e es s c.apply.new.self why next allowed c.in_ok-apply-in-Some.ensures.ok x);
+    }
 
-pub returns-in-None : goal.returns-in-None
-returns-in-None g c =
+pub returns-in-None-clause-ok : goal.returns-in-None-clause-ok
+returns-in-None-clause-ok g c =
     let s = c.loop-count.state in
     let next = subst (λ (o : Option SessionEvent). IsNext s.fates s.cluster.sent c.args.order.now c.loop-count.count o) c.in-None.is c.in_ok-next.ensures.next in
-    c.loop-count.invariant s [] (refl, next)
+    c.loop-count.invariant.does s [] (refl, next)
+
+pub returns-in_err-next-clause-err : goal.returns-in_err-next-clause-err
+returns-in_err-next-clause-err g c =
+    let failed = c.in_err-next in
+    let why = failure.Refused failed.field-0.0 in
+    err_of (λ (w : LineFailure). (es : List SessionEvent) × StopsAfter g.C.Exclusion.core c.args.order.now 0 c.args.state.now es w) c.from_residual.result why c.from_residual.ensures.1
+    (c.loop-count.invariant.stops why [] (inl (failed.field-0.0, failed.ensures.err, refl)))
+
+pub returns-in_err-apply-in-Some-clause-err : goal.returns-in_err-apply-in-Some-clause-err
+returns-in_err-apply-in-Some-clause-err g c =
+    let s = c.loop-count.state in
+    let failed = c.in_err-apply-in-Some in
+    let why = failed.field-0.0 in
+    let next = subst (λ (o : Option SessionEvent). IsNext s.fates s.cluster.sent c.args.order.now c.loop-count.count o) c.in-Some.is c.in_ok-next.ensures.next in
+    err_of (λ (w : LineFailure). (es : List SessionEvent) × StopsAfter g.C.Exclusion.core c.args.order.now 0 c.args.state.now es w) c.from_residual-in_err-apply-in-Some.result why
+    c.from_residual-in_err-apply-in-Some.ensures.1
+    (c.loop-count.invariant.stops why [] (inr (inl (c.in-Some.event, c.apply.new.self, next, failed.ensures.err))))
+
+pub returns-clause-err : goal.returns-clause-err
+returns-clause-err g c =
+    let past = c.loop-count-test.false in
+    c.loop-count.invariant.stops (failure.Refused TooMany) [] (inr (inr (omega (arith, past), refl)))

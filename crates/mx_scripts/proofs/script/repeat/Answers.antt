@@ -1,24 +1,39 @@
 use Rattle.std.proofs.Common.{◌≡◌, ◌++◌, ◌-◌, [], ℕ, arith, subst}
-use Rattle.mx_scripts.specs.Lines.{Repeats}
-use Rattle.mx_scripts.proofs.LineLemmas.{repeats_end, repeats_next}
+use Rattle.mx_scripts.specs.Lines.{Repeats, StopsWithin}
+use Rattle.mx_scripts.proofs.LineLemmas.{err_of, repeats_end, repeats_next, within_here, within_next}
 use Rattle.mx_scripts.proofs.script.repeat.Goals as goal
 
 pub loop-count-init : goal.loop-count-init
 loop-count-init g c =
     let line = c.args.line.now in
     let n : line.times - 0 ≡ line.times = omega arith in
-    λ last es x. (es, subst (λ (k : ℕ). Repeats g.C.Exclusion.core line.order k c.args.state.now es last) n x)
+    record {
+      does = λ last es x. (es, subst (λ (k : ℕ). Repeats g.C.Exclusion.core line.order k c.args.state.now es last) n x);
+      stops = λ why x. subst (λ (k : ℕ). StopsWithin g.C.Exclusion.core line.order k c.args.state.now why) n x;
+    }
 
 pub loop-count-preserved : goal.loop-count-preserved
 loop-count-preserved g c =
     let l = c.loop-count in
     let line = c.args.line.now in
-    let once = c.in_ok-perform.ensures in
-    λ last es x. l.invariant last (once.0 ++ es)
-    (repeats_next g.C.Exclusion.core line.order line.times l._count once.0 es l.state c.perform.new.state last c.loop-count-test.true once.1 x)
+    let once = c.in_ok-perform.ensures.ok in
+    record {
+      does = λ last es x. l.invariant.does last (once.0 ++ es)
+          (repeats_next g.C.Exclusion.core line.order line.times l._count once.0 es l.state c.perform.new.state last c.loop-count-test.true once.1 x);
+      stops = λ why x. l.invariant.stops why
+          (within_next g.C.Exclusion.core line.order line.times l._count l.state c.perform.new.state why c.loop-count-test.true once x);
+    }
 
-pub returns : goal.returns
-returns g c =
+pub returns-clause-ok : goal.returns-clause-ok
+returns-clause-ok g c =
     let l = c.loop-count in
     let line = c.args.line.now in
-    l.invariant l.state [] (repeats_end g.C.Exclusion.core line.order line.times l._count l.state c.loop-count-test.false)
+    l.invariant.does l.state [] (repeats_end g.C.Exclusion.core line.order line.times l._count l.state c.loop-count-test.false)
+
+pub returns-in_err-perform-clause-err : goal.returns-in_err-perform-clause-err
+returns-in_err-perform-clause-err g c =
+    let l = c.loop-count in
+    let line = c.args.line.now in
+    let why = c.in_err-perform.field-0.0 in
+    err_of (StopsWithin g.C.Exclusion.core line.order line.times c.args.state.now) c.from_residual.result why c.from_residual.ensures.1
+    (l.invariant.stops why (within_here g.C.Exclusion.core line.order line.times l._count l.state why c.loop-count-test.true c.in_err-perform.ensures.err))
