@@ -1,6 +1,6 @@
 //! A run of a session: its lines are read, executed and printed, one after another.
 
-ghost use Rattle.std.specs.Prelude.{◌≡◌, [], false, length, string_bytes, IfOk, OnOk};
+ghost use Rattle.std.specs.Prelude.{◌≡◌, ◌++◌, [], false, length, string_bytes, IfOk, OnOk};
 ghost use Rattle.std.specs.Io.KnownBytes.{Appends};
 ghost use Rattle.mx_format.specs.LetterTexts.{letter_text};
 ghost use Rattle.mx_commands.specs.Runs.{closing_text};
