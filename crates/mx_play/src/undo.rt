@@ -210,7 +210,7 @@ fn events_before<C: Exclusion>(session: &Session<C>, line: usize) -> usize
     ensures { result
         ≡ slice_index_or session.now.marks line (length session.now.done) }
 {
-    mark_at(session.marks.as_slice(), line, session.done.len())
+    mark_at(session.marks.as_slice(), line, event_count(session))
 }
 
 /// The mark of this number, or all if there is none.

@@ -1,6 +1,5 @@
 use Rattle.std.proofs.Common.{◌≡◌, ◌∙◌, ◌+◌, ◌++◌, ◌∷◌, [], ℕ, List, Option, Some, None, IfSome, ap, arith, length, refl, sym, vec_len}
-use Rattle.std.specs.Prelude.{IfNone, MatchOption}
-use Rattle.std.specs.Option.{option_to_list}
+use Rattle.std.specs.Prelude.{IfNone, MatchOption, option_to_list}
 use Rattle.mx_stamps.proofs.Lists.{append_nil}
 use Rattle.mx_play.specs.Sessions.{SessionState}
 use Rattle.mx_play.specs.declared.undo.Undone.{Undone}
