@@ -1,5 +1,5 @@
 -- What happens, one event after another.
-use Rattle.std.proofs.Common.{◌≡◌, ◌≤◌, ◌<◌, ◌∙◌, ℕ, zero, suc, List, [], ◌∷◌, ◌++◌, Result, Ok, Err, length, take, drop, get_or, drop-cons, add-one, ◌+◌, refl, sym, ap, subst, append_assoc, arith}
+use Rattle.std.proofs.Common.{◌≡◌, ◌≤◌, ◌<◌, ◌∙◌, ℕ, zero, suc, List, [], ◌∷◌, ◌++◌, Result, Ok, length, take, drop, get_or, drop-cons, add-one, ◌+◌, refl, sym, ap, subst, append_assoc, arith}
 use Rattle.std.proofs.lemmas.List.{drop_all, length-append}
 use Rattle.mx_stamps.proofs.Lists.{append_nil}
 use Rattle.mx_nodelaws.specs.Core.{Core}

@@ -1,16 +1,15 @@
 -- What the lines of a script add to a session.
-use Rattle.std.proofs.Common.{◌≡◌, ◌≤◌, ◌<◌, ◌∙◌, ◌+◌, ◌-◌, ℕ, zero, suc, List, [], ◌∷◌, ◌++◌, Some, None, Result, Ok, Err, OnErr, OnOk, length, refl, sym, ap, subst, append_assoc, arith}
-use Rattle.std.specs.Bool.{⊤}
+use Rattle.std.proofs.Common.{◌≡◌, ◌≤◌, ◌<◌, ◌∙◌, ◌+◌, ◌-◌, ℕ, List, [], ◌∷◌, ◌++◌, Some, None, Result, Ok, Err, OnErr, refl, sym, ap, subst, append_assoc, arith}
 use Rattle.mx_stamps.proofs.Lists.{append_nil}
 use Rattle.mx_nodelaws.specs.Core.{Core}
 use Rattle.mx_lines.specs.declared.orders.Order.{Order}
 use Rattle.mx_plan.specs.Text.{Text}
 use Rattle.mx_plan.specs.Fields.{Fields}
 use Rattle.mx_scripts.specs.Lines.{IsNext, Performs, Repeats}
-use Rattle.mx_scripts.specs.States.{Brings, IsAllowed, RunState}
+use Rattle.mx_scripts.specs.States.{IsAllowed, RunState}
 use Rattle.mx_scripts.specs.declared.session_event.SessionEvent.{SessionEvent}
 use Rattle.mx_scripts.proofs.LineLemmas.{performs_next, repeats_end, repeats_next}
-use Rattle.mx_play.specs.Histories.{Makes, new_text}
+use Rattle.mx_play.specs.Histories.{new_text}
 use Rattle.mx_play.specs.Sessions.{Adds, AddsOne, Extends, SessionState}
 use Rattle.mx_play.proofs.HistoryLemmas.{makes_append, makes_one}
 

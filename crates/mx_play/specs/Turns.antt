@@ -15,7 +15,6 @@ use Rattle.mx_commands.specs.Runs.{closing_text}
 use Rattle.mx_scripts.specs.Files.{file_text}
 use Rattle.mx_scripts.specs.Lines.{Repeats}
 use Rattle.mx_scripts.specs.Played.{AreOver, events_of}
-use Rattle.mx_scripts.specs.States.{RunState}
 use Rattle.mx_scripts.specs.declared.session_event.SessionEvent.{SessionEvent}
 use Rattle.mx_play.specs.Commands.{IsSecondWord}
 use Rattle.mx_play.specs.Help.{words_text}

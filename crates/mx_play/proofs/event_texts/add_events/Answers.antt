@@ -1,4 +1,4 @@
-use Rattle.std.proofs.Common.{◌≡◌, ◌∙◌, ◌≤◌, ℕ, arith, length, string_bytes, sym}
+use Rattle.std.proofs.Common.{◌∙◌, ◌≤◌, arith, length, string_bytes, sym}
 use Rattle.mx_format.proofs.Places.{place_end}
 use Rattle.mx_format.specs.EventTexts.{event_line}
 use Rattle.mx_play.proofs.event_texts.add_events.Goals as goal

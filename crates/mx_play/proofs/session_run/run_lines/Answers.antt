@@ -1,4 +1,3 @@
-use Rattle.std.proofs.Common.{rules}
 use Rattle.mx_format.specs.LetterTexts.{letter_text}
 use Rattle.mx_play.proofs.TurnLemmas.{run_not, run_turn}
 use Rattle.mx_play.proofs.session_run.run_lines.Goals as goal

@@ -1,4 +1,4 @@
-use Rattle.std.proofs.Common.{◌≡◌, ◌≤◌, ◌∙◌, ◌-◌, ℕ, ap, arith, length, rules, slice_index_or, sym, take}
+use Rattle.std.proofs.Common.{◌≡◌, ◌≤◌, ◌-◌, ℕ, ap, arith, length, rules}
 use Rattle.mx_play.proofs.SessionLemmas.{can_truncate, session_undone, was_undone}
 use Rattle.mx_play.proofs.undo.undo_lines.Goals as goal
 
