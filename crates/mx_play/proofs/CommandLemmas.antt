@@ -8,7 +8,7 @@ use Rattle.std.specs.Str.{bytes_eq}
 use Rattle.mx_plan.specs.Text.{Text}
 use Rattle.mx_lines.specs.Commands.{alone, command_of, doing, own_command, own_word, with_one}
 use Rattle.mx_lines.specs.Lines.{line_of}
-use Rattle.mx_lines.specs.Names.{Known}
+use Rattle.mx_lines.specs.Names.{Known, known_of}
 use Rattle.mx_lines.specs.Numbers.{number_of}
 use Rattle.mx_lines.specs.declared.commands.SessionCommand.{SessionCommand}
 use Rattle.mx_lines.specs.declared.errors.LineError.{LineError}
@@ -17,11 +17,15 @@ use Rattle.mx_lines.specs.declared.errors.OwnWord.TheVariants.{Show, Undo, Redo,
 use Rattle.mx_lines.specs.declared.lines.Line.{Line}
 use Rattle.mx_scripts.specs.Scripts.{IsOver}
 use Rattle.mx_scripts.proofs.OverLemmas.{any, line_is_over, line_over, LineOver, or_wrong, passed}
-use Rattle.mx_play.specs.Commands.{IsCommand}
+use Rattle.mx_plan.specs.Fields.{Fields}
+use Rattle.mx_play.specs.Commands.{IsOverPlan}
 
-module _ (names : Known) where
+module _ (p : Fields) where
+  abbrev names : Known
+  names = known_of p
+
   abbrev Over : SessionCommand → Type 0
-  Over command = IsCommand (length names.nodes) (length names.registers) command
+  Over command = IsOverPlan p command
 
   alone_over : (word : OwnWord) → IfOk (alone word) Over
   alone_over Show = tt
@@ -69,8 +73,8 @@ module _ (names : Known) where
       (line_over names (word ∷ arguments)) (λ line over. doing_over line (line_is_over names line over)))
 
   -- what the words of a line ask for is over the names
-  pub heard_over : (words : List Text) (command : SessionCommand)
+  pub input_over : (words : List Text) (command : SessionCommand)
       → ◌≡◌ {A = Result SessionCommand LineError} (Ok command) (command_of names words)
       → Over command
-  heard_over words command is =
+  input_over words command is =
       subst (λ (x : Result SessionCommand LineError). IfOk x Over) (sym is) (command_over words)

@@ -1,5 +1,7 @@
-mod ShownLemmas
-pub mod MomentLemmas
+mod ViewLemmas
+pub mod HistoryLemmas
+mod InterpreterLemmas
 pub mod SessionLemmas
+pub mod TurnLemmas
 pub mod PlayedLemmas
 mod CommandLemmas

@@ -24,7 +24,7 @@ use Rattle.mx_cli.specs.declared.faults.CommandError.{CommandError}
 use Rattle.mx_io.specs.Outputs.{Held}
 use Rattle.mx_io.specs.Told.{Telling}
 use Rattle.mx_play.specs.Played.{IsLinePlan, IsPlayedBy, IsScriptOf}
-use Rattle.mx_play.specs.Sessions.{IsPlayed}
+use Rattle.mx_play.specs.Turns.{IsPlayed}
 
 module _ {H S M : Type 0} (core : Core H S M) (letter_text : Fields → M → Text) (knows : S → List Known) (p : Fields) (shape : H) (a b c : Held) where
   played_keeps : IsPlayed core letter_text knows p shape a b → Keeps b c → IsPlayed core letter_text knows p shape a c
@@ -32,10 +32,10 @@ module _ {H S M : Type 0} (core : Core H S M) (letter_text : Fields → M → Te
     turns = x.turns;
     last = x.last;
     text = x.text;
-    talks = x.talks;
+    takes = x.takes;
     replays = x.replays;
     over = x.over;
-    printed = Appends-keeps a b c (x.text ++ closing_text core letter_text p x.last.now.cluster) x.printed same;
+    printed = Appends-keeps a b c (x.text ++ closing_text core letter_text p x.last.state.cluster) x.printed same;
   }
 
 pub by_keeps : (p : Fields) (a b c : Held) (shape : Shape) → IsPlayedBy p a b shape → Keeps b c → IsPlayedBy p a c shape

@@ -1,17 +1,34 @@
 -- What a line of a session asks for.
-use Rattle.std.specs.Prelude.{ℕ, ⊤}
+use Rattle.std.specs.Prelude.{◌≡◌, ⊤, List, [], ◌∷◌, length}
+use Rattle.std.specs.Borrow.{Bor}
+use Rattle.mx_lines.specs.Names.{texts_of}
+use Rattle.mx_lines.specs.Words.{AreWords, before_comment}
 use Rattle.mx_lines.specs.declared.commands.SessionCommand.{SessionCommand}
 use Rattle.mx_lines.specs.declared.commands.SessionCommand.TheVariants.{Does}
+use Rattle.mx_plan.specs.Text.{Text}
+use Rattle.mx_plan.specs.Fields.{Fields}
 use Rattle.mx_scripts.specs.Scripts.{IsOver}
-use Rattle.mx_play.specs.declared.talking.Heard.{Heard}
-use Rattle.mx_play.specs.declared.talking.Heard.TheVariants as heard
+use Rattle.mx_play.specs.declared.input.Input.{Input}
+use Rattle.mx_play.specs.declared.input.Input.TheVariants as input
 
--- a line of a script is over these nodes and registers
-abbrev pub IsCommand : ℕ → ℕ → SessionCommand → Type 0
-IsCommand nodes registers (Does line) = IsOver nodes registers line.order
-IsCommand nodes registers _ = ⊤
+-- a line of a script is over the nodes and registers of the plan
+abbrev pub IsOverPlan : Fields → SessionCommand → Type 0
+IsOverPlan p (Does line) = IsOver (length p.nodes) (length p.registers) line.order
+IsOverPlan p _ = ⊤
 
--- what was heard asks for such a line, or for none
-abbrev pub IsHeard : ℕ → ℕ → Heard → Type 0
-IsHeard nodes registers (heard.Command command) = IsCommand nodes registers command
-IsHeard nodes registers _ = ⊤
+-- an input asks for such a line, or for none
+abbrev pub IsInput : Fields → Input → Type 0
+IsInput p (input.Command command) = IsOverPlan p command
+IsInput p _ = ⊤
+
+-- the second of these words; nothing if there are fewer
+abbrev pub second_of : List Text → Text
+second_of [] = []
+second_of (first ∷ []) = []
+second_of (first ∷ second ∷ more) = second
+
+-- the second word of a line
+abbrev pub IsSecondWord : Text → Text → Type 0
+IsSecondWord line word =
+    (words : List (Bor Text)) × AreWords (before_comment line) words
+    × (word ≡ second_of (texts_of words))

@@ -1,11 +1,13 @@
--- Help: the words. Moments: a cluster with what has become of its parcels, and what happens to
--- both. Cuts: the lines of links that are cut. Commands: what a line asks for. Sessions: what the
--- lines of a session made, and what is shown of it. PlayWords: what the words of the command ask
--- for. Played: what comes of them.
+-- Help: the words. Histories: what happens, one event after another. Cuts: the lines of links that
+-- are cut. Views: what is shown. Commands: what a line asks for. Sessions: what lines did. Turns:
+-- what lines do, one after another. PlayWords: what the words of the command ask for. Played: what
+-- `play` does.
 pub mod Help
-pub mod Moments
+pub mod Histories
 pub mod Cuts
+pub mod Views
 pub mod Commands
 pub mod Sessions
+pub mod Turns
 pub mod PlayWords
 pub mod Played

@@ -15,7 +15,7 @@ use Rattle.mx_cli.specs.Reading.{IsPlanOf, IsRead, is_dash}
 use Rattle.mx_io.specs.Told.{Telling}
 use Rattle.mx_io.specs.Outputs.{Held}
 use Rattle.mx_play.specs.PlayWords.{Request}
-use Rattle.mx_play.specs.Sessions.{IsPlayed}
+use Rattle.mx_play.specs.Turns.{IsPlayed}
 
 -- a session was played in the cluster of the plan, by its algorithm
 abbrev pub IsPlayedBy : Fields → Held → Held → Shape → Type 0

@@ -7,9 +7,9 @@ ghost use Rattle.mx_cli.specs.Closed.{IsRunStatus};
 ghost use Rattle.mx_play.specs.PlayWords.{AskNothing, play_line, request_asked, request_of};
 ghost use Rattle.mx_play.specs.Played.{HasPlayed, IsPlayedBy};
 
-use crate::playing::play_by;
-use crate::reading::Lines;
-use crate::starting::fetch_start;
+use crate::lines::Lines;
+use crate::session_files::fetch_start;
+use crate::shapes::run_by_plan;
 use crate::words::{Request, parse};
 use mx_cli::{Names, PlanAndText, close, refuse};
 use mx_io::{Output, Source};
@@ -48,7 +48,7 @@ pub fn play<S: Source, L: Lines, O: Output, E: Output>(
     }
 }
 
-/// Plays what is asked for, or tells why there is no session. Returns the status.
+/// Plays what is asked for, or reports why there is no session. Returns the status.
 fn play_request<S: Source, L: Lines, O: Output, E: Output>(
     alloc: Global,
     request: &Request<'_>,
@@ -64,7 +64,7 @@ fn play_request<S: Source, L: Lines, O: Output, E: Output>(
 {
     match fetch_start(alloc, request, source, lines) {
         Ok(start) => play_and_close(alloc, request.plan, &start, lines, out, err),
-        Err(stop) => close(alloc, Err(stop), &request.names(), out, err),
+        Err(error) => close(alloc, Err(error), &request.names(), out, err),
     }
 }
 
@@ -83,6 +83,6 @@ fn play_and_close<L: Lines, O: Output, E: Output>(
     ensures status { IsRunStatus result }
 {
     let names = Names { plan, events: "-" };
-    let ended = play_by(alloc, &start.plan, start.text.as_slice(), lines, out, err);
+    let ended = run_by_plan(alloc, start, lines, out, err);
     close(alloc, ended, &names, out, err)
 }

@@ -3,7 +3,7 @@
 ghost use Rattle.std.specs.Prelude.{◌≡◌, ◌<◌, ◌++◌, length, string_bytes, OnOk, Some};
 ghost use Rattle.mx_play.specs.Cuts.{cut_line, cut_lines, cut_lines_of, cut_text, is_shown};
 
-use crate::showing::is_to;
+use crate::views::is_to;
 use mx_format::name_of;
 use mx_plan::Plan;
 use mx_scripts::InFlight;
@@ -33,14 +33,14 @@ impl fmt::Display for CutLine<'_> {
 pub(crate) fn add_cuts(
     plan: &Plan,
     to: &Option<NodeId>,
-    mail: &InFlight,
+    in_flight: &InFlight,
     text: &mut String,
 ) -> Result<(), AllocError>
     ensures { OnOk result (string_bytes text.new ≡ string_bytes text.old
-        ++ cut_lines plan.now to.now mail.now.links) }
+        ++ cut_lines plan.now to.now in_flight.now.links) }
 {
     for i in 0..plan.nodes() {
-        add_cuts_of(plan, to, mail, i, text)?;
+        add_cuts_of(plan, to, in_flight, i, text)?;
     }
     Ok(())
 }
@@ -49,17 +49,17 @@ pub(crate) fn add_cuts(
 fn add_cuts_of(
     plan: &Plan,
     to: &Option<NodeId>,
-    mail: &InFlight,
+    in_flight: &InFlight,
     i: u8,
     text: &mut String,
 ) -> Result<(), AllocError>
     requires there { i < length plan.now.nodes }
     requires few { i < MAX_NODES }
     ensures { OnOk result (string_bytes text.new ≡ string_bytes text.old
-        ++ cut_lines_of plan.now to.now mail.now.links i) }
+        ++ cut_lines_of plan.now to.now in_flight.now.links i) }
 {
     for j in i..plan.nodes() {
-        add_cut(plan, to, mail, i, j, text)?;
+        add_cut(plan, to, in_flight, i, j, text)?;
     }
     Ok(())
 }
@@ -68,7 +68,7 @@ fn add_cuts_of(
 fn add_cut(
     plan: &Plan,
     to: &Option<NodeId>,
-    mail: &InFlight,
+    in_flight: &InFlight,
     i: u8,
     j: u8,
     text: &mut String,
@@ -76,34 +76,34 @@ fn add_cut(
     requires one { i < MAX_NODES }
     requires other { j < MAX_NODES }
     ensures { OnOk result (string_bytes text.new ≡ string_bytes text.old
-        ++ cut_text plan.now to.now mail.now.links i j) }
+        ++ cut_text plan.now to.now in_flight.now.links i j) }
 {
     let one = NodeId::of(i).unwrap();
     let other = NodeId::of(j).unwrap();
-    add_if_shown(plan, to, mail, one, other, text)
+    add_if_shown(plan, to, in_flight, one, other, text)
 }
 
 /// Appends the line of the link between two nodes, if it is cut.
 fn add_if_shown(
     plan: &Plan,
     to: &Option<NodeId>,
-    mail: &InFlight,
+    in_flight: &InFlight,
     one: NodeId,
     other: NodeId,
     text: &mut String,
 ) -> Result<(), AllocError>
     ensures { OnOk result (string_bytes text.new ≡ string_bytes text.old
-        ++ cut_text plan.now to.now mail.now.links one other) }
+        ++ cut_text plan.now to.now in_flight.now.links one other) }
 {
-    if is_shown(to, mail, one, other) {
+    if is_shown(to, in_flight, one, other) {
         return text.write(CutLine { plan, one, other });
     }
     Ok(())
 }
 
 /// Whether a link is cut, and has the node that is named at one end, if one is.
-fn is_shown(to: &Option<NodeId>, mail: &InFlight, one: NodeId, other: NodeId) -> bool
-    ensures { result ≡ is_shown to.now mail.now.links one other }
+fn is_shown(to: &Option<NodeId>, in_flight: &InFlight, one: NodeId, other: NodeId) -> bool
+    ensures { result ≡ is_shown to.now in_flight.now.links one other }
 {
-    mail.is_cut(one, other) && (is_to(to, one) || is_to(to, other))
+    in_flight.is_cut(one, other) && (is_to(to, one) || is_to(to, other))
 }

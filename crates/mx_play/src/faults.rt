@@ -8,60 +8,60 @@ use std::{fmt, str};
 
 /// Why a line of a session does nothing.
 #[derive(Clone, Copy)]
-pub(crate) enum Complaint {
+pub(crate) enum InputFault {
     /// It is not in UTF-8.
     NotText,
     /// One of its words is wrong, or what it asks for can't be done.
     Line(LineFailure),
     /// It has more than 65,536 bytes.
     TooLong,
-    /// So many lines were done, and more are to be taken back.
+    /// Only this many lines were done, and more are to be undone.
     TooFew(usize),
-    /// No undo can be taken back.
+    /// Nothing was undone that can be redone.
     NoUndo,
 }
 
-impl fmt::Display for Complaint {
+impl fmt::Display for InputFault {
     fn fmt<W: fmt::Write>(&self, f: &mut fmt::Formatter<W>) -> fmt::Result {
         match self {
-            Complaint::NotText => write!(f, "{}", LineFault::NotText),
-            Complaint::Line(stop) => write!(f, "{stop}"),
-            Complaint::TooLong => f.write_str("more than 65536 bytes"),
-            Complaint::NoUndo => f.write_str("no undo to take back"),
-            Complaint::TooFew(lines) => write!(f, "only {lines} to take back"),
+            InputFault::NotText => write!(f, "{}", LineFault::NotText),
+            InputFault::Line(failure) => write!(f, "{failure}"),
+            InputFault::TooLong => f.write_str("more than 65536 bytes"),
+            InputFault::NoUndo => f.write_str("no undo to take back"),
+            InputFault::TooFew(lines) => write!(f, "only {lines} to take back"),
         }
     }
 }
 
 /// The line of a fault in the line of this number of a session, counted from 1.
 #[derive(Drop)]
-pub(crate) struct ComplaintLine {
+pub(crate) struct InputFaultLine {
     number: u64,
-    complaint: Complaint,
+    fault: InputFault,
     /// The message about its words, after a colon; or nothing.
     message: String,
 }
 
-impl ComplaintLine {
+impl InputFaultLine {
     /// The line of a fault in this line, of a session over this plan.
     pub(crate) fn of(
         alloc: Global,
         plan: &Plan,
         number: u64,
-        complaint: Complaint,
+        fault: InputFault,
         line: &[u8],
-    ) -> Result<ComplaintLine, AllocError> {
-        Ok(ComplaintLine {
+    ) -> Result<InputFaultLine, AllocError> {
+        Ok(InputFaultLine {
             number,
-            complaint,
-            message: message_about(alloc, plan, &complaint, line)?,
+            fault,
+            message: message_about(alloc, plan, &fault, line)?,
         })
     }
 }
 
-impl fmt::Display for ComplaintLine {
+impl fmt::Display for InputFaultLine {
     fn fmt<W: fmt::Write>(&self, f: &mut fmt::Formatter<W>) -> fmt::Result {
-        let fault = self.complaint;
+        let fault = self.fault;
         writeln!(f, "mx: play: line {}: {fault}{}", self.number, self.message)
     }
 }
@@ -70,12 +70,12 @@ impl fmt::Display for ComplaintLine {
 fn message_about(
     alloc: Global,
     plan: &Plan,
-    complaint: &Complaint,
+    fault: &InputFault,
     line: &[u8],
 ) -> Result<String, AllocError> {
-    match (complaint, str::from_utf8(line)) {
-        (Complaint::Line(stop), Ok(text)) => {
-            message_of(alloc, plan, FirstWords::OfSessions, stop, text)
+    match (fault, str::from_utf8(line)) {
+        (InputFault::Line(failure), Ok(text)) => {
+            message_of(alloc, plan, FirstWords::OfSessions, failure, text)
         }
         _ => Ok(String::new(alloc)),
     }

@@ -1,23 +1,24 @@
 //! `mx play`: a cluster that is led line by line.
 #![tactic(auto)]
 
-mod answers;
 mod command;
+mod commands;
 mod cuts;
+mod event_texts;
 mod faults;
-mod happening;
 mod help;
-mod moment;
-mod orders;
-mod playing;
-mod reading;
+mod input;
+mod interpreter;
+mod lines;
 mod session;
-mod showing;
-mod starting;
-mod talking;
-mod undone;
+mod session_files;
+mod session_run;
+mod shapes;
+mod typed_lines;
+mod undo;
+mod views;
 mod words;
 
 pub use command::play;
-pub use happening::Happening;
-pub use reading::{Given, Lines, Typed};
+pub use lines::{LineRead, Lines};
+pub use typed_lines::Typed;

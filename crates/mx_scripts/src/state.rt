@@ -1,16 +1,19 @@
 //! A cluster, and what has become of its parcels.
 
-ghost use Rattle.std.specs.Prelude.{◌≡◌, IfErr, IsTrue, OnOk};
+ghost use Rattle.std.specs.Prelude.{◌≡◌, IfErr, IfOk, IsTrue, OnOk};
+ghost use Rattle.mx_commands.specs.Runs.{at_rest};
 ghost use Rattle.mx_scripts.specs.Fates.{can_pass, is_under_way};
 ghost use Rattle.mx_scripts.specs.States.{Brings, IsAllowed, IsNotApplied, before_any};
 
 use crate::in_flight::InFlight;
 use crate::script_error::LineFailure;
 use crate::session_event::SessionEvent;
+use mx_commands::start;
 use mx_lines::LinkChange;
 use mx_network::{Cluster, Entry, Event};
 use mx_nodelaws::Exclusion;
-use std::alloc::Global;
+use mx_plan::Plan;
+use std::alloc::{AllocError, Global};
 use std::marker::Model;
 
 /// A cluster, and what has become of its parcels.
@@ -29,6 +32,17 @@ impl<C: Exclusion> Model for State<C> {
 }
 
 impl<C: Exclusion> State<C> {
+    /// The cluster of a plan, at rest, before any parcel was sent.
+    pub fn start(alloc: Global, plan: &Plan, shape: &C::Shape) -> Result<Self, AllocError>
+        ensures { IfOk result (λ state.
+            state ≡ before_any (at_rest C.core plan.now shape.now)) }
+    {
+        Ok(State {
+            cluster: start(alloc, plan, shape)?,
+            in_flight: InFlight::new(alloc),
+        })
+    }
+
     /// A cluster before any parcel was sent.
     pub fn of(alloc: Global, cluster: Cluster<C>) -> Self
         ensures { result ≡ before_any cluster }
@@ -43,6 +57,13 @@ impl<C: Exclusion> State<C> {
         ensures { result.now ≡ self.now.cluster }
     {
         &self.cluster
+    }
+
+    /// What has become of the parcels, and which links are cut.
+    pub fn in_flight(&self) -> &InFlight
+        ensures { result.now ≡ self.now.fates }
+    {
+        &self.in_flight
     }
 
     /// The events so far, with their outcomes.

@@ -6,8 +6,8 @@ use Rattle.mx_play.proofs.command.play_and_close.Goals as goal
 pub returns-clause-played : goal.returns-clause-played
 returns-clause-played g c =
     let p = c.args.start.now.plan in
-    λ zero. by_keeps p (g.O.Output.written c.args.out.now) (g.O.Output.written c.play_by-ended.new.out) (g.O.Output.written c.close.new.out) p.shape
-    (closed_done (g.O.Output.takes_all c.play_by-ended.new.out && g.E.Output.takes_all c.play_by-ended.new.err) (c.args.plan.now, codes "-")
-    (g.E.Output.written c.play_by-ended.new.err) (g.E.Output.written c.close.new.err) c.close.result c.play_by-ended.result
-    c.play_by-ended.ensures.played c.close.ensures.closes zero)
+    λ zero. by_keeps p (g.O.Output.written c.args.out.now) (g.O.Output.written c.run_by_plan-ended.new.out) (g.O.Output.written c.close.new.out) p.shape
+    (closed_done (g.O.Output.takes_all c.run_by_plan-ended.new.out && g.E.Output.takes_all c.run_by_plan-ended.new.err) (c.args.plan.now, codes "-")
+    (g.E.Output.written c.run_by_plan-ended.new.err) (g.E.Output.written c.close.new.err) c.close.result c.run_by_plan-ended.result
+    c.run_by_plan-ended.ensures.played c.close.ensures.closes zero)
     c.close.ensures.held

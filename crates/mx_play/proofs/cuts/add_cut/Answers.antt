@@ -6,7 +6,7 @@ pub returns : goal.returns
 returns c =
     let p = c.args.plan.now in
     let to = c.args.to.now in
-    let l = c.args.mail.now.links in
+    let l = c.args.in_flight.now.links in
     let r = c.add_if_shown.result in
     let t = string_bytes c.args.text.now in
     let t' = string_bytes c.add_if_shown.new.text in

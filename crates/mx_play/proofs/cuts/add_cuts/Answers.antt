@@ -12,7 +12,7 @@ loop-i-preserved c =
     let there = is_at nodes k lt in
     record {
       in_range = omega (arith, lt);
-      written = c.loop-i.invariant.written ∙ place_more (λ k name. cut_lines_of c.args.plan.now c.args.to.now c.args.mail.now.links k) nodes k there.0 (string_bytes c.loop-i.text) (string_bytes c.add_cuts_of.new.text) there.1 c.in_ok-add_cuts_of.ensures;
+      written = c.loop-i.invariant.written ∙ place_more (λ k name. cut_lines_of c.args.plan.now c.args.to.now c.args.in_flight.now.links k) nodes k there.0 (string_bytes c.loop-i.text) (string_bytes c.add_cuts_of.new.text) there.1 c.in_ok-add_cuts_of.ensures;
     }
 
 pub returns : goal.returns
@@ -22,4 +22,4 @@ returns c =
     let count : c.nodes-i-end.result ≡ length nodes = c.nodes-i-end.ensures.value in
     let past = c.loop-i-test.false in
     let end : length nodes ≤ k = omega (arith, count, past) in
-    sym (c.loop-i.invariant.written ∙ place_end (λ k name. cut_lines_of c.args.plan.now c.args.to.now c.args.mail.now.links k) nodes k (string_bytes c.loop-i.text) end)
+    sym (c.loop-i.invariant.written ∙ place_end (λ k name. cut_lines_of c.args.plan.now c.args.to.now c.args.in_flight.now.links k) nodes k (string_bytes c.loop-i.text) end)

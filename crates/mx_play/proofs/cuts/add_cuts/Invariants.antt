@@ -6,6 +6,6 @@ use Rattle.mx_play.proofs.cuts.add_cuts.Given as goal
 abbrev pub invariant-loop-i : goal.invariant-loop-i
 invariant-loop-i l = record {
   in_range : l.i ≤ length l.plan.nodes;
-  written : string_bytes l.initial.text ++ cut_lines l.plan l.to l.mail.links
-      ≡ string_bytes l.text ++ texts_from (λ k name. cut_lines_of l.plan l.to l.mail.links k) l.i (drop l.i l.plan.nodes);
+  written : string_bytes l.initial.text ++ cut_lines l.plan l.to l.in_flight.links
+      ≡ string_bytes l.text ++ texts_from (λ k name. cut_lines_of l.plan l.to l.in_flight.links k) l.i (drop l.i l.plan.nodes);
 }

@@ -12,7 +12,7 @@ loop-j-preserved c =
     let there = is_at nodes k lt in
     record {
       in_range = omega (arith, lt);
-      written = c.loop-j.invariant.written ∙ place_more (λ k name. cut_text c.args.plan.now c.args.to.now c.args.mail.now.links c.args.i k) nodes k there.0 (string_bytes c.loop-j.text) (string_bytes c.add_cut.new.text) there.1 c.in_ok-add_cut.ensures;
+      written = c.loop-j.invariant.written ∙ place_more (λ k name. cut_text c.args.plan.now c.args.to.now c.args.in_flight.now.links c.args.i k) nodes k there.0 (string_bytes c.loop-j.text) (string_bytes c.add_cut.new.text) there.1 c.in_ok-add_cut.ensures;
     }
 
 pub returns : goal.returns
@@ -22,4 +22,4 @@ returns c =
     let count : c.nodes-j-end.result ≡ length nodes = c.nodes-j-end.ensures.value in
     let past = c.loop-j-test.false in
     let end : length nodes ≤ k = omega (arith, count, past) in
-    sym (c.loop-j.invariant.written ∙ place_end (λ k name. cut_text c.args.plan.now c.args.to.now c.args.mail.now.links c.args.i k) nodes k (string_bytes c.loop-j.text) end)
+    sym (c.loop-j.invariant.written ∙ place_end (λ k name. cut_text c.args.plan.now c.args.to.now c.args.in_flight.now.links c.args.i k) nodes k (string_bytes c.loop-j.text) end)

@@ -1,0 +1,35 @@
+use Rattle.std.proofs.Common.{◌∙◌, ◌++◌, ap, refl, rules, string_bytes}
+use Rattle.mx_plan.specs.Text.{Text}
+use Rattle.mx_format.specs.LetterTexts.{letter_text}
+use Rattle.mx_play.specs.Views.{mark_line}
+use Rattle.mx_play.proofs.TurnLemmas.{executed_line, executed_redo, executed_undo}
+use Rattle.mx_play.proofs.commands.execute.Goals as goal
+
+pub do_line-requires : goal.do_line-requires
+do_line-requires g c = (first_of (search rules, search (rules, c.requires-raw)), (c.requires.is, (rw c.in-Does.is at c.requires.over, c.requires.empty)))
+
+pub show_session-requires : goal.show_session-requires
+show_session-requires g c = (first_of (search rules, search (rules, c.requires-raw)), c.requires.is.members)
+
+pub returns-in-Does-clause-executed : goal.returns-in-Does-clause-executed
+returns-in-Does-clause-executed g c =
+    let s = c.args.setting.now in
+    rw c.in-Does.is (executed_line g.C.Exclusion.core (letter_text g.C.Msg.Letter.parts) g.C.Knowledge.knows s.plan.now s.shape.now c.do_line.result c.in-Does.line c.args.line.now
+    c.args.session.now c.do_line.new.session (string_bytes c.do_line.new.text) c.do_line.ensures.done)
+
+pub returns-in-Undo-clause-executed : goal.returns-in-Undo-clause-executed
+returns-in-Undo-clause-executed g c =
+    let s = c.args.setting.now in
+    rw c.in-Undo.is (executed_undo g.C.Exclusion.core (letter_text g.C.Msg.Letter.parts) g.C.Knowledge.knows s.plan.now s.shape.now c.undo_lines.result c.in-Undo.count c.args.line.now
+    c.args.session.now c.undo_lines.new.session (string_bytes c.args.text.now) c.requires.empty c.undo_lines.ensures.undone)
+
+pub returns-in-Redo-clause-executed : goal.returns-in-Redo-clause-executed
+returns-in-Redo-clause-executed g c =
+    let s = c.args.setting.now in
+    rw c.in-Redo.is (executed_redo g.C.Exclusion.core (letter_text g.C.Msg.Letter.parts) g.C.Knowledge.knows s.plan.now s.shape.now c.redo_lines.result c.args.line.now
+    c.args.session.now c.redo_lines.new.session (string_bytes c.args.text.now) c.requires.empty c.redo_lines.ensures.redone)
+
+pub returns-in_ok-add_mark-in-Mark-clause-executed : goal.returns-in_ok-add_mark-in-Mark-clause-executed
+returns-in_ok-add_mark-in-Mark-clause-executed g c =
+    let word = c.in_ok-second_word-in-Mark.field-0.now in
+    rw c.in-Mark.is (word, c.in_ok-second_word-in-Mark.ensures, record { same = refl; printed = c.in_ok-add_mark-in-Mark.ensures ∙ ap (λ (l : Text). l ++ mark_line word) c.requires.empty })

@@ -1,0 +1,53 @@
+use Rattle.std.proofs.Common.{Option, rules, string_bytes, subst}
+use Rattle.std.specs.Prelude.{IfSome}
+use Rattle.mx_format.specs.LetterTexts.{letter_text}
+use Rattle.mx_scripts.specs.Lines.{IsNext}
+use Rattle.mx_scripts.specs.States.{IsAllowed}
+use Rattle.mx_scripts.specs.declared.session_event.SessionEvent.{SessionEvent}
+use Rattle.mx_play.specs.Sessions.{SessionState}
+use Rattle.mx_play.proofs.InterpreterLemmas.{adds_extends, extends_more, on_err, performing_end, performing_first, performing_next}
+use Rattle.mx_play.proofs.interpreter.perform.Goals as goal
+
+pub loop-count-init : goal.loop-count-init
+loop-count-init g c = performing_first g.C.Exclusion.core (letter_text g.C.Msg.Letter.parts) c.args.setting.now.plan.now c.args.order.now c.args.session.now (string_bytes c.args.text.now)
+
+pub apply-requires : goal.apply-requires
+apply-requires g c =
+    let allowed = subst (λ (s : SessionState g.row.C.Denot g.row.C-Msg.Denot). IfSome c.in_ok-next.next (IsAllowed s.state)) c.session.view_is c.in_ok-next.ensures.allowed in
+    (search rules, subst (λ (o : Option SessionEvent). IfSome o (IsAllowed c.loop-count.session.state)) c.in-Some.is allowed)
+
+pub loop-count-preserved : goal.loop-count-preserved
+loop-count-preserved g c =
+    let l = c.loop-count in
+    let e = c.in-Some.event in
+    let asked = subst (λ (s : SessionState g.row.C.Denot g.row.C-Msg.Denot). IsNext s.state.fates s.state.cluster.sent c.args.order.now l.count c.in_ok-next.next) c.session.view_is c.in_ok-next.ensures.next in
+    let next = subst (λ (o : Option SessionEvent). IsNext l.session.state.fates l.session.state.cluster.sent c.args.order.now l.count o) c.in-Some.is asked in
+    let may = subst (λ (s : SessionState g.row.C.Denot g.row.C-Msg.Denot). IfSome c.in_ok-next.next (IsAllowed s.state)) c.session.view_is c.in_ok-next.ensures.allowed in
+    let allowed = subst (λ (o : Option SessionEvent). IfSome o (IsAllowed l.session.state)) c.in-Some.is may in
+    performing_next g.C.Exclusion.core (letter_text g.C.Msg.Letter.parts) c.args.setting.now.plan.now c.args.order.now l.count e c.args.session.now l.session c.apply.new.session
+    (string_bytes c.args.text.now) (string_bytes l.text) (string_bytes c.apply.new.text) l.invariant next allowed c.in_ok-apply-in-Some.ensures.ok
+
+pub returns-in-None-clause-ok : goal.returns-in-None-clause-ok
+returns-in-None-clause-ok g c =
+    let l = c.loop-count in
+    let asked = subst (λ (s : SessionState g.row.C.Denot g.row.C-Msg.Denot). IsNext s.state.fates s.state.cluster.sent c.args.order.now l.count c.in_ok-next.next) c.session.view_is c.in_ok-next.ensures.next in
+    let next = subst (λ (o : Option SessionEvent). IsNext l.session.state.fates l.session.state.cluster.sent c.args.order.now l.count o) c.in-None.is asked in
+    performing_end g.C.Exclusion.core (letter_text g.C.Msg.Letter.parts) c.args.setting.now.plan.now c.args.order.now l.count c.args.session.now l.session
+    (string_bytes c.args.text.now) (string_bytes l.text) l.invariant next
+
+pub returns-in_err-next-clause-err : goal.returns-in_err-next-clause-err
+returns-in_err-next-clause-err g c =
+    let l = c.loop-count in
+    on_err _ _ (adds_extends g.C.Exclusion.core (letter_text g.C.Msg.Letter.parts) c.args.setting.now.plan.now l.invariant.before c.args.session.now l.session (string_bytes c.args.text.now) (string_bytes l.text) l.invariant.adds)
+
+pub returns-in_err-apply-in-Some-clause-err : goal.returns-in_err-apply-in-Some-clause-err
+returns-in_err-apply-in-Some-clause-err g c =
+    let l = c.loop-count in
+    on_err _ _ (extends_more c.args.session.now l.session c.apply.new.session
+    (adds_extends g.C.Exclusion.core (letter_text g.C.Msg.Letter.parts) c.args.setting.now.plan.now l.invariant.before c.args.session.now l.session (string_bytes c.args.text.now) (string_bytes l.text) l.invariant.adds)
+    c.in_err-apply-in-Some.ensures.err)
+
+pub returns-clause-err : goal.returns-clause-err
+returns-clause-err g c =
+    let l = c.loop-count in
+    adds_extends g.C.Exclusion.core (letter_text g.C.Msg.Letter.parts) c.args.setting.now.plan.now l.invariant.before c.args.session.now l.session (string_bytes c.args.text.now) (string_bytes l.text) l.invariant.adds

@@ -1,4 +1,0 @@
-use Rattle.mx_play.proofs.moment.Moment.oldest_between.Goals as goal
-
-pub returns-clause-some : goal.returns-clause-some
-returns-clause-some g c = rw (← c.self.view_is) c.oldest_between.ensures.some

@@ -1,0 +1,20 @@
+use Rattle.std.proofs.Common.{◌∙◌, ◌++◌, ap, string_bytes}
+use Rattle.mx_network.specs.Step.{ClusterState}
+use Rattle.mx_format.specs.LetterTexts.{letter_text}
+use Rattle.mx_scripts.specs.Fates.{Fates}
+use Rattle.mx_play.specs.Cuts.{cut_lines}
+use Rattle.mx_play.specs.Views.{standing_lines, waiting_lines}
+use Rattle.mx_play.proofs.ViewLemmas.{three_shown}
+use Rattle.mx_play.proofs.views.show.Goals as goal
+
+pub returns : goal.returns
+returns g c =
+    let p = c.args.setting.now.plan.now in
+    let to = c.args.to.now in
+    let m = c.args.state.now in
+    let t = string_bytes c.args.text.now in
+    let t1 = string_bytes c.add_standing.new.text in
+    three_shown c.add_waiting.result t t1 (string_bytes c.add_cuts.new.text) (string_bytes c.add_waiting.new.text)
+    (standing_lines g.C.Exclusion.core g.C.Knowledge.knows p to m.cluster) (cut_lines p to m.fates.links) (waiting_lines g.C.Exclusion.core (letter_text g.C.Msg.Letter.parts) p to m)
+    (c.in_ok-add_standing.ensures ∙ ap (λ (k : ClusterState g.row.C.Denot g.row.C-Msg.Denot). t ++ standing_lines g.C.Exclusion.core g.C.Knowledge.knows p to k) c.cluster.ensures)
+    (c.in_ok-add_cuts.ensures ∙ ap (λ (f : Fates). t1 ++ cut_lines p to f.links) c.in_flight.ensures) c.add_waiting.ensures

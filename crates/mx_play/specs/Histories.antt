@@ -1,0 +1,45 @@
+-- What happens to a cluster and its parcels, one event after another, and what is printed of it.
+use Rattle.std.specs.Prelude.{◌≡◌, List, [], ◌∷◌, ◌++◌, length}
+use Rattle.mx_nodelaws.specs.Core.{Core}
+use Rattle.mx_events.specs.declared.event.Event.{Event}
+use Rattle.mx_plan.specs.Text.{Text}
+use Rattle.mx_plan.specs.Fields.{Fields}
+use Rattle.mx_commands.specs.Runs.{at_rest, text_of}
+use Rattle.mx_scripts.specs.States.{Brings, IsAllowed, RunState, before_any}
+use Rattle.mx_scripts.specs.declared.session_event.SessionEvent.{SessionEvent}
+use Rattle.mx_scripts.specs.declared.session_event.SessionEvent.TheVariants.{Happens, IsLost, LinksChange}
+
+-- the cluster of a plan, at rest, before any parcel was sent
+abbrev pub first_state : {H S M : Type 0} → Core H S M → Fields → H → RunState S M
+first_state core p shape = before_any (at_rest core p shape)
+
+-- the events of the cluster among these
+abbrev pub events_in : List SessionEvent → List Event
+events_in [] = []
+events_in (Happens e ∷ es) = e ∷ events_in es
+events_in (IsLost k ∷ es) = events_in es
+events_in (LinksChange change ∷ es) = events_in es
+
+module _ {H S M : Type 0} (core : Core H S M) where
+  -- these happen, one after another, each in a state that allows it
+  abbrev pub Leads : RunState S M → List SessionEvent → RunState S M → Type 0
+  Leads old [] new = new ≡ old
+  Leads old (e ∷ es) new =
+      (mid : RunState S M) × IsAllowed old e × Brings core old e mid × Leads mid es new
+
+  -- they can happen
+  abbrev pub CanLead : RunState S M → List SessionEvent → Type 0
+  CanLead old es = (new : RunState S M) × Leads old es new
+
+  module _ (letter_text : Fields → M → Text) (p : Fields) where
+    -- what `replay` prints of the events and parcels that are new
+    abbrev pub new_text : RunState S M → RunState S M → Text
+    new_text old new =
+        text_of core letter_text p (length old.cluster.trace) old.cluster new.cluster
+
+    -- these happen, one after another, and that is printed of them
+    abbrev pub Makes : RunState S M → List SessionEvent → RunState S M → Text → Type 0
+    Makes old [] new text = (new ≡ old) × (text ≡ [])
+    Makes old (e ∷ es) new text =
+        (mid : RunState S M) × (rest : Text) × IsAllowed old e × Brings core old e mid
+        × (text ≡ new_text old mid ++ rest) × Makes mid es new rest

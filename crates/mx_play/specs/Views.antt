@@ -1,0 +1,48 @@
+-- What is shown of a session.
+use Rattle.std.specs.Prelude.{ℕ, ◌&&◌, List, [], ◌++◌, Option, Some, None, codes, slice_get, if◌then◌else◌}
+use Rattle.std.specs.Option.{option_map_or}
+use Rattle.mx_nodelaws.specs.Core.{Core}
+use Rattle.mx_member.specs.Member.{MemberState}
+use Rattle.mx_member.specs.declared.parcel.Parcel.{Parcel}
+use Rattle.mx_network.specs.Step.{ClusterState}
+use Rattle.mx_plan.specs.Text.{Text, line_feed}
+use Rattle.mx_plan.specs.Fields.{Fields}
+use Rattle.mx_format.specs.Lines.{texts_from}
+use Rattle.mx_knowledge.specs.Facts.{Known}
+use Rattle.mx_format.specs.FactTexts.{facts_line}
+use Rattle.mx_format.specs.NodeTexts.{member_line}
+use Rattle.mx_format.specs.ParcelTexts.{parcel_line}
+use Rattle.mx_scripts.specs.Fates.{is_under_way}
+use Rattle.mx_scripts.specs.States.{RunState}
+use Rattle.mx_play.specs.Cuts.{cut_lines, is_to}
+
+module _ {H S M : Type 0} (core : Core H S M) (knows : S → List Known) (p : Fields) where
+  -- the line of a node, and that of what it knows
+  abbrev pub node_shown : ℕ → MemberState S → Text
+  node_shown i m = member_line core p i m ++ facts_line p (knows m.core)
+
+  -- those of the node that is named, or of each
+  abbrev pub standing_lines : Option ℕ → ClusterState S M → Text
+  standing_lines None g = texts_from node_shown 0 g.members
+  standing_lines (Some node) g = option_map_or (node_shown node) (slice_get g.members node) []
+
+module _ {H S M : Type 0} (core : Core H S M) (letter_text : Fields → M → Text) (p : Fields) where
+  -- the line of a parcel, if it is under way to the node that is named
+  abbrev pub waiting_line : Option ℕ → RunState S M → ℕ → ℕ × ℕ × Parcel M → Text
+  waiting_line to s k parcel =
+      if is_under_way s.fates k && is_to to parcel.1 then parcel_line letter_text p k parcel
+      else []
+
+  -- the lines of the parcels under way, the oldest first
+  abbrev pub waiting_lines : Option ℕ → RunState S M → Text
+  waiting_lines to s = texts_from (waiting_line to s) 0 s.cluster.sent
+
+  -- the nodes, or the one that is named, the links that are cut, and the parcels under way
+  abbrev pub view_text : (S → List Known) → Option ℕ → RunState S M → Text
+  view_text knows to s =
+      standing_lines core knows p to s.cluster ++ cut_lines p to s.fates.links
+      ++ waiting_lines to s
+
+-- the line that a mark prints
+abbrev pub mark_line : Text → Text
+mark_line word = codes "mark " ++ word ++ line_feed

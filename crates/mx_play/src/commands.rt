@@ -1,0 +1,183 @@
+//! What the commands of a session do.
+
+ghost use Rattle.std.specs.Prelude.{◌≡◌, ◌∷◌, ◌++◌, [], IfOk, OnOk, length, string_bytes};
+ghost use Rattle.std.specs.Str.{IsUtf8};
+ghost use Rattle.mx_format.specs.LetterTexts.{letter_text};
+ghost use Rattle.mx_play.specs.Commands.{IsSecondWord, IsOverPlan, second_of};
+ghost use Rattle.mx_play.specs.Sessions.{IsSession};
+ghost use Rattle.mx_play.specs.Turns.{HasDone, HasExecuted};
+ghost use Rattle.mx_play.specs.Views.{mark_line, view_text};
+ghost use Rattle.mx_scripts.specs.Files.{file_text};
+ghost use Rattle.mx_scripts.specs.Played.{events_of};
+ghost use Rattle.mx_lines.specs.Names.{texts_of};
+ghost use Rattle.mx_scripts.specs.Scripts.{IsOver};
+
+use crate::faults::InputFault;
+use crate::help::add_words;
+use crate::interpreter::repeat;
+use crate::session::{Session, Setting};
+use crate::undo::{event_count, redo_lines, truncate, undo_lines};
+use crate::views::{add_events, show};
+use mx_format::Letter;
+use mx_knowledge::Knowledge;
+use mx_lines::{Line, SessionCommand, words_in};
+use mx_nodelaws::Exclusion;
+use mx_scripts::LineFailure;
+use mx_stamps::NodeId;
+use std::alloc::{AllocError, Global};
+use std::str;
+
+/// Executes the command of a line, and appends what it prints. Returns why nothing is done, if
+/// nothing is; then nothing changes, and nothing is printed.
+pub(crate) fn execute<C: Exclusion + Knowledge>(
+    setting: &Setting<'_, C>,
+    command: &SessionCommand,
+    line: &[u8],
+    session: &mut Session<C>,
+    text: &mut String,
+) -> Result<Option<InputFault>, AllocError>
+where
+    C::Msg: Letter,
+    requires is { IsSession C.core setting.now.plan.now setting.now.shape.now session.old }
+    requires over { IsOverPlan setting.now.plan.now command.now }
+    requires empty { string_bytes text.old ≡ [] }
+    ensures executed { IfOk result (λ fault. HasExecuted C.core (letter_text C.Msg.parts) C.knows
+        setting.now.plan.now setting.now.shape.now fault command.now line.now
+        session.old session.new (string_bytes text.new)) }
+    ensures is { IfOk result (λ _.
+        IsSession C.core setting.now.plan.now setting.now.shape.now session.new) }
+{
+    match command {
+        SessionCommand::Does(line) => do_line(setting, line, session, text),
+        SessionCommand::Undo(count) => undo_lines(setting, *count, session),
+        SessionCommand::Redo => redo_lines(setting, session),
+        SessionCommand::Show(to) => {
+            show_session(setting, to, session, text)?;
+            Ok(None)
+        }
+        SessionCommand::Events => {
+            list_session(setting, session, text)?;
+            Ok(None)
+        }
+        SessionCommand::Mark => {
+            add_mark(second_word(setting.alloc, line)?, text)?;
+            Ok(None)
+        }
+        SessionCommand::Help => {
+            add_words(text)?;
+            Ok(None)
+        }
+        SessionCommand::End | SessionCommand::Nothing => Ok(None),
+    }
+}
+
+/// Does a line of a script, and appends its events; or nothing changes.
+fn do_line<C: Exclusion>(
+    setting: &Setting<'_, C>,
+    line: &Line,
+    session: &mut Session<C>,
+    text: &mut String,
+) -> Result<Option<InputFault>, AllocError>
+where
+    C::Msg: Letter,
+    requires is { IsSession C.core setting.now.plan.now setting.now.shape.now session.old }
+    requires over { IsOver (length setting.now.plan.now.nodes)
+        (length setting.now.plan.now.registers) line.now.order }
+    requires empty { string_bytes text.old ≡ [] }
+    ensures done { IfOk result (λ fault. HasDone C.core (letter_text C.Msg.parts)
+        setting.now.plan.now fault line.now session.old session.new (string_bytes text.new)) }
+    ensures is { IfOk result (λ _.
+        IsSession C.core setting.now.plan.now setting.now.shape.now session.new) }
+{
+    let before = event_count(session);
+    match repeat(setting, line, session, text) {
+        Ok(()) => {
+            commit(before, session)?;
+            Ok(None)
+        }
+        Err(LineFailure::Memory) => Err(AllocError),
+        Err(failure) => {
+            truncate(setting, before, session)?;
+            text.clear();
+            Ok(Some(InputFault::Line(failure)))
+        }
+    }
+}
+
+/// A line is done, before which this much had happened: it can be undone, and nothing redone.
+fn commit<C: Exclusion>(before: usize, session: &mut Session<C>) -> Result<(), AllocError>
+    ensures state { session.new.state ≡ session.old.state }
+    ensures done { session.new.done ≡ session.old.done }
+    ensures marks { OnOk result (session.new.marks ≡ session.old.marks ++ before ∷ []) }
+    ensures undone { OnOk result (session.new.undone ≡ []) }
+{
+    session.marks.push(before)?;
+    session.undone.clear();
+    Ok(())
+}
+
+/// Appends what `show` prints.
+fn show_session<C: Exclusion + Knowledge>(
+    setting: &Setting<'_, C>,
+    to: &Option<NodeId>,
+    session: &Session<C>,
+    text: &mut String,
+) -> Result<(), AllocError>
+where
+    C::Msg: Letter,
+    requires members { length session.now.state.cluster.members ≡ length setting.now.plan.now.nodes }
+    ensures { OnOk result (string_bytes text.new ≡ string_bytes text.old
+        ++ view_text C.core (letter_text C.Msg.parts) setting.now.plan.now C.knows to.now
+        session.now.state) }
+{
+    show(setting, to, &session.state, text)
+}
+
+/// Appends the events as a file.
+fn list_session<C: Exclusion>(
+    setting: &Setting<'_, C>,
+    session: &Session<C>,
+    text: &mut String,
+) -> Result<(), AllocError>
+    ensures { OnOk result (string_bytes text.new ≡ string_bytes text.old
+        ++ file_text setting.now.plan.now (events_of session.now.state.cluster.trace)) }
+{
+    add_events(setting.plan, &session.state, text)
+}
+
+/// Appends the line of a mark.
+fn add_mark(word: &str, text: &mut String) -> Result<(), AllocError>
+    ensures { OnOk result (string_bytes text.new ≡ string_bytes text.old ++ mark_line word.now) }
+{
+    text.push_str("mark ")?;
+    text.push_str(word)?;
+    text.push_str("\n")
+}
+
+/// The second word of a line; nothing if it has fewer, or is not in UTF-8.
+fn second_word(alloc: Global, line: &[u8]) -> Result<&str, AllocError>
+    ensures { IfOk result (λ word. IsUtf8 line.now → IsSecondWord line.now word.now) }
+{
+    match str::from_utf8(line) {
+        Ok(text) => second_in(alloc, text),
+        Err(_) => Ok(""),
+    }
+}
+
+/// The second word of a text; nothing if it has fewer.
+fn second_in(alloc: Global, text: &str) -> Result<&str, AllocError>
+    ensures { IfOk result (λ word. IsSecondWord text.now word.now) }
+{
+    let words = words_in(alloc, text)?;
+    Ok(second_of(words.as_slice()))
+}
+
+/// The second of these words; nothing if there are fewer.
+fn second_of<'a>(words: &[&'a str]) -> &'a str
+    ensures { result.now ≡ second_of (texts_of words.now) }
+{
+    match words.get(1) {
+        Some(word) => word,
+        None => "",
+    }
+}

@@ -1,0 +1,113 @@
+//! The texts of events and parcels that are new.
+
+ghost use Rattle.std.specs.Prelude.{◌≡◌, ◌+◌, ◌<◌, ◌≤◌, ◌++◌, drop, length, string_bytes, OnOk};
+ghost use Rattle.mx_format.specs.LetterTexts.{letter_text};
+ghost use Rattle.mx_format.specs.ParcelTexts.{parcel_lines};
+ghost use Rattle.mx_commands.specs.Runs.{event_lines};
+
+use mx_format::{EventLine, Letter, add_parcel_line};
+use mx_network::{Cluster, Entry};
+use mx_nodelaws::Exclusion;
+use mx_plan::Plan;
+use std::alloc::AllocError;
+
+/// Appends the lines of the events from one number on, and then those of the parcels from another.
+pub(crate) fn add_new<C: Exclusion>(
+    plan: &Plan,
+    cluster: &Cluster<C>,
+    event: usize,
+    parcel: u64,
+    text: &mut String,
+) -> Result<(), AllocError>
+where
+    C::Msg: Letter,
+    requires events { event ≤ length cluster.now.trace }
+    requires parcels { parcel ≤ length cluster.now.sent }
+    ensures { OnOk result (string_bytes text.new ≡ string_bytes text.old
+        ++ (event_lines plan.now event (drop event cluster.now.trace)
+        ++ parcel_lines (letter_text C.Msg.parts) plan.now parcel (drop parcel cluster.now.sent))) }
+{
+    add_events(plan, cluster.trace(), event, text)?;
+    add_parcels(plan, cluster, parcel, text)
+}
+
+/// Appends the lines of the events from this number on.
+fn add_events(
+    plan: &Plan,
+    trace: &[Entry],
+    first: usize,
+    text: &mut String,
+) -> Result<(), AllocError>
+    requires { first ≤ length trace.now }
+    ensures { OnOk result (string_bytes text.new ≡ string_bytes text.old
+        ++ event_lines plan.now first (drop first trace.now)) }
+{
+    for index in first..trace.len() {
+        add_event(plan, trace, index, text)?;
+    }
+    Ok(())
+}
+
+/// Appends the line of the event of this number.
+fn add_event(
+    plan: &Plan,
+    trace: &[Entry],
+    index: usize,
+    text: &mut String,
+) -> Result<(), AllocError>
+    requires { index < length trace.now }
+    ensures { OnOk result (string_bytes text.old
+        ++ event_lines plan.now index (drop index trace.now)
+        ≡ string_bytes text.new ++ event_lines plan.now (index + 1) (drop (index + 1) trace.now)) }
+{
+    match trace.get(index) {
+        Some(entry) => text.write(EventLine {
+            plan,
+            index: index as u64,
+            event: &entry.event,
+            outcome: &entry.outcome,
+        }),
+        None => unreachable!(),
+    }
+}
+
+/// Appends the lines of the parcels from this number on.
+fn add_parcels<C: Exclusion>(
+    plan: &Plan,
+    cluster: &Cluster<C>,
+    first: u64,
+    text: &mut String,
+) -> Result<(), AllocError>
+where
+    C::Msg: Letter,
+    requires { first ≤ length cluster.now.sent }
+    ensures { OnOk result (string_bytes text.new ≡ string_bytes text.old
+        ++ parcel_lines (letter_text C.Msg.parts) plan.now first (drop first cluster.now.sent)) }
+{
+    for number in first..cluster.sent() {
+        add_parcel(plan, cluster, number, text)?;
+    }
+    Ok(())
+}
+
+/// Appends the line of the parcel of this number.
+fn add_parcel<C: Exclusion>(
+    plan: &Plan,
+    cluster: &Cluster<C>,
+    number: u64,
+    text: &mut String,
+) -> Result<(), AllocError>
+where
+    C::Msg: Letter,
+    requires { number < length cluster.now.sent }
+    ensures { OnOk result (string_bytes text.old
+        ++ parcel_lines (letter_text C.Msg.parts) plan.now number (drop number cluster.now.sent)
+        ≡ string_bytes text.new
+        ++ parcel_lines (letter_text C.Msg.parts) plan.now (number + 1)
+        (drop (number + 1) cluster.now.sent)) }
+{
+    match cluster.sent_parcel(number) {
+        Some(sent) => add_parcel_line(plan, number, &sent, text),
+        None => unreachable!(),
+    }
+}

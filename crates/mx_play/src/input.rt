@@ -1,0 +1,84 @@
+//! What the lines of a session ask for.
+
+ghost use Rattle.std.specs.Prelude.{IfOk};
+ghost use Rattle.mx_play.specs.Commands.{IsInput};
+
+use crate::faults::InputFault;
+use crate::lines::{LineRead, Lines};
+use mx_cli::{CommandError, Fault, Named};
+use mx_io::{Output, OutputFault};
+use mx_lines::{SessionCommand, read_command, words_in};
+use mx_plan::Plan;
+use mx_scripts::LineFailure;
+use std::alloc::{AllocError, Global};
+use std::str;
+
+/// What a line asks for.
+#[derive(Clone, Copy)]
+pub(crate) enum Input {
+    Command(SessionCommand),
+    Fault(InputFault),
+    /// There are no more lines.
+    Eof,
+}
+
+/// Prompts for a line if lines are typed, and reads it into the place of the one before.
+pub(crate) fn read_input<L: Lines, E: Output>(
+    alloc: Global,
+    plan: &Plan,
+    lines: &mut L,
+    line: &mut Vec<u8>,
+    err: &mut E,
+) -> Result<Input, CommandError>
+    ensures { IfOk result (IsInput plan.now) }
+{
+    if lines.are_typed() {
+        prompt(err)?;
+    }
+    match lines.next(line)? {
+        LineRead::Line => Ok(input_in(alloc, plan, line.as_slice())?),
+        LineRead::TooLong => Ok(Input::Fault(InputFault::TooLong)),
+        LineRead::End => Ok(Input::Eof),
+        LineRead::Unreadable => Err(CommandError::Fault(Fault::CannotRead(Named::Events))),
+    }
+}
+
+/// Prints what helps if lines are typed.
+pub(crate) fn greet<L: Lines, E: Output>(lines: &L, err: &mut E) -> Result<(), OutputFault> {
+    if lines.are_typed() {
+        err.put(b"help lists all lines, end ends the session\n")?;
+    }
+    Ok(())
+}
+
+/// Shows that a line may be typed.
+fn prompt<E: Output>(err: &mut E) -> Result<(), OutputFault> {
+    err.put(b"> ")?;
+    err.flush()
+}
+
+/// What a line asks for.
+fn input_in(alloc: Global, plan: &Plan, line: &[u8]) -> Result<Input, AllocError>
+    ensures { IfOk result (IsInput plan.now) }
+{
+    match str::from_utf8(line) {
+        Ok(text) => input_in_text(alloc, plan, text),
+        Err(_) => Ok(Input::Fault(InputFault::NotText)),
+    }
+}
+
+/// What a text asks for.
+fn input_in_text(alloc: Global, plan: &Plan, text: &str) -> Result<Input, AllocError>
+    ensures { IfOk result (IsInput plan.now) }
+{
+    let words = words_in(alloc, text)?;
+    match read_command(plan, words.as_slice()) {
+        Ok(command) => Ok(Input::Command(command)),
+        Err(error) => Ok(Input::Fault(InputFault::Line(LineFailure::WrongWord(error)))),
+    }
+}
+
+/// Whether a command ends the session.
+pub(crate) fn is_end(input: &Input) -> bool {
+    matches!(input, Input::Command(SessionCommand::End))
+}

@@ -1,0 +1,98 @@
+//! The files of a session: its plan, and a script whose lines come first.
+
+ghost use Rattle.std.specs.Prelude.{◌≡◌, IfOk, option_map};
+ghost use Rattle.mx_cli.specs.Reading.{is_dash};
+ghost use Rattle.mx_play.specs.PlayWords.{request_of};
+ghost use Rattle.mx_play.specs.Played.{IsLinePlan, IsPlanNamed, IsScriptOf, told_of_name, told_of_script};
+
+use crate::lines::{LineRead, Lines};
+use crate::words::Request;
+use mx_cli::{CommandError, Fault, Named, PlanAndText, fetch, fetch_plan, plan_in};
+use mx_io::Source;
+use mx_plan::Plan;
+use std::alloc::Global;
+
+/// Reads the plan, and the script if one is named.
+pub(crate) fn fetch_start<S: Source, L: Lines>(
+    alloc: Global,
+    request: &Request<'_>,
+    source: &mut S,
+    lines: &mut L,
+) -> Result<PlanAndText, CommandError>
+    ensures plan { IfOk result (λ start.
+        IsPlanNamed (S.told source.old) request.now.plan.now start.plan) }
+    ensures script { IfOk result (λ start. IsScriptOf
+        (told_of_script (S.told source.old) (request_of request.now).1) start.text.items) }
+{
+    let plan = plan_of(alloc, request.plan, source, lines)?;
+    let text = script_of(alloc, request.script, source)?;
+    Ok(PlanAndText { plan, text })
+}
+
+/// The plan of a name. If that is standard input, its first line is the plan.
+fn plan_of<S: Source, L: Lines>(
+    alloc: Global,
+    name: &str,
+    source: &mut S,
+    lines: &mut L,
+) -> Result<Plan, CommandError>
+    ensures named { IfOk result (IsPlanNamed (S.told source.old) name.now) }
+    ensures stays { S.told source.new ≡ S.told source.old }
+{
+    if is_dash(name) {
+        first_plan(alloc, lines)
+    } else {
+        fetch_plan(alloc, source, name)
+    }
+}
+
+/// The plan that the next line is.
+fn first_plan<L: Lines>(alloc: Global, lines: &mut L) -> Result<Plan, CommandError>
+    ensures { IfOk result IsLinePlan }
+{
+    let mut line = Vec::new(alloc);
+    match lines.next(&mut line)? {
+        LineRead::Line | LineRead::End => plan_in(alloc, line.as_slice()),
+        LineRead::TooLong | LineRead::Unreadable => Err(CommandError::Fault(Fault::CannotRead(
+            Named::Plan,
+        ))),
+    }
+}
+
+/// The script, if one is named.
+fn script_of<S: Source>(
+    alloc: Global,
+    name: Option<&str>,
+    source: &mut S,
+) -> Result<Vec<u8>, CommandError>
+    ensures { IfOk result (λ text. IsScriptOf (told_of_script (S.told source.old)
+        (option_map (λ name. name.now) name.entry)) text.items) }
+{
+    match name {
+        Some(name) => named_script(alloc, name, source),
+        None => Ok(Vec::new(alloc)),
+    }
+}
+
+/// The script of a name. Standard input has none, since its lines come anyway.
+fn named_script<S: Source>(
+    alloc: Global,
+    name: &str,
+    source: &mut S,
+) -> Result<Vec<u8>, CommandError>
+    ensures { IfOk result (λ text.
+        IsScriptOf (told_of_name (S.told source.old) name.now) text.items) }
+{
+    if is_dash(name) {
+        Ok(Vec::new(alloc))
+    } else {
+        fetch(alloc, source, name, Named::Events)
+    }
+}
+
+/// Whether it is the name of standard input, whose lines are those of the session.
+fn is_dash(name: &str) -> bool
+    ensures { result ≡ is_dash name.now }
+{
+    name == "-"
+}

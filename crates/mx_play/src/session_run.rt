@@ -1,0 +1,248 @@
+//! A run of a session: its lines are read, executed and printed, one after another.
+
+ghost use Rattle.std.specs.Prelude.{◌≡◌, ◌++◌, [], false, length, string_bytes, IfOk, OnOk};
+ghost use Rattle.std.specs.Io.KnownBytes.{Appends};
+ghost use Rattle.mx_format.specs.LetterTexts.{letter_text};
+ghost use Rattle.mx_commands.specs.Runs.{closing_text};
+ghost use Rattle.mx_play.specs.Commands.{IsInput};
+ghost use Rattle.mx_play.specs.Sessions.{IsSession, at_start};
+ghost use Rattle.mx_play.specs.Turns.{HasRun, HasTurned, IsPlayed, PrintsTurn};
+
+use crate::commands::execute;
+use crate::faults::{InputFault, InputFaultLine};
+use crate::input::{Input, greet, is_end, read_input};
+use crate::lines::{Lines, Listed};
+use crate::session::{Session, Setting};
+use crate::views::add_end;
+use mx_cli::{CommandError, Fault, Named, write_line};
+use mx_format::Letter;
+use mx_io::Output;
+use mx_knowledge::Knowledge;
+use mx_nodelaws::Exclusion;
+use std::alloc::AllocError;
+
+/// Runs a session before any line: the lines of a script, and then those that come. Returns the
+/// status.
+pub(crate) fn run_session<C: Exclusion + Knowledge, L: Lines, O: Output, E: Output>(
+    setting: &Setting<'_, C>,
+    script: &[u8],
+    lines: &mut L,
+    session: &mut Session<C>,
+    out: &mut O,
+    err: &mut E,
+) -> Result<u8, CommandError>
+where
+    C::Msg: Letter,
+    requires count { C.core.count setting.now.shape.now ≡ length setting.now.plan.now.nodes }
+    requires start { session.old
+        ≡ at_start C.core setting.now.plan.now setting.now.shape.now }
+    ensures played { IfOk result (λ _. IsPlayed C.core (letter_text C.Msg.parts) C.knows
+        setting.now.plan.now setting.now.shape.now (O.written out.old) (O.written out.new)) }
+    ensures zero { IfOk result (λ status. status ≡ 0) }
+{
+    let mut listed = Listed { rest: script };
+    let next = run_lines(setting, 1, &mut listed, session, out, err)?;
+    run_rest(setting, next, lines, session, out, err)?;
+    finish(setting, session, out)
+}
+
+/// Runs the lines that come, the first of which has this number, unless the session has ended.
+fn run_rest<C: Exclusion + Knowledge, L: Lines, O: Output, E: Output>(
+    setting: &Setting<'_, C>,
+    next: Option<u64>,
+    lines: &mut L,
+    session: &mut Session<C>,
+    out: &mut O,
+    err: &mut E,
+) -> Result<(), CommandError>
+where
+    C::Msg: Letter,
+    requires { IsSession C.core setting.now.plan.now setting.now.shape.now session.old }
+    ensures run { OnOk result (HasRun C.core (letter_text C.Msg.parts) C.knows
+        setting.now.plan.now setting.now.shape.now session.old session.new
+        (O.written out.old) (O.written out.new)) }
+    ensures is { OnOk result
+        (IsSession C.core setting.now.plan.now setting.now.shape.now session.new) }
+{
+    match next {
+        Some(number) => {
+            greet(lines, err)?;
+            run_lines(setting, number, lines, session, out, err)?;
+            Ok(())
+        }
+        None => Ok(()),
+    }
+}
+
+/// Runs lines, the first of which has this number, until there are no more, or one ends the
+/// session. Returns the number of the next line if the session goes on.
+fn run_lines<C: Exclusion + Knowledge, L: Lines, O: Output, E: Output>(
+    setting: &Setting<'_, C>,
+    first: u64,
+    lines: &mut L,
+    session: &mut Session<C>,
+    out: &mut O,
+    err: &mut E,
+) -> Result<Option<u64>, CommandError>
+where
+    C::Msg: Letter,
+    requires { IsSession C.core setting.now.plan.now setting.now.shape.now session.old }
+    ensures run { IfOk result (λ _. HasRun C.core (letter_text C.Msg.parts) C.knows
+        setting.now.plan.now setting.now.shape.now session.old session.new
+        (O.written out.old) (O.written out.new)) }
+    ensures is { IfOk result (λ _.
+        IsSession C.core setting.now.plan.now setting.now.shape.now session.new) }
+{
+    let mut line = Vec::new(setting.alloc);
+    for number in first..u64::MAX {
+        let input = read_input(setting.alloc, setting.plan, lines, &mut line, err)?;
+        if let Input::Eof = input {
+            return Ok(Some(number));
+        }
+        turn(setting, number, &input, line.as_slice(), session, out, err)?;
+        if is_end(&input) {
+            return Ok(None);
+        }
+    }
+    Err(CommandError::Fault(Fault::CannotRead(Named::Events)))
+}
+
+/// Executes the input of the line of this number, and reports what is wrong with it.
+fn turn<C: Exclusion + Knowledge, O: Output, E: Output>(
+    setting: &Setting<'_, C>,
+    number: u64,
+    input: &Input,
+    line: &[u8],
+    session: &mut Session<C>,
+    out: &mut O,
+    err: &mut E,
+) -> Result<(), CommandError>
+where
+    C::Msg: Letter,
+    requires is { IsSession C.core setting.now.plan.now setting.now.shape.now session.old }
+    requires input { IsInput setting.now.plan.now input.now }
+    ensures turned { OnOk result (PrintsTurn C.core (letter_text C.Msg.parts) C.knows
+        setting.now.plan.now setting.now.shape.now input.now line.now session.old session.new
+        (O.written out.old) (O.written out.new)) }
+    ensures is { OnOk result
+        (IsSession C.core setting.now.plan.now setting.now.shape.now session.new) }
+    ensures passed { OnOk result (O.keeps_back out.new ≡ false) }
+{
+    let fault = execute_and_print(setting, input, line, session, out)?;
+    report(setting, number, &fault, line, err)
+}
+
+/// Executes an input, prints the result, and passes it on before anything else is read.
+fn execute_and_print<C: Exclusion + Knowledge, O: Output>(
+    setting: &Setting<'_, C>,
+    input: &Input,
+    line: &[u8],
+    session: &mut Session<C>,
+    out: &mut O,
+) -> Result<Option<InputFault>, CommandError>
+where
+    C::Msg: Letter,
+    requires is { IsSession C.core setting.now.plan.now setting.now.shape.now session.old }
+    requires input { IsInput setting.now.plan.now input.now }
+    ensures turned { IfOk result (λ _. PrintsTurn C.core (letter_text C.Msg.parts) C.knows
+        setting.now.plan.now setting.now.shape.now input.now line.now session.old session.new
+        (O.written out.old) (O.written out.new)) }
+    ensures is { IfOk result (λ _.
+        IsSession C.core setting.now.plan.now setting.now.shape.now session.new) }
+    ensures passed { IfOk result (λ _. O.keeps_back out.new ≡ false) }
+{
+    let mut text = String::new(setting.alloc);
+    let fault = execute_input(setting, input, line, session, &mut text)?;
+    print(text.as_str(), out)?;
+    Ok(fault)
+}
+
+/// Executes an input, and appends what it prints.
+fn execute_input<C: Exclusion + Knowledge>(
+    setting: &Setting<'_, C>,
+    input: &Input,
+    line: &[u8],
+    session: &mut Session<C>,
+    text: &mut String,
+) -> Result<Option<InputFault>, AllocError>
+where
+    C::Msg: Letter,
+    requires is { IsSession C.core setting.now.plan.now setting.now.shape.now session.old }
+    requires input { IsInput setting.now.plan.now input.now }
+    requires empty { string_bytes text.old ≡ [] }
+    ensures turned { IfOk result (λ _. HasTurned C.core (letter_text C.Msg.parts) C.knows
+        setting.now.plan.now setting.now.shape.now input.now line.now session.old session.new
+        (string_bytes text.new)) }
+    ensures is { IfOk result (λ _.
+        IsSession C.core setting.now.plan.now setting.now.shape.now session.new) }
+{
+    match input {
+        Input::Command(command) => execute(setting, command, line, session, text),
+        Input::Fault(fault) => Ok(Some(*fault)),
+        Input::Eof => Ok(None),
+    }
+}
+
+/// Prints a text, and passes it on.
+fn print<O: Output>(text: &str, out: &mut O) -> Result<(), CommandError>
+    ensures printed { OnOk result (Appends (O.written out.old) (O.written out.new) text.now) }
+    ensures passed { OnOk result (O.keeps_back out.new ≡ false) }
+{
+    out.put(text.as_bytes())?;
+    out.flush()?;
+    Ok(())
+}
+
+/// Reports what is wrong with the line of this number, if something is.
+fn report<C: Exclusion, E: Output>(
+    setting: &Setting<'_, C>,
+    number: u64,
+    fault: &Option<InputFault>,
+    line: &[u8],
+    err: &mut E,
+) -> Result<(), CommandError> {
+    let Some(fault) = fault else {
+        return Ok(());
+    };
+    let message = InputFaultLine::of(setting.alloc, setting.plan, number, *fault, line)?;
+    write_line(setting.alloc, err, message)?;
+    err.flush()?;
+    Ok(())
+}
+
+/// Prints the closing lines and the verdict. Returns the status.
+fn finish<C: Exclusion, O: Output>(
+    setting: &Setting<'_, C>,
+    session: &Session<C>,
+    out: &mut O,
+) -> Result<u8, CommandError>
+where
+    C::Msg: Letter,
+    requires members { length session.now.state.cluster.members ≡ length setting.now.plan.now.nodes }
+    ensures closes { IfOk result (λ _. Appends (O.written out.old) (O.written out.new)
+        (closing_text C.core (letter_text C.Msg.parts) setting.now.plan.now
+        session.now.state.cluster)) }
+    ensures zero { IfOk result (λ status. status ≡ 0) }
+{
+    let mut text = String::new(setting.alloc);
+    let status = end_session(setting, session, &mut text)?;
+    out.put(text.as_bytes())?;
+    Ok(status)
+}
+
+/// Appends the closing lines and the verdict. Returns the status.
+fn end_session<C: Exclusion>(
+    setting: &Setting<'_, C>,
+    session: &Session<C>,
+    text: &mut String,
+) -> Result<u8, AllocError>
+where
+    C::Msg: Letter,
+    requires members { length session.now.state.cluster.members ≡ length setting.now.plan.now.nodes }
+    ensures text { OnOk result (string_bytes text.new ≡ string_bytes text.old
+        ++ closing_text C.core (letter_text C.Msg.parts) setting.now.plan.now
+        session.now.state.cluster) }
+    ensures zero { IfOk result (λ status. status ≡ 0) }
+{
+    add_end(setting.plan, &session.state, text)
+}

@@ -1,0 +1,49 @@
+//! A session in the cluster of a plan, by the plan's algorithm.
+
+ghost use Rattle.std.specs.Prelude.{◌≡◌, IfOk};
+ghost use Rattle.mx_play.specs.Played.{IsPlayedBy};
+
+use crate::lines::Lines;
+use crate::session::{Setting, first_session};
+use crate::session_run::run_session;
+use mx_cli::{CommandError, PlanAndText};
+use mx_io::Output;
+use mx_maekawa::Maekawa;
+use mx_plan::Shape;
+use mx_raymond::Raymond;
+use mx_ricart::Ricart;
+use std::alloc::Global;
+
+/// Runs a session by the plan's algorithm: the lines of a script, and then those that come. Returns
+/// the status.
+pub(crate) fn run_by_plan<L: Lines, O: Output, E: Output>(
+    alloc: Global,
+    start: &PlanAndText,
+    lines: &mut L,
+    out: &mut O,
+    err: &mut E,
+) -> Result<u8, CommandError>
+    ensures played { IfOk result (λ _. IsPlayedBy start.now.plan
+        (O.written out.old) (O.written out.new) start.now.plan.shape) }
+    ensures zero { IfOk result (λ status. status ≡ 0) }
+{
+    let plan = &start.plan;
+    let script = start.text.as_slice();
+    match plan.shape() {
+        Shape::Ricart(shape) => {
+            let setting = Setting::<Ricart> { alloc, plan, shape };
+            let mut session = first_session(&setting)?;
+            run_session(&setting, script, lines, &mut session, out, err)
+        }
+        Shape::Maekawa(shape) => {
+            let setting = Setting::<Maekawa> { alloc, plan, shape };
+            let mut session = first_session(&setting)?;
+            run_session(&setting, script, lines, &mut session, out, err)
+        }
+        Shape::Raymond(shape) => {
+            let setting = Setting::<Raymond> { alloc, plan, shape };
+            let mut session = first_session(&setting)?;
+            run_session(&setting, script, lines, &mut session, out, err)
+        }
+    }
+}

@@ -1,0 +1,221 @@
+//! What is undone, and what is redone.
+
+ghost use Rattle.std.specs.Prelude.{◌≡◌, ◌∷◌, ◌++◌, [], IfNone, IfOk, IfSome, OnOk, drop, length, slice_index_or, take};
+ghost use Rattle.mx_format.specs.LetterTexts.{letter_text};
+ghost use Rattle.mx_play.specs.Histories.{CanLead, Leads, first_state};
+ghost use Rattle.mx_play.specs.Sessions.{IsSession};
+ghost use Rattle.mx_play.specs.Turns.{HasRedone, HasUndone};
+
+use crate::faults::InputFault;
+use crate::session::{Session, Setting, first_state};
+use mx_format::Letter;
+use mx_knowledge::Knowledge;
+use mx_nodelaws::Exclusion;
+use mx_scripts::{SessionEvent, State};
+use std::alloc::{AllocError, Global};
+
+/// What was undone at once.
+#[derive(Drop)]
+pub(crate) struct Undone {
+    /// What happened, in order.
+    pub(crate) done: Vec<SessionEvent>,
+    /// For each line, how much had happened before it.
+    pub(crate) marks: Vec<usize>,
+}
+
+/// Undoes this many lines, the last ones that were done. Nothing changes if there are fewer.
+pub(crate) fn undo_lines<C: Exclusion>(
+    setting: &Setting<'_, C>,
+    count: u64,
+    session: &mut Session<C>,
+) -> Result<Option<InputFault>, AllocError>
+    requires { IsSession C.core setting.now.plan.now setting.now.shape.now session.old }
+    ensures undone { IfOk result (λ fault. HasUndone C.core setting.now.plan.now
+        setting.now.shape.now fault count session.old session.new) }
+    ensures is { IfOk result (λ _.
+        IsSession C.core setting.now.plan.now setting.now.shape.now session.new) }
+{
+    let lines = line_count(session);
+    if count > lines as u64 {
+        return Ok(Some(InputFault::TooFew(lines)));
+    }
+    let left = lines - count as usize;
+    let before = events_before(session, left);
+    let undone = tail_of(setting.alloc, session, before, left)?;
+    truncate(setting, before, session)?;
+    keep_undone(left, undone, session)?;
+    Ok(None)
+}
+
+/// Only this many lines are left, and what was undone can be redone.
+fn keep_undone<C: Exclusion>(
+    left: usize,
+    undone: Undone,
+    session: &mut Session<C>,
+) -> Result<(), AllocError>
+    ensures state { session.new.state ≡ session.old.state }
+    ensures done { session.new.done ≡ session.old.done }
+    ensures marks { session.new.marks ≡ take left session.old.marks }
+    ensures undone { OnOk result (session.new.undone ≡ session.old.undone ++ undone ∷ []) }
+{
+    session.marks.truncate(left);
+    session.undone.push(undone)?;
+    Ok(())
+}
+
+/// Redoes what was undone last. Nothing changes if nothing was undone.
+pub(crate) fn redo_lines<C: Exclusion>(
+    setting: &Setting<'_, C>,
+    session: &mut Session<C>,
+) -> Result<Option<InputFault>, AllocError>
+    requires { IsSession C.core setting.now.plan.now setting.now.shape.now session.old }
+    ensures redone { IfOk result (λ fault. HasRedone C.core fault session.old session.new) }
+    ensures is { IfOk result (λ _.
+        IsSession C.core setting.now.plan.now setting.now.shape.now session.new) }
+{
+    match pop_undone(session) {
+        Some(undone) => {
+            redo(&undone, session)?;
+            Ok(None)
+        }
+        None => Ok(Some(InputFault::NoUndo)),
+    }
+}
+
+/// Takes what was undone last.
+fn pop_undone<C: Exclusion>(session: &mut Session<C>) -> Option<Undone>
+    ensures state { session.new.state ≡ session.old.state }
+    ensures done { session.new.done ≡ session.old.done }
+    ensures marks { session.new.marks ≡ session.old.marks }
+    ensures some { IfSome result (λ undone.
+        session.old.undone ≡ session.new.undone ++ undone ∷ []) }
+    ensures none { IfNone result ((session.old.undone ≡ []) × (session.new ≡ session.old)) }
+{
+    session.undone.pop()
+}
+
+/// Does again what was undone.
+fn redo<C: Exclusion>(undone: &Undone, session: &mut Session<C>) -> Result<(), AllocError>
+    requires leads { CanLead C.core session.old.state undone.now.done.items }
+    ensures leads { OnOk result
+        (Leads C.core session.old.state undone.now.done.items session.new.state) }
+    ensures done { OnOk result (session.new.done ≡ session.old.done ++ undone.now.done.items) }
+    ensures marks { OnOk result (session.new.marks ≡ session.old.marks ++ undone.now.marks.items) }
+    ensures undone { session.new.undone ≡ session.old.undone }
+{
+    reapply_all(undone.done.as_slice(), &mut session.state)?;
+    session.done.extend_from_slice(undone.done.as_slice())?;
+    session.marks.extend_from_slice(undone.marks.as_slice())?;
+    Ok(())
+}
+
+/// Drops all that happened after the first `count` events.
+pub(crate) fn truncate<C: Exclusion>(
+    setting: &Setting<'_, C>,
+    count: usize,
+    session: &mut Session<C>,
+) -> Result<(), AllocError>
+    requires leads { CanLead C.core
+        (first_state C.core setting.now.plan.now setting.now.shape.now)
+        (take count session.old.done) }
+    ensures leads { OnOk result (Leads C.core
+        (first_state C.core setting.now.plan.now setting.now.shape.now)
+        (take count session.old.done) session.new.state) }
+    ensures done { session.new.done ≡ take count session.old.done }
+    ensures marks { session.new.marks ≡ session.old.marks }
+    ensures undone { session.new.undone ≡ session.old.undone }
+{
+    go_back(setting, count, &mut session.state, &mut session.done)
+}
+
+/// Goes back to the first `count` events.
+fn go_back<C: Exclusion>(
+    setting: &Setting<'_, C>,
+    count: usize,
+    state: &mut State<C>,
+    done: &mut Vec<SessionEvent>,
+) -> Result<(), AllocError>
+    requires leads { CanLead C.core
+        (first_state C.core setting.now.plan.now setting.now.shape.now)
+        (take count done.old.items) }
+    ensures leads { OnOk result (Leads C.core
+        (first_state C.core setting.now.plan.now setting.now.shape.now)
+        (take count done.old.items) state.new) }
+    ensures done { done.new.items ≡ take count done.old.items }
+{
+    done.truncate(count);
+    *state = first_state(setting)?;
+    reapply_all(done.as_slice(), state)
+}
+
+/// Does again what happened once, one event after another.
+fn reapply_all<C: Exclusion>(
+    events: &[SessionEvent],
+    state: &mut State<C>,
+) -> Result<(), AllocError>
+    requires { CanLead C.core state.old events.now }
+    ensures { OnOk result (Leads C.core state.old events.now state.new) }
+{
+    for event in events {
+        match state.apply(event) {
+            Ok(()) => {}
+            // what happened once is refused only without memory
+            Err(_) => return Err(AllocError),
+        }
+    }
+    Ok(())
+}
+
+/// What happened after the first events, and the marks after the first ones.
+fn tail_of<C: Exclusion>(
+    alloc: Global,
+    session: &Session<C>,
+    events: usize,
+    marks: usize,
+) -> Result<Undone, AllocError>
+    ensures done { IfOk result (λ tail. tail.done.items ≡ drop events session.now.done) }
+    ensures marks { IfOk result (λ tail. tail.marks.items ≡ drop marks session.now.marks) }
+{
+    let done = items_from(alloc, session.done.as_slice(), events)?;
+    let marks = items_from(alloc, session.marks.as_slice(), marks)?;
+    Ok(Undone { done, marks })
+}
+
+/// The items of a list from a place on.
+fn items_from<T: Copy>(alloc: Global, items: &[T], place: usize) -> Result<Vec<T>, AllocError>
+    ensures { IfOk result (λ tail. tail.items ≡ drop place items.now) }
+{
+    match items.get(place..) {
+        Some(tail) => Vec::from_slice(alloc, tail),
+        None => Ok(Vec::new(alloc)),
+    }
+}
+
+/// How many lines were done.
+fn line_count<C: Exclusion>(session: &Session<C>) -> usize
+    ensures { result ≡ length session.now.marks }
+{
+    session.marks.len()
+}
+
+/// How much has happened.
+pub(crate) fn event_count<C: Exclusion>(session: &Session<C>) -> usize
+    ensures { result ≡ length session.now.done }
+{
+    session.done.len()
+}
+
+/// How much had happened before the line of this number, counted from 0; or all, if there is none.
+fn events_before<C: Exclusion>(session: &Session<C>, line: usize) -> usize
+    ensures { result
+        ≡ slice_index_or session.now.marks line (length session.now.done) }
+{
+    mark_at(session.marks.as_slice(), line, event_count(session))
+}
+
+/// The mark of this number, or all if there is none.
+fn mark_at(marks: &[usize], line: usize, all: usize) -> usize
+    ensures { result ≡ slice_index_or marks.now line all }
+{
+    if line < marks.len() { marks[line] } else { all }
+}
