@@ -210,8 +210,12 @@ fn events_before<C: Exclusion>(session: &Session<C>, line: usize) -> usize
     ensures { result
         ≡ slice_index_or session.now.marks line (length session.now.done) }
 {
-    match session.marks.get(line) {
-        Some(count) => *count,
-        None => session.done.len(),
-    }
+    mark_at(session.marks.as_slice(), line, event_count(session))
+}
+
+/// The mark of this number, or all if there is none.
+fn mark_at(marks: &[usize], line: usize, all: usize) -> usize
+    ensures { result ≡ slice_index_or marks.now line all }
+{
+    if line < marks.len() { marks[line] } else { all }
 }
