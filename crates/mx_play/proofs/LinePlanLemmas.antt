@@ -1,7 +1,8 @@
 -- What is read of the lines of a session.
 use Rattle.std.proofs.Common.{◌≡◌, ◌≤◌, ◌⊎◌, true, false, List, [], ◌∷◌, Option, Some, None, Result, Ok, Err, IfOk, IfSome, length, refl, sym, subst, inl, inr}
 use Rattle.std.specs.Str.{IsUtf8}
-use Rattle.mx_cli.specs.Reading.{IsRead}
+use Rattle.mx_cli.specs.Reading.{IsRead, Reads}
+use Rattle.mx_cli.specs.declared.faults.CommandError.{CommandError}
 use Rattle.mx_lines.specs.declared.commands.SessionCommand.{SessionCommand}
 use Rattle.mx_lines.specs.declared.errors.LineError.{LineError}
 use Rattle.mx_plan.specs.Text.{Text}
@@ -47,11 +48,10 @@ module _ (p : Fields) (rest : Option (List Text)) (buffer : Text) where
   reads_end_input (line ∷ lines) x = absurd x.0
 
   -- the same of lines that may be known
-  pub line_input : {E : Type 0} (lines : Option (List Text)) (r : Result Input E) → IfSome lines (λ known. ReadsNext known read.Line buffer rest) → IfOk r (Means p buffer)
-      → IfSome lines (λ known. IfOk r (λ of. ReadsInput p known of buffer rest))
-  line_input None r x means = tt
-  line_input (Some known) (Ok of) x means = reads_line_input known of x means
-  line_input (Some known) (Err e) x means = tt
+  pub line_input : (lines : Option (List Text)) (of : Input) → IfSome lines (λ known. ReadsNext known read.Line buffer rest) → Means p buffer of
+      → IfSome lines (λ known. ReadsInput p known of buffer rest)
+  line_input None of x means = tt
+  line_input (Some known) of x means = reads_line_input known of x means
 
   pub long_input : (lines : Option (List Text)) (fault : InputFault) → IfSome lines (λ known. ReadsNext known read.TooLong buffer rest)
       → IfSome lines (λ known. ReadsInput p known (input.Fault fault) buffer rest)
@@ -97,6 +97,20 @@ module _ (rest : Option (List Text)) (buffer : Text) where
   pub left_after_end : (lines : Option (List Text)) → IfSome lines (λ known. ReadsNext known read.End buffer rest) → AreLeft (session_lines true lines) rest
   left_after_end None x = tt
   left_after_end (Some known) x = left_of_end known x
+
+-- the line that is the plan, or its absence, was read
+module _ (rest : Option (List Text)) (buffer : Text) (lines : Option (List Text)) where
+  pub plan_on_ok : (of : LineRead) (r : Result Fields CommandError) → (of ≡ read.Line) ⊎ (of ≡ read.End) → IfSome lines (λ known. ReadsNext known of buffer rest) → Reads (Some buffer) r
+      → IfOk r (IsLinePlan lines)
+  plan_on_ok of (Ok p) (inl is) x y = first_is_plan rest buffer p lines (subst (λ (of : LineRead). IfSome lines (λ known. ReadsNext known of buffer rest)) is x) y
+  plan_on_ok of (Ok p) (inr is) x y = none_is_plan rest buffer p lines (subst (λ (of : LineRead). IfSome lines (λ known. ReadsNext known of buffer rest)) is x) y
+  plan_on_ok of (Err e) is x y = tt
+
+  pub left_on_ok : {T E : Type 0} (of : LineRead) (r : Result T E) → (of ≡ read.Line) ⊎ (of ≡ read.End) → IfSome lines (λ known. ReadsNext known of buffer rest)
+      → IfOk r (λ _. AreLeft (session_lines true lines) rest)
+  left_on_ok of (Ok p) (inl is) x = left_after_line rest buffer lines (subst (λ (of : LineRead). IfSome lines (λ known. ReadsNext known of buffer rest)) is x)
+  left_on_ok of (Ok p) (inr is) x = left_after_end rest buffer lines (subst (λ (of : LineRead). IfSome lines (λ known. ReadsNext known of buffer rest)) is x)
+  left_on_ok of (Err e) is x = tt
 
 pub all_left : (lines : Option (List Text)) → AreLeft (session_lines false lines) lines
 all_left None = tt

@@ -37,12 +37,14 @@ first_line : (bs : Text) → (bs ≡ [] → ⊥) → lines_of bs ≡ before_firs
 first_line [] some = absurd (some refl)
 first_line (b ∷ bs) some = line_split b bs
 
-pub reads_line : (bs first rest : Text) → (bs ≡ [] → ⊥) → first ≡ before_first (λ b. b == 10) bs → rest ≡ after_first (λ b. b == 10) bs → length first ≤ MAX_LINE
-    → ReadsNext (lines_of bs) Line first (Some (lines_of rest))
-reads_line bs first rest some is after short =
+-- the first line was read into an empty buffer
+pub reads_line : (bs first rest empty buffer : Text) → (bs ≡ [] → ⊥) → first ≡ before_first (λ b. b == 10) bs → rest ≡ after_first (λ b. b == 10) bs → length first ≤ MAX_LINE
+    → empty ≡ [] → buffer ≡ empty ++ first → ReadsNext (lines_of bs) Line buffer (Some (lines_of rest))
+reads_line bs first rest empty buffer some is after short none got =
     let lines : lines_of bs ≡ first ∷ lines_of rest = first_line bs some ∙ ap₂ (λ (l r : Text). l ∷ lines_of r) (sym is) (sym after) in
-    subst (λ (l : List Text). ReadsNext l Line first (Some (lines_of rest))) (sym lines) ((short, refl), refl)
+    subst (λ (l : List Text). ReadsNext l Line buffer (Some (lines_of rest))) (sym lines) ((short, got ∙ ap (λ (l : Text). l ++ first) none), refl)
 
+-- the first line is too long
 pub reads_long : (bs first rest buffer : Text) → (bs ≡ [] → ⊥) → first ≡ before_first (λ b. b == 10) bs → rest ≡ after_first (λ b. b == 10) bs → MAX_LINE < length first
     → ReadsNext (lines_of bs) TooLong buffer (Some (lines_of rest))
 reads_long bs first rest buffer some is after long =

@@ -16,8 +16,8 @@ returns-in-Ok-clause-means c = (
   subst (λ (l : List (Bor Text)). command_of (known_of c.args.plan.now) (texts_of l) ≡ Ok c.in-Ok.command) c.as_slice.ensures.value (sym c.in-Ok.ensures),
 )
 
-pub returns-in-Err-clause-means : goal.returns-in-Err-clause-means
-returns-in-Err-clause-means c = (
+pub returns-clause-means : goal.returns-clause-means
+returns-clause-means c = (
   c.in-Err.error,
   (
     c.in_ok-words.words.items,

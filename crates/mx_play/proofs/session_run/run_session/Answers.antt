@@ -17,5 +17,5 @@ pub returns-clause-played : goal.returns-clause-played
 returns-clause-played g c =
     let s = c.args.setting.now in
     whole_on_ok g.C.Exclusion.core (letter_text g.C.Msg.Letter.parts) g.C.Knowledge.knows s.plan.now s.shape.now c.args.script.now (g.L.Lines.rest c.args.lines.now) (is_some c.in_ok-next.next)
-    c.args.session.now c.run_lines-next.new.session c.run_rest.new.session (g.O.Output.written c.args.out.now) (g.O.Output.written c.run_lines-next.new.out) (g.O.Output.written c.run_rest.new.out) (g.O.Output.written c.finish.new.out)
+    c.args.session.now c.run_lines.new.session c.run_rest.new.session (g.O.Output.written c.args.out.now) (g.O.Output.written c.run_lines.new.out) (g.O.Output.written c.run_rest.new.out) (g.O.Output.written c.finish.new.out)
     c.requires.start c.in_ok-next.ensures.run c.in_ok-run_rest.ensures.run c.in_ok-run_rest.ensures.is c.finish.result c.finish.ensures.closes
