@@ -1,7 +1,6 @@
 -- The turns of lines, one after another.
-use Rattle.std.proofs.Common.{◌≡◌, ◌∙◌, Bool, true, false, List, [], ◌∷◌, ◌++◌, Option, Some, None, Result, Ok, Err, IfOk, IfSome, refl, sym, ap, subst, append_assoc}
-use Rattle.std.specs.Prelude.{◌||◌, not}
-use Rattle.std.specs.Io.KnownBytes.{Appends}
+use Rattle.std.proofs.Common.{◌≡◌, ◌∙◌, Bool, true, false, List, [], ◌∷◌, ◌++◌, Option, Some, None, IfSome, refl, sym, ap, subst, append_assoc}
+use Rattle.std.specs.Prelude.{◌||◌}
 use Rattle.mx_stamps.proofs.Lists.{append_nil}
 use Rattle.mx_nodelaws.specs.Core.{Core}
 use Rattle.mx_knowledge.specs.Facts.{Known}
