@@ -2,6 +2,9 @@ mod ViewLemmas
 pub mod HistoryLemmas
 mod InterpreterLemmas
 pub mod SessionLemmas
+mod SessionLineLemmas
+mod LineTurnLemmas
+mod LinePlanLemmas
 pub mod TurnLemmas
 pub mod PlayedLemmas
 mod CommandLemmas

@@ -1,5 +1,5 @@
 -- Sessions that were played, of what was read.
-use Rattle.std.proofs.Common.{◌++◌, ℕ, List, Option, Some, None, Result, Ok, Err, IfOk, IfSome, ap, sym}
+use Rattle.std.proofs.Common.{◌++◌, ℕ, List, Option, Some, None, Result, Ok, Err, IfOk, IfSome, ap, subst, sym}
 use Rattle.std.specs.Prelude.{Vec}
 use Rattle.std.specs.declared.alloc.Global.{Global}
 use Rattle.std.specs.Io.KnownBytes.{Keeps}
@@ -18,18 +18,22 @@ use Rattle.mx_plan.specs.declared.shape.Shape.TheVariants.{Ricart, Maekawa, Raym
 use Rattle.mx_format.specs.LetterTexts.{ricart_text, maekawa_text, raymond_text}
 use Rattle.mx_cli.proofs.OutputLemmas.{Appends-keeps}
 use Rattle.mx_commands.specs.Runs.{closing_text}
-use Rattle.mx_cli.specs.Reading.{Fetches, Reads}
+use Rattle.mx_cli.specs.Reading.{Fetches}
 use Rattle.mx_cli.specs.declared.faults.Named.{Named}
 use Rattle.mx_cli.specs.declared.faults.CommandError.{CommandError}
 use Rattle.mx_io.specs.Outputs.{Held}
 use Rattle.mx_io.specs.Told.{Telling}
-use Rattle.mx_play.specs.Played.{IsLinePlan, IsPlayedBy, IsScriptOf}
+use Rattle.mx_play.specs.Commands.{Turn}
+use Rattle.mx_play.specs.Lines.{AreLeft}
+use Rattle.mx_play.specs.LineTurns.{AreTurns}
+use Rattle.mx_play.specs.Played.{IsPlayedBy, IsScriptOf}
 use Rattle.mx_play.specs.Turns.{IsPlayed}
 
-module _ {H S M : Type 0} (core : Core H S M) (letter_text : Fields → M → Text) (knows : S → List Known) (p : Fields) (shape : H) (a b c : Held) where
-  played_keeps : IsPlayed core letter_text knows p shape a b → Keeps b c → IsPlayed core letter_text knows p shape a c
-  played_keeps x same = record {
+module _ {H S M : Type 0} (core : Core H S M) (letter_text : Fields → M → Text) (knows : S → List Known) (p : Fields) (shape : H) (script : Text) (a b c : Held) where
+  played_keeps : (lines : Option (List Text)) → IsPlayed core letter_text knows p shape script lines a b → Keeps b c → IsPlayed core letter_text knows p shape script lines a c
+  played_keeps lines x same = record {
     turns = x.turns;
+    are = x.are;
     last = x.last;
     text = x.text;
     takes = x.takes;
@@ -38,15 +42,34 @@ module _ {H S M : Type 0} (core : Core H S M) (letter_text : Fields → M → Te
     printed = Appends-keeps a b c (x.text ++ closing_text core letter_text p x.last.state.cluster) x.printed same;
   }
 
-pub by_keeps : (p : Fields) (a b c : Held) (shape : Shape) → IsPlayedBy p a b shape → Keeps b c → IsPlayedBy p a c shape
-by_keeps p a b c (Ricart count) = played_keeps ricart_core ricart_text ricart_known p count a b c
-by_keeps p a b c (Maekawa family) = played_keeps maekawa_core maekawa_text maekawa_known p family a b c
-by_keeps p a b c (Raymond tree) = played_keeps raymond_core raymond_text raymond_known p tree a b c
+  left_are : (lines rest : Option (List Text)) (turns : List Turn) → AreLeft lines rest → AreTurns p script rest turns → AreTurns p script lines turns
+  left_are None rest turns left x =
+      record { scripted = x.scripted; others = x.others; all = x.all; first = x.first; ended = x.ended; next = λ goes. tt }
+  left_are (Some known) rest turns left x = subst (λ (l : Option (List Text)). AreTurns p script l turns) left x
 
--- a line that is read as a plan
-pub line_plan : (line : List ℕ) (r : Result Fields CommandError) → Reads (Some line) r → IfOk r IsLinePlan
-line_plan line (Ok p) x = (line, x)
-line_plan line (Err e) x = tt
+  played_left : (lines rest : Option (List Text)) → AreLeft lines rest → IsPlayed core letter_text knows p shape script rest a b → IsPlayed core letter_text knows p shape script lines a b
+  played_left lines rest left x = record {
+    turns = x.turns;
+    are = left_are lines rest x.turns left x.are;
+    last = x.last;
+    text = x.text;
+    takes = x.takes;
+    replays = x.replays;
+    over = x.over;
+    printed = x.printed;
+  }
+
+module _ (p : Fields) (script : Text) (a b c : Held) where
+  pub by_keeps : (lines : Option (List Text)) (shape : Shape) → IsPlayedBy p script lines a b shape → Keeps b c → IsPlayedBy p script lines a c shape
+  by_keeps lines (Ricart count) = played_keeps ricart_core ricart_text ricart_known p count script a b c lines
+  by_keeps lines (Maekawa family) = played_keeps maekawa_core maekawa_text maekawa_known p family script a b c lines
+  by_keeps lines (Raymond tree) = played_keeps raymond_core raymond_text raymond_known p tree script a b c lines
+
+  -- the lines that were left are those of the session
+  pub by_left : (lines rest : Option (List Text)) (shape : Shape) → AreLeft lines rest → IsPlayedBy p script rest a b shape → IsPlayedBy p script lines a b shape
+  by_left lines rest (Ricart count) = played_left ricart_core ricart_text ricart_known p count script a b c lines rest
+  by_left lines rest (Maekawa family) = played_left maekawa_core maekawa_text maekawa_known p family script a b c lines rest
+  by_left lines rest (Raymond tree) = played_left raymond_core raymond_text raymond_known p tree script a b c lines rest
 
 -- a script that was fetched
 pub fetched_script : (named : Named) (told : Option Telling) (r : Result (Vec ℕ Global) CommandError) → IfSome told (λ telling. Fetches named telling r)

@@ -1,5 +1,6 @@
 -- Turns of a session, one after another.
-use Rattle.std.proofs.Common.{◌≡◌, ◌∙◌, ℕ, List, [], ◌∷◌, ◌++◌, Result, Ok, Err, Option, Some, None, IfOk, refl, sym, ap, subst, append_assoc}
+use Rattle.std.proofs.Common.{◌≡◌, ◌∙◌, ℕ, Bool, true, false, List, [], ◌∷◌, ◌++◌, Result, Ok, Err, Option, Some, None, IfOk, IfSome, refl, sym, ap, subst, append_assoc}
+use Rattle.std.specs.Prelude.{not}
 use Rattle.std.specs.Io.KnownBytes.{Appends}
 use Rattle.mx_stamps.proofs.Lists.{append_nil}
 use Rattle.mx_nodelaws.specs.Core.{Core}
@@ -14,11 +15,26 @@ use Rattle.mx_cli.proofs.OutputLemmas.{Appends-nil, Appends-trans}
 use Rattle.mx_commands.specs.Runs.{closing_text}
 use Rattle.mx_play.specs.Histories.{first_state}
 use Rattle.mx_play.specs.Sessions.{IsSession, SessionState, at_start}
-use Rattle.mx_play.specs.Turns.{HasDone, HasExecuted, HasRedone, HasRun, HasTurned, HasUndone, IsPlayed, PrintsTurn, TakesAll, Turn, executes, refuses}
+use Rattle.mx_play.specs.Turns.{HasDone, HasExecuted, HasRedone, HasRun, HasTurned, HasUndone, IsPlayed, PrintsTurn, RunsOn, Takes, TakesAll}
+use Rattle.mx_play.specs.Commands.{Turn, executes, refuses}
+use Rattle.mx_play.specs.Lines.{lines_of}
+use Rattle.mx_play.specs.LineTurns.{ReadsInput, ends, has_ended, is_end}
 use Rattle.mx_play.specs.declared.faults.InputFault.{InputFault}
 use Rattle.mx_play.specs.declared.input.Input.{Input}
 use Rattle.mx_play.specs.declared.input.Input.TheVariants as input
 use Rattle.mx_play.proofs.HistoryLemmas.{leads_runs}
+use Rattle.mx_play.proofs.LineTurnLemmas.{Leaves, are_all, are_ended, ended_more, ends_as, leaves_all, leaves_next}
+
+not_both : false ≡ true → ⊥
+not_both e = cc
+
+not_true : (b : Bool) → not b ≡ true → b ≡ false
+not_true true e = sym e
+not_true false e = refl
+
+not_false : (b : Bool) → not b ≡ false → b ≡ true
+not_false true e = refl
+not_false false e = sym e
 
 module _ {H S M : Type 0} (core : Core H S M) (letter_text : Fields → M → Text) (knows : S → List Known) (p : Fields) (shape : H) where
   -- the turn of a command
@@ -63,43 +79,93 @@ module _ {H S M : Type 0} (core : Core H S M) (letter_text : Fields → M → Te
       let rest : Text = x.2 in
       (mid, one, rest ++ s, x.3, ap (λ (l : Text). l ++ s) x.4 ∙ append_assoc one rest s, takes_on ts us mid b c rest s x.5 y)
 
-  pub run_not : (s : SessionState S M) (o : Held) → HasRun core letter_text knows p shape s s o o
-  run_not s o = record { turns = []; text = []; takes = (refl, refl); printed = Appends-nil o }
+  -- ---- a loop over lines
 
-  pub run_on : (a b c : SessionState S M) (o o' o'' : Held) → HasRun core letter_text knows p shape a b o o' → HasRun core letter_text knows p shape b c o' o''
-      → HasRun core letter_text knows p shape a c o o''
-  run_on a b c o o' o'' x y = record {
-    turns = x.turns ++ y.turns;
-    text = x.text ++ y.text;
-    takes = takes_on x.turns y.turns a b c x.text y.text x.takes y.takes;
-    printed = Appends-trans o o' o'' x.text y.text x.printed y.printed;
-  }
+  -- these lines have had their turns, and those are left
+  pub record Running (lines rest : Option (List Text)) (old new : SessionState S M) (out out' : Held) : Type 0 where
+    pub turns : List Turn
+    pub text : Text
+    pub takes : TakesAll core letter_text knows p shape turns old new text
+    pub printed : Appends out out' text
+    pub goes_on : has_ended turns ≡ false
+    pub leaves : Leaves p turns rest lines
 
-  run_one : (of : Input) (line : Text) (a b : SessionState S M) (o o' : Held) → PrintsTurn core letter_text knows p shape of line a b o o' → HasRun core letter_text knows p shape a b o o'
-  run_one of line a b o o' x = record {
-    turns = x.turned.turn ∷ [];
-    text = x.text;
-    takes = (b, x.text, [], x.turned.takes, sym (append_nil x.text), (refl, refl));
-    printed = x.printed;
-  }
+  pub running_first : (lines : Option (List Text)) (s : SessionState S M) (o : Held) → Running lines lines s s o o
+  running_first lines s o = record { turns = []; text = []; takes = (refl, refl); printed = Appends-nil o; goes_on = refl; leaves = leaves_all p lines }
 
-  pub run_turn : (of : Input) (line : Text) (a b c : SessionState S M) (o o' o'' : Held) → HasRun core letter_text knows p shape a b o o' → PrintsTurn core letter_text knows p shape of line b c o' o''
-      → HasRun core letter_text knows p shape a c o o''
-  run_turn of line a b c o o' o'' x y = run_on a b c o o' o'' x (run_one of line b c o' o'' y)
+  takes_more : (ts : List Turn) (t : Turn) (a b c : SessionState S M) (s r : Text) → TakesAll core letter_text knows p shape ts a b s → Takes core letter_text knows p shape t b c r
+      → TakesAll core letter_text knows p shape (ts ++ t ∷ []) a c (s ++ r)
+  takes_more ts t a b c s r x y = takes_on ts (t ∷ []) a b c s r x (c, r, [], y, sym (append_nil r), (refl, refl))
 
-  whole_session : (s last : SessionState S M) (o o' o'' : Held) → s ≡ at_start core p shape → HasRun core letter_text knows p shape s last o o' → IsSession core p shape last
-      → Appends o' o'' (closing_text core letter_text p last.state.cluster) → IsPlayed core letter_text knows p shape o o''
-  whole_session s last o o' o'' is x g closes = record {
-    turns = x.turns;
-    last = last;
-    text = x.text;
-    takes = subst (λ (q : SessionState S M). TakesAll core letter_text knows p shape x.turns q last x.text) is x.takes;
-    replays = leads_runs core last.done (first_state core p shape) last.state g.leads;
-    over = g.over;
-    printed = Appends-trans o o' o'' x.text (closing_text core letter_text p last.state.cluster) x.printed closes;
-  }
+  module _ (lines rest rest' : Option (List Text)) (of : Input) (buffer : Text) (a b c : SessionState S M) (o o' o'' : Held)
+      (reads : IfSome rest (λ known. ReadsInput p known of buffer rest')) (x : Running lines rest a b o o') where
+    module _ (some : of ≡ input.Eof → ⊥) (y : PrintsTurn core letter_text knows p shape of buffer b c o' o'') where
+      ends_so : ends y.turned.turn ≡ is_end of
+      ends_so = ends_as core letter_text knows p shape of buffer y.turned.turn b c y.text y.turned.is y.turned.takes
 
-  pub whole_on_ok : {T E : Type 0} (r : Result T E) (s last : SessionState S M) (o o' o'' : Held) → s ≡ at_start core p shape → HasRun core letter_text knows p shape s last o o' → IsSession core p shape last
-      → IfOk r (λ _. Appends o' o'' (closing_text core letter_text p last.state.cluster)) → IfOk r (λ _. IsPlayed core letter_text knows p shape o o'')
-  whole_on_ok (Ok t) s last o o' o'' is x g closes = whole_session s last o o' o'' is x g closes
-  whole_on_ok (Err e) s last o o' o'' is x g closes = tt
+      -- a turn after which the session goes on
+      pub running_next : is_end of ≡ false → Running lines rest' a c o o''
+      running_next goes = record {
+        turns = x.turns ++ y.turned.turn ∷ [];
+        text = x.text ++ y.text;
+        takes = takes_more x.turns y.turned.turn a b c x.text y.text x.takes y.turned.takes;
+        printed = Appends-trans o o' o'' x.text y.text x.printed y.printed;
+        goes_on = ended_more x.turns y.turned.turn x.goes_on ∙ ends_so ∙ goes;
+        leaves = leaves_next p of buffer rest' y.turned.turn y.turned.is some x.turns rest lines (ends_so ∙ goes) x.leaves reads;
+      }
+
+      -- a turn that ends the session
+      pub run_ended : is_end of ≡ true → HasRun core letter_text knows p shape lines false a c o o''
+      run_ended end = record {
+        turns = x.turns ++ y.turned.turn ∷ [];
+        text = x.text ++ y.text;
+        takes = takes_more x.turns y.turned.turn a b c x.text y.text x.takes y.turned.takes;
+        printed = Appends-trans o o' o'' x.text y.text x.printed y.printed;
+        ended = ended_more x.turns y.turned.turn x.goes_on ∙ ends_so ∙ end;
+        are = are_ended p of buffer rest' y.turned.turn y.turned.is some x.turns rest lines (ends_so ∙ end) x.leaves reads;
+      }
+
+    -- there are no more lines
+    pub run_out : of ≡ input.Eof → HasRun core letter_text knows p shape lines true a b o o'
+    run_out eof = record {
+      turns = x.turns;
+      text = x.text;
+      takes = x.takes;
+      printed = x.printed;
+      ended = x.goes_on;
+      are = are_all p of buffer rest' x.turns rest lines eof x.leaves reads;
+    }
+
+  -- ---- the lines that come
+
+  pub runs_not : (lines : Option (List Text)) (s : SessionState S M) (o : Held) → RunsOn core letter_text knows p shape false lines s s o o
+  runs_not lines s o = record { turns = []; text = []; takes = (refl, refl); printed = Appends-nil o; none = λ _. refl; are = λ goes. absurd (not_both goes) }
+
+  pub runs_lines : (lines : Option (List Text)) (goes_on : Bool) (a b : SessionState S M) (o o' : Held) → HasRun core letter_text knows p shape lines goes_on a b o o' → RunsOn core letter_text knows p shape true lines a b o o'
+  runs_lines lines goes_on a b o o' x = record { turns = x.turns; text = x.text; takes = x.takes; printed = x.printed; none = λ stops. absurd (not_both (sym stops)); are = λ _. x.are }
+
+  module _ (script : Text) (lines : Option (List Text)) (goes_on : Bool) (s m last : SessionState S M) (o o' o'' end : Held) (is : s ≡ at_start core p shape)
+      (x : HasRun core letter_text knows p shape (Some (lines_of script)) goes_on s m o o') (y : RunsOn core letter_text knows p shape goes_on lines m last o' o'') (g : IsSession core p shape last) where
+    whole_session : Appends o'' end (closing_text core letter_text p last.state.cluster) → IsPlayed core letter_text knows p shape script lines o end
+    whole_session closes = record {
+      turns = x.turns ++ y.turns;
+      are = record {
+        scripted = x.turns;
+        others = y.turns;
+        all = refl;
+        first = x.are;
+        ended = λ over. y.none (not_true goes_on (sym x.ended ∙ over));
+        next = λ goes. y.are (not_false goes_on (sym x.ended ∙ goes));
+      };
+      last = last;
+      text = x.text ++ y.text;
+      takes = subst (λ (q : SessionState S M). TakesAll core letter_text knows p shape (x.turns ++ y.turns) q last (x.text ++ y.text)) is
+          (takes_on x.turns y.turns s m last x.text y.text x.takes y.takes);
+      replays = leads_runs core last.done (first_state core p shape) last.state g.leads;
+      over = g.over;
+      printed = Appends-trans o o'' end (x.text ++ y.text) (closing_text core letter_text p last.state.cluster) (Appends-trans o o' o'' x.text y.text x.printed y.printed) closes;
+    }
+
+    pub whole_on_ok : {T E : Type 0} (r : Result T E) → IfOk r (λ _. Appends o'' end (closing_text core letter_text p last.state.cluster)) → IfOk r (λ _. IsPlayed core letter_text knows p shape script lines o end)
+    whole_on_ok (Ok t) closes = whole_session closes
+    whole_on_ok (Err e) closes = tt

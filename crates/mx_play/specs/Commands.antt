@@ -32,3 +32,18 @@ abbrev pub IsSecondWord : Text → Text → Type 0
 IsSecondWord line word =
     (words : List (Bor Text)) × AreWords (before_comment line) words
     × (word ≡ second_of (texts_of words))
+
+-- what a line comes to: its command is executed or refused; or it is at fault
+pub data Turn : Type 0 where
+  executes : SessionCommand → Text → Turn
+  refuses : SessionCommand → Turn
+  rests : Turn
+
+-- the turn is that of an input from this line
+abbrev pub IsTurnOf : Input → Text → Turn → Type 0
+IsTurnOf (input.Command command) line (executes done from) = (done ≡ command) × (from ≡ line)
+IsTurnOf (input.Command command) line (refuses done) = done ≡ command
+IsTurnOf (input.Command command) line rests = ⊥
+IsTurnOf _ line (executes done from) = ⊥
+IsTurnOf _ line (refuses done) = ⊥
+IsTurnOf _ line rests = ⊤

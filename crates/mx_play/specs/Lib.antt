@@ -1,12 +1,14 @@
 -- Help: the words. Histories: what happens, one event after another. Cuts: the lines of links that
--- are cut. Views: what is shown. Commands: what a line asks for. Sessions: what lines did. Turns:
--- what lines do, one after another. PlayWords: what the words of the command ask for. Played: what
--- `play` does.
+-- are cut. Views: what is shown. Commands: what a line asks for. Lines: the lines of a session.
+-- LineTurns: which turns are those of which lines. Sessions: what lines did. Turns: what lines do,
+-- one after another. PlayWords: what the words of the command ask for. Played: what `play` does.
 pub mod Help
 pub mod Histories
 pub mod Cuts
 pub mod Views
 pub mod Commands
+pub mod Lines
+pub mod LineTurns
 pub mod Sessions
 pub mod Turns
 pub mod PlayWords

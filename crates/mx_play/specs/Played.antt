@@ -1,4 +1,4 @@
--- What comes of the words of `play`.
+-- What `play` does.
 use Rattle.std.specs.Prelude.{◌≡◌, ℕ, Bool, true, false, List, [], Option, Some, None, Ok, IfSome, if◌then◌else◌}
 use Rattle.mx_ricart.specs.Step.{ricart_core}
 use Rattle.mx_ricart.specs.Knows.{known_of as ricart_known}
@@ -15,31 +15,36 @@ use Rattle.mx_cli.specs.Reading.{IsPlanOf, IsRead, is_dash}
 use Rattle.mx_io.specs.Told.{Telling}
 use Rattle.mx_io.specs.Outputs.{Held}
 use Rattle.mx_play.specs.PlayWords.{Request}
+use Rattle.mx_play.specs.Lines.{first_of, session_lines}
 use Rattle.mx_play.specs.Turns.{IsPlayed}
 
--- a session was played in the cluster of the plan, by its algorithm
-abbrev pub IsPlayedBy : Fields → Held → Held → Shape → Type 0
-IsPlayedBy p old new (Ricart count) = IsPlayed ricart_core ricart_text ricart_known p count old new
-IsPlayedBy p old new (Maekawa family) =
-    IsPlayed maekawa_core maekawa_text maekawa_known p family old new
-IsPlayedBy p old new (Raymond tree) =
-    IsPlayed raymond_core raymond_text raymond_known p tree old new
+-- a session was played in the cluster of the plan, by its algorithm: the lines of a script, and then
+-- those that come
+abbrev pub IsPlayedBy : Fields → Text → Option (List Text) → Held → Held → Shape → Type 0
+IsPlayedBy p script lines old new (Ricart count) =
+    IsPlayed ricart_core ricart_text ricart_known p count script lines old new
+IsPlayedBy p script lines old new (Maekawa family) =
+    IsPlayed maekawa_core maekawa_text maekawa_known p family script lines old new
+IsPlayedBy p script lines old new (Raymond tree) =
+    IsPlayed raymond_core raymond_text raymond_known p tree script lines old new
 
--- the plan is what some line says, by the rules of plans
-abbrev pub IsLinePlan : Fields → Type 0
-IsLinePlan p = (line : List ℕ) × IsRead line (Ok p)
+-- the plan is what the first of these lines says, by the rules of plans; or some line, if they are
+-- not known
+abbrev pub IsLinePlan : Option (List Text) → Fields → Type 0
+IsLinePlan None p = (line : List ℕ) × IsRead line (Ok p)
+IsLinePlan (Some lines) p = IsRead (first_of lines) (Ok p)
 
--- the plan is one of the lines that come, where that is so, or what a source tells
-abbrev pub IsPlanBy : Bool → Option Telling → Fields → Type 0
-IsPlanBy true told p = IsLinePlan p
-IsPlanBy false told p = IsPlanOf told p
+-- the plan is the first of the lines that come, or what a source tells
+abbrev pub IsPlanBy : Bool → Option Telling → Option (List Text) → Fields → Type 0
+IsPlanBy true told lines p = IsLinePlan lines p
+IsPlanBy false told lines p = IsPlanOf told p
 
--- the plan of a name; where that is the name of standard input, the plan is the first of the lines
--- that come
-abbrev pub IsPlanNamed : (Text → Option Telling) → Text → Fields → Type 0
-IsPlanNamed told name p = IsPlanBy (is_dash name) (told name) p
+-- the plan of a name; if that is the name of standard input, the plan is the first of the lines that
+-- come
+abbrev pub IsPlanNamed : (Text → Option Telling) → Text → Option (List Text) → Fields → Type 0
+IsPlanNamed told name lines p = IsPlanBy (is_dash name) (told name) lines p
 
--- what a source tells of the script; it has no lines where none is named, or its name is that of
+-- what a source tells of the script; it has no lines if none is named, or its name is that of
 -- standard input
 abbrev pub told_of_name : (Text → Option Telling) → Text → Option Telling
 told_of_name told name = if is_dash name then Some (Some []) else told name
@@ -48,12 +53,15 @@ abbrev pub told_of_script : (Text → Option Telling) → Option Text → Option
 told_of_script told None = Some (Some [])
 told_of_script told (Some name) = told_of_name told name
 
--- the script was read, where the source tells of it
+-- the script was read, if the source tells of it
 abbrev pub IsScriptOf : Option Telling → Text → Type 0
 IsScriptOf told text = IfSome told (λ telling. telling ≡ Some text)
 
--- the plan and the script were read, and a session was played
-abbrev pub HasPlayed : (Text → Option Telling) → Request → Held → Held → Type 0
-HasPlayed told request old new =
-    (p : Fields) × (script : Text) × IsPlanNamed told request.0 p
-    × IsScriptOf (told_of_script told request.1) script × IsPlayedBy p old new p.shape
+-- the plan and the script were read, and a session was played of the script's lines and those that
+-- come after the plan
+abbrev pub HasPlayed : (Text → Option Telling) → Option (List Text) → Request → Held → Held
+    → Type 0
+HasPlayed told lines request old new =
+    (p : Fields) × (script : Text) × IsPlanNamed told request.0 lines p
+    × IsScriptOf (told_of_script told request.1) script
+    × IsPlayedBy p script (session_lines (is_dash request.0) lines) old new p.shape

@@ -1,5 +1,5 @@
 -- What the lines of a session do, one after another.
-use Rattle.std.specs.Prelude.{ℕ, ◌≡◌, ◌≤◌, ◌<◌, ◌-◌, ⊤, List, [], ◌∷◌, ◌++◌, Option, Some, None, drop, length, take, slice_index_or}
+use Rattle.std.specs.Prelude.{ℕ, ◌≡◌, ◌≤◌, ◌<◌, ◌-◌, ⊤, Bool, true, false, not, List, [], ◌∷◌, ◌++◌, Option, Some, None, IfSome, drop, length, take, slice_index_or}
 use Rattle.std.specs.Io.KnownBytes.{Appends}
 use Rattle.std.specs.Str.{IsUtf8}
 use Rattle.mx_nodelaws.specs.Core.{Core}
@@ -16,13 +16,13 @@ use Rattle.mx_scripts.specs.Files.{file_text}
 use Rattle.mx_scripts.specs.Lines.{Repeats}
 use Rattle.mx_scripts.specs.Played.{AreOver, events_of}
 use Rattle.mx_scripts.specs.declared.session_event.SessionEvent.{SessionEvent}
-use Rattle.mx_play.specs.Commands.{IsSecondWord}
+use Rattle.mx_play.specs.Commands.{IsSecondWord, IsTurnOf, Turn, executes, refuses, rests}
 use Rattle.mx_play.specs.Help.{words_text}
+use Rattle.mx_play.specs.LineTurns.{AreTurns, AreTurnsOf, has_ended}
 use Rattle.mx_play.specs.Histories.{Leads, Makes, events_in, first_state}
 use Rattle.mx_play.specs.Sessions.{SessionState, at_start}
 use Rattle.mx_play.specs.Views.{mark_line, view_text}
 use Rattle.mx_play.specs.declared.input.Input.{Input}
-use Rattle.mx_play.specs.declared.input.Input.TheVariants as input
 use Rattle.mx_play.specs.declared.faults.InputFault.{InputFault}
 use Rattle.mx_play.specs.declared.undo.Undone.{Undone}
 
@@ -96,21 +96,6 @@ CanRefuse (Undo count) s = length s.marks < count
 CanRefuse Redo s = s.undone ≡ []
 CanRefuse _ s = ⊥
 
--- what a line comes to: its command is executed or refused; or it is at fault
-pub data Turn : Type 0 where
-  executes : SessionCommand → Text → Turn
-  refuses : SessionCommand → Turn
-  rests : Turn
-
--- the turn is that of an input from this line
-abbrev pub IsTurnOf : Input → Text → Turn → Type 0
-IsTurnOf (input.Command command) line (executes done from) = (done ≡ command) × (from ≡ line)
-IsTurnOf (input.Command command) line (refuses done) = done ≡ command
-IsTurnOf (input.Command command) line rests = ⊥
-IsTurnOf _ line (executes done from) = ⊥
-IsTurnOf _ line (refuses done) = ⊥
-IsTurnOf _ line rests = ⊤
-
 module _ {H S M : Type 0} (core : Core H S M) (letter_text : Fields → M → Text)
     (knows : S → List Known) (p : Fields) (shape : H) where
   -- what a command of a line does and prints
@@ -162,17 +147,33 @@ module _ {H S M : Type 0} (core : Core H S M) (letter_text : Fields → M → Te
     pub turned : HasTurned of line old new text
     pub printed : Appends out out' text
 
-  -- some turns were taken, and an output got what was printed of them
-  pub record HasRun (old new : SessionState S M) (out out' : Held) : Type 0 where
+  -- the turns of these lines were taken, if they are known, of all or up to the first that ends
+  -- the session; and an output got what was printed of them
+  pub record HasRun (lines : Option (List Text)) (goes_on : Bool) (old new : SessionState S M)
+      (out out' : Held) : Type 0 where
     pub turns : List Turn
     pub text : Text
     pub takes : TakesAll turns old new text
     pub printed : Appends out out' text
+    pub ended : has_ended turns ≡ not goes_on
+    pub are : IfSome lines (λ known. AreTurnsOf p known turns)
 
-  -- a whole session: some turns from the start, and then the closing lines of the cluster to which
-  -- the events lead that are left, which are over the nodes and registers of the plan
-  pub record IsPlayed (out out' : Held) : Type 0 where
+  -- the same if the session goes on; otherwise none was taken
+  pub record RunsOn (goes_on : Bool) (lines : Option (List Text)) (old new : SessionState S M)
+      (out out' : Held) : Type 0 where
     pub turns : List Turn
+    pub text : Text
+    pub takes : TakesAll turns old new text
+    pub printed : Appends out out' text
+    pub none : goes_on ≡ false → turns ≡ []
+    pub are : goes_on ≡ true → IfSome lines (λ known. AreTurnsOf p known turns)
+
+  -- a whole session: the turns of the lines of a script, and of those that come, from the start;
+  -- and then the closing lines of the cluster to which the events lead that are left, which are
+  -- over the nodes and registers of the plan
+  pub record IsPlayed (script : Text) (lines : Option (List Text)) (out out' : Held) : Type 0 where
+    pub turns : List Turn
+    pub are : AreTurns p script lines turns
     pub last : SessionState S M
     pub text : Text
     pub takes : TakesAll turns (at_start core p shape) last text

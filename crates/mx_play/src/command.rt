@@ -31,7 +31,7 @@ pub fn play<S: Source, L: Lines, O: Output, E: Output>(
     err: &mut E,
 ) -> u8
     ensures played { IfSome (request_asked (texts_of words.entry.now)) (λ request.
-        result ≡ 0 → HasPlayed (S.told source.old) request
+        result ≡ 0 → HasPlayed (S.told source.old) (L.rest lines.old) request
         (O.written out.old) (O.written out.new)) }
     ensures passed { IsSome (request_asked (texts_of words.entry.now))
         → result ≡ 0 → O.keeps_back out.new ≡ false }
@@ -57,7 +57,8 @@ fn play_request<S: Source, L: Lines, O: Output, E: Output>(
     out: &mut O,
     err: &mut E,
 ) -> u8
-    ensures played { result ≡ 0 → HasPlayed (S.told source.old) (request_of request.now)
+    ensures played { result ≡ 0 → HasPlayed (S.told source.old) (L.rest lines.old)
+        (request_of request.now)
         (O.written out.old) (O.written out.new) }
     ensures passed { result ≡ 0 → O.keeps_back out.new ≡ false }
     ensures status { IsRunStatus result }
@@ -77,8 +78,8 @@ fn play_and_close<L: Lines, O: Output, E: Output>(
     out: &mut O,
     err: &mut E,
 ) -> u8
-    ensures played { result ≡ 0 → IsPlayedBy start.now.plan
-        (O.written out.old) (O.written out.new) start.now.plan.shape }
+    ensures played { result ≡ 0 → IsPlayedBy start.now.plan start.now.text.items
+        (L.rest lines.old) (O.written out.old) (O.written out.new) start.now.plan.shape }
     ensures passed { result ≡ 0 → O.keeps_back out.new ≡ false }
     ensures status { IsRunStatus result }
 {

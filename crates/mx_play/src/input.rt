@@ -1,7 +1,8 @@
 //! What the lines of a session ask for.
 
-ghost use Rattle.std.specs.Prelude.{IfOk};
+ghost use Rattle.std.specs.Prelude.{◌≡◌, IfOk, IfSome};
 ghost use Rattle.mx_play.specs.Commands.{IsInput};
+ghost use Rattle.mx_play.specs.LineTurns.{Means, MeansText, ReadsInput, is_end};
 
 use crate::faults::InputFault;
 use crate::lines::{LineRead, Lines};
@@ -30,7 +31,9 @@ pub(crate) fn read_input<L: Lines, E: Output>(
     line: &mut Vec<u8>,
     err: &mut E,
 ) -> Result<Input, CommandError>
-    ensures { IfOk result (IsInput plan.now) }
+    ensures over { IfOk result (IsInput plan.now) }
+    ensures reads { IfSome (L.rest lines.old) (λ known. IfOk result (λ input.
+        ReadsInput plan.now known input line.new.items (L.rest lines.new))) }
 {
     if lines.are_typed() {
         prompt(err)?;
@@ -59,7 +62,8 @@ fn prompt<E: Output>(err: &mut E) -> Result<(), OutputFault> {
 
 /// What a line asks for.
 fn input_in(alloc: Global, plan: &Plan, line: &[u8]) -> Result<Input, AllocError>
-    ensures { IfOk result (IsInput plan.now) }
+    ensures over { IfOk result (IsInput plan.now) }
+    ensures means { IfOk result (Means plan.now line.now) }
 {
     match str::from_utf8(line) {
         Ok(text) => input_in_text(alloc, plan, text),
@@ -69,7 +73,8 @@ fn input_in(alloc: Global, plan: &Plan, line: &[u8]) -> Result<Input, AllocError
 
 /// What a text asks for.
 fn input_in_text(alloc: Global, plan: &Plan, text: &str) -> Result<Input, AllocError>
-    ensures { IfOk result (IsInput plan.now) }
+    ensures over { IfOk result (IsInput plan.now) }
+    ensures means { IfOk result (MeansText plan.now text.now) }
 {
     let words = words_in(alloc, text)?;
     match read_command(plan, words.as_slice()) {
@@ -79,6 +84,8 @@ fn input_in_text(alloc: Global, plan: &Plan, text: &str) -> Result<Input, AllocE
 }
 
 /// Whether a command ends the session.
-pub(crate) fn is_end(input: &Input) -> bool {
+pub(crate) fn is_end(input: &Input) -> bool
+    ensures { result ≡ is_end input.now }
+{
     matches!(input, Input::Command(SessionCommand::End))
 }

@@ -1,5 +1,8 @@
 //! Where the lines of a session come from.
 
+ghost use Rattle.std.specs.Prelude.{List, Option, Some, None, ℕ, IfOk, IfSome};
+ghost use Rattle.mx_play.specs.Lines.{ReadsNext, lines_of};
+
 use mx_cli::split_line;
 use std::alloc::AllocError;
 
@@ -20,8 +23,13 @@ pub enum LineRead {
 
 /// Where lines come from.
 pub trait Lines {
+    // the lines that are still to come, if they are known
+    ghost rest: { Self → Option (List (List ℕ)) } = { λ _. None };
+
     /// Puts the next line, without its line feed, in the place of `line`. The last line needs none.
-    fn next(&mut self, line: &mut Vec<u8>) -> Result<LineRead, AllocError>;
+    fn next(&mut self, line: &mut Vec<u8>) -> Result<LineRead, AllocError>
+        ensures { IfSome (rest self.old) (λ lines. IfOk result (λ read.
+            ReadsNext lines read line.new.items (rest self.new))) };
 
     /// Whether they are typed at a terminal, where a prompt asks for each.
     fn are_typed(&self) -> bool;
@@ -34,6 +42,8 @@ pub(crate) struct Listed<'a> {
 }
 
 impl Lines for Listed<'_> {
+    ghost rest = { λ l. Some (lines_of l.rest.now) };
+
     fn next(&mut self, line: &mut Vec<u8>) -> Result<LineRead, AllocError> {
         line.clear();
         if self.rest.is_empty() {

@@ -1,8 +1,9 @@
 //! The files of a session: its plan, and a script whose lines come first.
 
-ghost use Rattle.std.specs.Prelude.{◌≡◌, IfOk, option_map};
+ghost use Rattle.std.specs.Prelude.{◌≡◌, true, IfOk, option_map};
 ghost use Rattle.mx_cli.specs.Reading.{is_dash};
 ghost use Rattle.mx_play.specs.PlayWords.{request_of};
+ghost use Rattle.mx_play.specs.Lines.{AreLeft, session_lines};
 ghost use Rattle.mx_play.specs.Played.{IsLinePlan, IsPlanNamed, IsScriptOf, told_of_name, told_of_script};
 
 use crate::lines::{LineRead, Lines};
@@ -20,7 +21,10 @@ pub(crate) fn fetch_start<S: Source, L: Lines>(
     lines: &mut L,
 ) -> Result<PlanAndText, CommandError>
     ensures plan { IfOk result (λ start.
-        IsPlanNamed (S.told source.old) request.now.plan.now start.plan) }
+        IsPlanNamed (S.told source.old) request.now.plan.now (L.rest lines.old) start.plan) }
+    ensures left { IfOk result (λ _.
+        AreLeft (session_lines (is_dash request.now.plan.now) (L.rest lines.old))
+        (L.rest lines.new)) }
     ensures script { IfOk result (λ start. IsScriptOf
         (told_of_script (S.told source.old) (request_of request.now).1) start.text.items) }
 {
@@ -36,7 +40,9 @@ fn plan_of<S: Source, L: Lines>(
     source: &mut S,
     lines: &mut L,
 ) -> Result<Plan, CommandError>
-    ensures named { IfOk result (IsPlanNamed (S.told source.old) name.now) }
+    ensures named { IfOk result (IsPlanNamed (S.told source.old) name.now (L.rest lines.old)) }
+    ensures left { IfOk result (λ _.
+        AreLeft (session_lines (is_dash name.now) (L.rest lines.old)) (L.rest lines.new)) }
     ensures stays { S.told source.new ≡ S.told source.old }
 {
     if is_dash(name) {
@@ -48,7 +54,9 @@ fn plan_of<S: Source, L: Lines>(
 
 /// The plan that the next line is.
 fn first_plan<L: Lines>(alloc: Global, lines: &mut L) -> Result<Plan, CommandError>
-    ensures { IfOk result IsLinePlan }
+    ensures plan { IfOk result (IsLinePlan (L.rest lines.old)) }
+    ensures left { IfOk result (λ _.
+        AreLeft (session_lines true (L.rest lines.old)) (L.rest lines.new)) }
 {
     let mut line = Vec::new(alloc);
     match lines.next(&mut line)? {

@@ -2,11 +2,12 @@
 
 ghost use Rattle.std.specs.Prelude.{◌≡◌, ◌++◌, [], false, length, string_bytes, IfOk, OnOk};
 ghost use Rattle.std.specs.Io.KnownBytes.{Appends};
+ghost use Rattle.std.specs.Option.{is_some};
 ghost use Rattle.mx_format.specs.LetterTexts.{letter_text};
 ghost use Rattle.mx_commands.specs.Runs.{closing_text};
 ghost use Rattle.mx_play.specs.Commands.{IsInput};
 ghost use Rattle.mx_play.specs.Sessions.{IsSession, at_start};
-ghost use Rattle.mx_play.specs.Turns.{HasRun, HasTurned, IsPlayed, PrintsTurn};
+ghost use Rattle.mx_play.specs.Turns.{HasRun, HasTurned, IsPlayed, PrintsTurn, RunsOn};
 
 use crate::commands::execute;
 use crate::faults::{InputFault, InputFaultLine};
@@ -37,7 +38,8 @@ where
     requires start { session.old
         ≡ at_start C.core setting.now.plan.now setting.now.shape.now }
     ensures played { IfOk result (λ _. IsPlayed C.core (letter_text C.Msg.parts) C.knows
-        setting.now.plan.now setting.now.shape.now (O.written out.old) (O.written out.new)) }
+        setting.now.plan.now setting.now.shape.now script.now (L.rest lines.old)
+        (O.written out.old) (O.written out.new)) }
     ensures zero { IfOk result (λ status. status ≡ 0) }
 {
     let mut listed = Listed { rest: script };
@@ -58,9 +60,9 @@ fn run_rest<C: Exclusion + Knowledge, L: Lines, O: Output, E: Output>(
 where
     C::Msg: Letter,
     requires { IsSession C.core setting.now.plan.now setting.now.shape.now session.old }
-    ensures run { OnOk result (HasRun C.core (letter_text C.Msg.parts) C.knows
-        setting.now.plan.now setting.now.shape.now session.old session.new
-        (O.written out.old) (O.written out.new)) }
+    ensures run { OnOk result (RunsOn C.core (letter_text C.Msg.parts) C.knows
+        setting.now.plan.now setting.now.shape.now (is_some next) (L.rest lines.old)
+        session.old session.new (O.written out.old) (O.written out.new)) }
     ensures is { OnOk result
         (IsSession C.core setting.now.plan.now setting.now.shape.now session.new) }
 {
@@ -87,9 +89,9 @@ fn run_lines<C: Exclusion + Knowledge, L: Lines, O: Output, E: Output>(
 where
     C::Msg: Letter,
     requires { IsSession C.core setting.now.plan.now setting.now.shape.now session.old }
-    ensures run { IfOk result (λ _. HasRun C.core (letter_text C.Msg.parts) C.knows
-        setting.now.plan.now setting.now.shape.now session.old session.new
-        (O.written out.old) (O.written out.new)) }
+    ensures run { IfOk result (λ next. HasRun C.core (letter_text C.Msg.parts) C.knows
+        setting.now.plan.now setting.now.shape.now (L.rest lines.old) (is_some next)
+        session.old session.new (O.written out.old) (O.written out.new)) }
     ensures is { IfOk result (λ _.
         IsSession C.core setting.now.plan.now setting.now.shape.now session.new) }
 {

@@ -23,8 +23,8 @@ pub(crate) fn run_by_plan<L: Lines, O: Output, E: Output>(
     out: &mut O,
     err: &mut E,
 ) -> Result<u8, CommandError>
-    ensures played { IfOk result (λ _. IsPlayedBy start.now.plan
-        (O.written out.old) (O.written out.new) start.now.plan.shape) }
+    ensures played { IfOk result (λ _. IsPlayedBy start.now.plan start.now.text.items
+        (L.rest lines.old) (O.written out.old) (O.written out.new) start.now.plan.shape) }
     ensures zero { IfOk result (λ status. status ≡ 0) }
 {
     let plan = &start.plan;

@@ -1,6 +1,6 @@
 use Rattle.std.proofs.Common.{refl, rules, string_bytes}
 use Rattle.mx_format.specs.LetterTexts.{letter_text}
-use Rattle.mx_play.specs.Turns.{rests}
+use Rattle.mx_play.specs.Commands.{rests}
 use Rattle.mx_play.proofs.TurnLemmas.{turned_on_ok}
 use Rattle.mx_play.proofs.session_run.execute_input.Goals as goal
 

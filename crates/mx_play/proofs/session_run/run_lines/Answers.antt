@@ -1,26 +1,48 @@
+use Rattle.std.proofs.Common.{◌∙◌, List, ℕ, IfSome, subst, sym}
 use Rattle.mx_format.specs.LetterTexts.{letter_text}
-use Rattle.mx_play.proofs.TurnLemmas.{run_not, run_turn}
+use Rattle.mx_play.specs.LineTurns.{ReadsInput}
+use Rattle.mx_play.proofs.TurnLemmas.{run_ended, run_out, running_first, running_next}
 use Rattle.mx_play.proofs.session_run.run_lines.Goals as goal
 
 pub loop-number-init : goal.loop-number-init
 loop-number-init g c =
     let s = c.args.setting.now in
     record {
-      run = run_not g.C.Exclusion.core (letter_text g.C.Msg.Letter.parts) g.C.Knowledge.knows s.plan.now s.shape.now c.args.session.now (g.O.Output.written c.args.out.now);
+      run = running_first g.C.Exclusion.core (letter_text g.C.Msg.Letter.parts) g.C.Knowledge.knows s.plan.now s.shape.now (g.L.Lines.rest c.args.lines.now) c.args.session.now (g.O.Output.written c.args.out.now);
       is = c.requires;
     }
 
 pub loop-number-preserved : goal.loop-number-preserved
 loop-number-preserved g c =
     let s = c.args.setting.now in
+    let l = c.loop-number in
+    let of = c.in_ok-input.input in
+    let rest = g.L.Lines.rest l.lines in
+    let left = g.L.Lines.rest c.read_input.new.lines in
+    let reads = subst (λ (bytes : List ℕ). IfSome rest (λ known. ReadsInput s.plan.now known of bytes left)) (sym c.as_slice.ensures.value) c.in_ok-input.ensures.reads in
     record {
-      run = run_turn g.C.Exclusion.core (letter_text g.C.Msg.Letter.parts) g.C.Knowledge.knows s.plan.now s.shape.now c.in_ok-input.input c.as_slice.result.now c.args.session.now c.loop-number.session c.turn.new.session
-          (g.O.Output.written c.args.out.now) (g.O.Output.written c.loop-number.out) (g.O.Output.written c.turn.new.out) c.loop-number.invariant.run c.in_ok-turn.ensures.turned;
+      run = running_next g.C.Exclusion.core (letter_text g.C.Msg.Letter.parts) g.C.Knowledge.knows s.plan.now s.shape.now (g.L.Lines.rest c.args.lines.now) rest left of c.as_slice.result.now
+          c.args.session.now l.session c.turn.new.session (g.O.Output.written c.args.out.now) (g.O.Output.written l.out) (g.O.Output.written c.turn.new.out)
+          reads l.invariant.run c.in_default.not-Eof c.in_ok-turn.ensures.turned (sym c.is_end.ensures ∙ c.if-is_end.false);
       is = c.in_ok-turn.ensures.is;
     }
 
 pub returns-then-is_end-clause-run : goal.returns-then-is_end-clause-run
 returns-then-is_end-clause-run g c =
     let s = c.args.setting.now in
-    run_turn g.C.Exclusion.core (letter_text g.C.Msg.Letter.parts) g.C.Knowledge.knows s.plan.now s.shape.now c.in_ok-input.input c.as_slice.result.now c.args.session.now c.loop-number.session c.turn.new.session
-    (g.O.Output.written c.args.out.now) (g.O.Output.written c.loop-number.out) (g.O.Output.written c.turn.new.out) c.loop-number.invariant.run c.in_ok-turn.ensures.turned
+    let l = c.loop-number in
+    let of = c.in_ok-input.input in
+    let rest = g.L.Lines.rest l.lines in
+    let left = g.L.Lines.rest c.read_input.new.lines in
+    let reads = subst (λ (bytes : List ℕ). IfSome rest (λ known. ReadsInput s.plan.now known of bytes left)) (sym c.as_slice.ensures.value) c.in_ok-input.ensures.reads in
+    run_ended g.C.Exclusion.core (letter_text g.C.Msg.Letter.parts) g.C.Knowledge.knows s.plan.now s.shape.now (g.L.Lines.rest c.args.lines.now) rest left of c.as_slice.result.now
+    c.args.session.now l.session c.turn.new.session (g.O.Output.written c.args.out.now) (g.O.Output.written l.out) (g.O.Output.written c.turn.new.out)
+    reads l.invariant.run c.in_default.not-Eof c.in_ok-turn.ensures.turned (sym c.is_end.ensures ∙ c.if-is_end.true)
+
+pub returns-in-Eof-clause-run : goal.returns-in-Eof-clause-run
+returns-in-Eof-clause-run g c =
+    let s = c.args.setting.now in
+    let l = c.loop-number in
+    run_out g.C.Exclusion.core (letter_text g.C.Msg.Letter.parts) g.C.Knowledge.knows s.plan.now s.shape.now (g.L.Lines.rest c.args.lines.now) (g.L.Lines.rest l.lines) (g.L.Lines.rest c.read_input.new.lines)
+    c.in_ok-input.input c.read_input.new.line.items c.args.session.now l.session l.session (g.O.Output.written c.args.out.now) (g.O.Output.written l.out) (g.O.Output.written l.out)
+    c.in_ok-input.ensures.reads l.invariant.run c.in-Eof.is
