@@ -9,7 +9,7 @@ use crate::first_line::are_dashes;
 use crate::words::Names;
 use std::fmt;
 
-/// The line of a fault, where the plan and the events have these names.
+/// The line that reports a fault, given the names of the plan and the events.
 #[derive(Clone, Copy)]
 pub struct FaultLine<'a> {
     pub fault: Fault,

@@ -1,29 +1,29 @@
-//! Why a run ends.
+//! Why a command ends early.
 
 use mx_io::OutputFault;
 use mx_plan::PlanFault;
 use std::alloc::AllocError;
 
-/// One of the two names on the command line.
+/// One of the two inputs that a command line names.
 #[derive(Clone, Copy, Debug, PartialEq, Eq)]
 pub enum Named {
     Plan,
     Events,
 }
 
-/// What is wrong with a plan, with events or with their files. Each has a line of its own.
+/// What is wrong with a plan, with events or with their files. Each has its own message.
 #[derive(Clone, Copy, Debug, PartialEq, Eq)]
 pub enum Fault {
     CannotRead(Named),
-    /// The plan, or the events, are refused.
+    /// The text of the plan or of the events is invalid.
     BadText(PlanFault),
-    /// The text of this name is no JSON.
+    /// The text of this input is not JSON.
     NotJson(Named),
     /// The event of this index delivers a parcel that was not sent.
     NoParcel(u64),
 }
 
-/// Why a run ends early.
+/// Why a command ends early.
 #[derive(Clone, Copy, Debug)]
 pub enum CommandError {
     Fault(Fault),

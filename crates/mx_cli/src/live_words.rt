@@ -44,6 +44,7 @@ pub fn parse_live<'a>(alloc: Global, words: &'a [&'a str]) -> Result<Option<Live
     Ok(from_matches(&matches))
 }
 
+/// Returns the request of `live`; `None` if the words name another command, or lack an argument.
 fn from_matches<'a>(matches: &ArgMatches<'a>) -> Option<LiveRequest<'a>>
     ensures { option_map request_of result ≡ request_in (subcommand_rows_of matches.now) }
 {

@@ -1,4 +1,4 @@
-//! Which of two texts is no JSON.
+//! Which of two texts is not JSON.
 
 ghost use Rattle.std.specs.Prelude.{◌≡◌, Bool, Ok, IfErr, IfOk};
 ghost use Rattle.mx_cli.specs.Asked.{AsksBoth};
@@ -14,8 +14,8 @@ use mx_io::Source;
 use mx_plan::PlanFault;
 use std::alloc::Global;
 
-/// The plan and the bytes of two names, as `fetch_both` reads them. A plan that is no JSON is
-/// named.
+/// The plan and the bytes of two names, as `fetch_both` reads them. A fault "not JSON" says that it
+/// is about the plan.
 pub fn fetch_named<S: Source>(
     alloc: Global,
     source: &mut S,
@@ -33,7 +33,7 @@ pub fn fetch_named<S: Source>(
     }
 }
 
-/// The end of what was done with a text of this name. One that is no JSON is named.
+/// Returns `ended`, but a fault "not JSON" says which input it is about.
 pub fn naming(ended: Result<u8, CommandError>, part: Named) -> Result<u8, CommandError>
     ensures { result ≡ naming part ended }
 {
@@ -43,7 +43,7 @@ pub fn naming(ended: Result<u8, CommandError>, part: Named) -> Result<u8, Comman
     }
 }
 
-/// Why what was done with a text of this name stopped. One that is no JSON is named.
+/// Returns the error, but a fault "not JSON" says which input it is about.
 pub fn error_named(error: CommandError, part: Named) -> CommandError
     ensures { result ≡ error_named part error }
 {
@@ -54,6 +54,7 @@ pub fn error_named(error: CommandError, part: Named) -> CommandError
     }
 }
 
+/// Returns the fault, with the input that it is about if that is not JSON.
 fn fault_named(fault: Fault, part: Named) -> Fault
     ensures { result ≡ fault_named part fault }
 {

@@ -1,4 +1,4 @@
-//! What is told to whom asked: help, faults, and that memory ran out.
+//! What a command reports: help, faults, and that memory ran out.
 
 ghost use Rattle.std.specs.Prelude.{◌≡◌, ◌⊎◌, List, true, false, IfSome, IfErr, OnOk, OnErr};
 ghost use Rattle.std.specs.Io.KnownBytes.{Appends, Keeps};
@@ -17,8 +17,7 @@ use mx_io::{Output, OutputFault};
 use std::alloc::Global;
 use std::fmt::Display;
 
-/// Writes the help that the words of a command line ask for, or why they are refused, and returns
-/// the status.
+/// Writes the help that was requested, or what is wrong with the arguments, and returns the status.
 pub fn refuse<O: Output, E: Output>(alloc: Global, e: &clap::Error, out: &mut O, err: &mut E) -> u8
     ensures memory { kind_of e.now ≡ ErrorKind.OutOfMemory → RunsOut
         (seen O.Output E.Output out.old err.old) (seen O.Output E.Output out.new err.new) result }
@@ -33,7 +32,7 @@ pub fn refuse<O: Output, E: Output>(alloc: Global, e: &clap::Error, out: &mut O,
     }
 }
 
-/// Writes the line of a fault, and returns the status.
+/// Writes the message for a fault, and returns the status.
 pub fn report_fault<E: Output>(alloc: Global, fault: Fault, names: &Names<'_>, err: &mut E) -> u8
     ensures { ReportsFault (E.takes_all err.old) (fault_line (names_of names.now) fault)
         (E.written err.old) (E.written err.new) result }
@@ -45,7 +44,7 @@ pub fn report_fault<E: Output>(alloc: Global, fault: Fault, names: &Names<'_>, e
     report_line(alloc, line, err)
 }
 
-/// Writes a line of why a run ended, and returns the status.
+/// Writes the line that says why a command ended, and returns the status.
 pub fn report_line<E: Output, D: Display + Drop>(alloc: Global, line: D, err: &mut E) -> u8
     ensures status { (result ≡ 1) ⊎ (result ≡ 5) }
     ensures told { IfSome (D.output line) (λ text. ReportsFault (E.takes_all err.old) text
@@ -58,7 +57,7 @@ pub fn report_line<E: Output, D: Display + Drop>(alloc: Global, line: D, err: &m
     }
 }
 
-/// Writes that memory ran out, where that can be written, and returns the status of that.
+/// Writes that memory ran out, if the output takes it, and returns the status.
 pub fn report_memory<E: Output>(err: &mut E) -> u8
     ensures status { result ≡ 5 }
     ensures told { MayReport (E.written err.old) (E.written err.new) }
@@ -112,7 +111,7 @@ fn put_and_flush<O: Output, D: Display + Drop>(
     out.flush()
 }
 
-/// Writes a text whole, or nothing of it.
+/// Writes a text whole, or nothing.
 pub fn write_line<O: Output, D: Display + Drop>(
     alloc: Global,
     out: &mut O,

@@ -1,4 +1,4 @@
-//! The end of a command: what the output kept back is passed on, and a fault is told.
+//! The end of a command: the output is flushed, and a fault is reported.
 
 ghost use Rattle.std.specs.Prelude.{◌≡◌, ◌⊎◌, ◌↔◌, ◌&&◌, Err, IfOk, IfSome, IsTrue, false};
 ghost use Rattle.std.specs.Io.KnownBytes.{Keeps};
@@ -13,9 +13,9 @@ use mx_io::{Output, OutputFault};
 use std::alloc::Global;
 use std::fmt::Display;
 
-/// Passes on what the output kept back, tells why the run ended early where it did, and returns the
-/// status: that of the run, 1 after a fault or where an output refused, 5 where memory ran out. An
-/// output that has refused is asked for nothing more.
+/// Flushes the output, reports why the command ended early if it did, and returns the status: its
+/// own, 1 after a fault or if an output refused, 5 if memory ran out. An output that has refused is
+/// not used any more.
 pub fn close<O: Output, E: Output>(
     alloc: Global,
     ended: Result<u8, CommandError>,
@@ -41,8 +41,8 @@ pub fn close<O: Output, E: Output>(
     }
 }
 
-/// Passes on what the output kept back, writes a line of why the run ended, and returns the status:
-/// 1, or 5 where memory ran out.
+/// Flushes the output, writes the line that says why the command ended, and returns the status: 1,
+/// or 5 if memory ran out.
 pub fn close_with<O: Output, E: Output, D: Display + Drop>(
     alloc: Global,
     line: D,
@@ -64,7 +64,7 @@ pub fn close_with<O: Output, E: Output, D: Display + Drop>(
     }
 }
 
-/// Tells why a run ended early, where it did, and returns the status.
+/// Reports why a command ended early, if it did, and returns the status.
 fn report_end<E: Output>(
     alloc: Global,
     ended: Result<u8, CommandError>,

@@ -56,7 +56,7 @@ fn explain_text<'a>(report: &mut FileReport<'a>, names: &PlanNames, part: Part<'
     }
 }
 
-/// Warns if a text that is no list of events is a script.
+/// Warns if a text that is not a list of events has a line that begins with a word of scripts.
 fn warn_of_script<'a>(report: &mut FileReport<'a>, part: Part<'a>) -> Explained {
     let Some(number) = first_script_line(report.alloc(), part.text)? else {
         return Ok(());

@@ -56,7 +56,7 @@ pub(crate) fn read_part<'a>(
     })
 }
 
-/// Returns the text up to the first byte that is not UTF-8, and whether there is none.
+/// Returns the longest prefix that is UTF-8, and whether that is the whole text.
 fn valid_start(text: &[u8]) -> (&str, bool) {
     match str::from_utf8(text) {
         Ok(text) => (text, true),
@@ -108,6 +108,7 @@ fn report_cut(
     report.fault_at(text.len(), cut)
 }
 
+/// Returns the location of the first bracket that is nested too deep, if there is one.
 fn deep_location(text: &str, above: usize, deep: Option<usize>) -> Option<Location> {
     let offset = deep?;
     Some(Location::of(text.as_bytes(), offset, above))

@@ -9,7 +9,8 @@ use std::alloc::{AllocError, Global};
 use std::fmt::Display;
 use std::marker::Model;
 
-/// The lines of faults and of warnings. Where the files are well it has warnings alone.
+/// The lines of faults and warnings. If the command finds no fault in the files, it keeps only the
+/// warnings.
 #[derive(Drop)]
 pub struct Report {
     alloc: Global,
@@ -47,7 +48,12 @@ impl Report {
         self.alloc
     }
 
-    /// Adds a fault of a file as a whole. The message begins with a space.
+    /// Adds a fault of a file as a whole, unless the command finds none in the files. The message begins
+    /// with a space.
+    ///
+    /// # Errors
+    ///
+    /// Returns `AllocError` if memory runs out.
     pub fn add_fault<D: Display + Drop>(&mut self, file: &str, message: D) -> Result<(), AllocError>
         ensures longer { IsLonger self.old self.new }
         ensures fault { OnOk result (has_fault self.new.lines
@@ -57,11 +63,11 @@ impl Report {
         self.push(line)
     }
 
-    /// Adds the lines of a file, or its warnings alone if the files are well.
+    /// Adds the lines of a file, or only its warnings if the command finds no fault in the files.
     ///
     /// # Errors
     ///
-    /// Returns `AllocError` if memory runs out. The first lines may be there then.
+    /// Returns `AllocError` if memory runs out; the first lines may have been added.
     pub fn add(&mut self, file: FileReport<'_>) -> Result<(), AllocError>
         ensures longer { IsLonger self.old self.new }
         ensures all { OnOk result ((lines : List Told) × AreAll file.entry lines

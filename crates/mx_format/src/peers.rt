@@ -62,7 +62,7 @@ fn add_start(plan: &Plan, is_json: bool, node: NodeId, text: &mut String) -> Res
     text.write(AsksHead { plan, node })
 }
 
-/// Appends what a line has after the names.
+/// Appends the line feed after the names. As JSON, appends nothing, since each object ends itself.
 fn add_end(is_json: bool, text: &mut String) -> Result<(), AllocError>
     ensures { OnOk result (string_bytes text.new ≡ string_bytes text.old ++ asks_end is_json) }
 {

@@ -179,7 +179,7 @@ fn add_meet_json(
     text.push_str("}\n")
 }
 
-/// Appends the lines of all nodes but the holder.
+/// Appends a line for each node but the holder: its neighbour toward the holder.
 fn add_directions(
     plan: &Plan,
     is_json: bool,
