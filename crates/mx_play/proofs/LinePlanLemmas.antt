@@ -3,7 +3,6 @@ use Rattle.std.proofs.Common.{◌≡◌, ◌≤◌, ◌⊎◌, true, false, List
 use Rattle.std.specs.Str.{IsUtf8}
 use Rattle.mx_cli.specs.Reading.{IsRead, Reads}
 use Rattle.mx_cli.specs.declared.faults.CommandError.{CommandError}
-use Rattle.mx_lines.specs.declared.commands.SessionCommand.{SessionCommand}
 use Rattle.mx_lines.specs.declared.errors.LineError.{LineError}
 use Rattle.mx_plan.specs.Text.{Text}
 use Rattle.mx_plan.specs.Fields.{Fields}

@@ -1,7 +1,6 @@
 -- The turns of lines, one after another.
-use Rattle.std.proofs.Common.{◌≡◌, ◌∙◌, Bool, true, false, List, [], ◌∷◌, ◌++◌, Option, Some, None, Result, Ok, Err, IfOk, IfSome, refl, sym, ap, subst, append_assoc}
-use Rattle.std.specs.Prelude.{◌||◌, not}
-use Rattle.std.specs.Io.KnownBytes.{Appends}
+use Rattle.std.proofs.Common.{◌≡◌, ◌∙◌, Bool, true, false, List, [], ◌∷◌, ◌++◌, Option, Some, None, IfSome, refl, sym, ap, subst, append_assoc}
+use Rattle.std.specs.Prelude.{◌||◌}
 use Rattle.mx_stamps.proofs.Lists.{append_nil}
 use Rattle.mx_nodelaws.specs.Core.{Core}
 use Rattle.mx_knowledge.specs.Facts.{Known}
@@ -103,9 +102,12 @@ module _ (p : Fields) where
       one_left : (turns : List Turn) (known left : List Text) → ends t ≡ false → ReadsInput p left of buffer rest' → ((later : List Turn) → AreTurnsOf p left later → AreTurnsOf p known (turns ++ later))
           → (others : List Text) × (rest' ≡ Some others) × ((later : List Turn) → AreTurnsOf p others later → AreTurnsOf p known ((turns ++ t ∷ []) ++ later))
       one_left turns known [] goes reads x = absurd (some reads.0)
-      one_left turns known (line ∷ others) goes reads x =
-          (others, reads.1, λ later y. subst (λ (ts : List Turn). AreTurnsOf p known ts) (sym (append_assoc turns (t ∷ []) later))
-          (x (t ∷ later) (turn_of_line p line of buffer t reads.0 is, (λ end. absurd (not_both (sym end ∙ goes))), λ _. y)))
+      one_left turns known (line ∷ others) goes reads x = (
+        others,
+        reads.1,
+        λ later y. subst (λ (ts : List Turn). AreTurnsOf p known ts) (sym (append_assoc turns (t ∷ []) later))
+            (x (t ∷ later) (turn_of_line p line of buffer t reads.0 is, (λ end. absurd (not_both (sym end ∙ goes))), λ _. y)),
+      )
 
       pub leaves_next : (turns : List Turn) (rest lines : Option (List Text)) → ends t ≡ false → Leaves p turns rest lines → Reads rest → Leaves p (turns ++ t ∷ []) rest' lines
       leaves_next turns rest None goes x reads = tt

@@ -1,7 +1,7 @@
 -- The lines of a text, one after another, and the turns that are theirs.
-use Rattle.std.proofs.Common.{◌≡◌, ◌≤◌, ◌<◌, ◌∙◌, ◌+◌, ◌==◌, ℕ, suc, Bool, true, false, List, [], ◌∷◌, ◌++◌, Option, Some, None, Result, Ok, Err, IfSome, length, take, drop, refl, sym, ap, ap₂, subst, arith, inl, inr}
+use Rattle.std.proofs.Common.{◌≡◌, ◌≤◌, ◌<◌, ◌∙◌, ◌+◌, ◌==◌, ℕ, suc, Bool, true, false, List, [], ◌∷◌, ◌++◌, Some, length, take, drop, refl, sym, ap, ap₂, subst, arith}
 use Rattle.std.specs.Prelude.{cond, not, if◌then◌else◌}
-use Rattle.std.specs.List.{after_first, before_first, position_or_len, prefix_len}
+use Rattle.std.specs.List.{after_first, before_first, position_or_len}
 use Rattle.mx_plan.specs.Text.{Text}
 use Rattle.mx_play.specs.Lines.{ReadsNext, before_lines, lines_of}
 use Rattle.mx_play.specs.declared.lines.LineRead.TheVariants.{Line, TooLong}

@@ -1,7 +1,5 @@
-use Rattle.std.specs.Prelude.{ℕ}
 use Rattle.mx_cli.specs.Reading.{is_dash}
 use Rattle.mx_play.specs.Lines.{session_lines}
-use Rattle.mx_play.specs.PlayWords.{request_of}
 use Rattle.mx_play.proofs.PlayedLemmas.{by_left}
 use Rattle.mx_play.proofs.command.play_request.Goals as goal
 

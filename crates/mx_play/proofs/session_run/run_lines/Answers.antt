@@ -1,4 +1,4 @@
-use Rattle.std.proofs.Common.{◌≡◌, ◌∙◌, List, ℕ, IfSome, subst, sym}
+use Rattle.std.proofs.Common.{◌∙◌, List, ℕ, IfSome, subst, sym}
 use Rattle.mx_format.specs.LetterTexts.{letter_text}
 use Rattle.mx_play.specs.LineTurns.{ReadsInput}
 use Rattle.mx_play.proofs.TurnLemmas.{run_ended, run_out, running_first, running_next}
