@@ -72,7 +72,7 @@ module _ {H S M : Type 0} (core : Core H S M) (letter_text : Fields → M → Te
 
   -- ---- a loop over the events of an order
 
-  -- an order of which so many events have happened
+  -- an order, after `done` of its events
   pub record Performing (o : Order) (count : ℕ) (first now : SessionState S M) (t t' : Text) : Type 0 where
     pub before : List SessionEvent
     pub adds : Adds core letter_text p before first now t t'

@@ -48,7 +48,7 @@ where
     finish(setting, session, out)
 }
 
-/// Runs the lines that come, the first of which has this number, unless the session has ended.
+/// Runs the lines that come, numbered from `next`, unless the session has ended.
 fn run_rest<C: Exclusion + Knowledge, L: Lines, O: Output, E: Output>(
     setting: &Setting<'_, C>,
     next: Option<u64>,
@@ -76,8 +76,8 @@ where
     }
 }
 
-/// Runs lines, the first of which has this number, until there are no more, or one ends the
-/// session. Returns the number of the next line if the session goes on.
+/// Runs lines, numbered from `first`, until there are no more, or one ends the session. Returns the
+/// number of the next line if the session goes on.
 fn run_lines<C: Exclusion + Knowledge, L: Lines, O: Output, E: Output>(
     setting: &Setting<'_, C>,
     first: u64,

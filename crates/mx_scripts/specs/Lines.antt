@@ -47,7 +47,7 @@ IsAgain d from to e =
     (k : ℕ) × (slice_index_or d.last (link_of from to) None ≡ Some k) × (e ≡ arrival k)
 
 module _ {P : Type 0} (d : Fates) (sent : List (ℕ × ℕ × P)) where
-  -- what an order asks for next, of which so many events have happened
+  -- what an order asks for next, after `done` of its events
   abbrev pub IsNext : Order → ℕ → Option SessionEvent → Type 0
   IsNext (order.Happens event) done next = Once done (λ e. e ≡ Happens event) next
   IsNext (order.Arrives from to) done next =
@@ -70,7 +70,7 @@ module _ {P : Type 0} (d : Fates) (sent : List (ℕ × ℕ × P)) where
       × (slice_index_or d.last (link_of from to) None ≡ None)
   Misses _ done fault = ⊥
 
--- why an order, of which so many events have happened, asks for nothing that can happen: there is no
+-- why an order, after `done` of its events, asks for nothing that can happen: there is no
 -- such parcel, or the next event is held up
 abbrev pub IsNoNext : {S M : Type 0} → RunState S M → Order → ℕ → LineFault → Type 0
 IsNoNext s order done fault =
@@ -91,7 +91,7 @@ Misreads p text why =
     × (line_of (known_of p) (texts_of words) ≡ Err error) × (why ≡ failure.WrongWord error)
 
 module _ {H S M : Type 0} (core : Core H S M) where
-  -- an order of which so many events have happened asks for these, and each leads to the state in
+  -- after `done` of its events, an order asks for these, and each leads to the state in
   -- which it asks for the next
   abbrev pub Performs : Order → ℕ → RunState S M → List SessionEvent → RunState S M → Type 0
   Performs order done old [] new =
@@ -100,7 +100,7 @@ module _ {H S M : Type 0} (core : Core H S M) where
       (mid : RunState S M) × IsNext old.fates old.cluster.sent order done (Some e)
       × IsAllowed old e × Brings core old e mid × Performs order (suc done) mid es new
 
-  -- the same so many times
+  -- the same, `times` times
   abbrev pub Repeats : Order → ℕ → RunState S M → List SessionEvent → RunState S M → Type 0
   Repeats order zero old es new = (new ≡ old) × (es ≡ [])
   Repeats order (suc times) old es new =
@@ -111,7 +111,7 @@ module _ {H S M : Type 0} (core : Core H S M) where
   abbrev pub Does : Line → RunState S M → RunState S M → Type 0
   Does line old new = (es : List SessionEvent) × Repeats line.order line.times old es new
 
-  -- an order of which so many events have happened stops here: it has no next event that can happen,
+  -- after `done` of its events, an order stops here: it has no next event that can happen,
   -- the next is not applied, or there have been too many
   abbrev pub Stops : Order → ℕ → RunState S M → LineFailure → Type 0
   Stops order done s why =
@@ -127,7 +127,7 @@ module _ {H S M : Type 0} (core : Core H S M) where
       (mid : RunState S M) × IsNext old.fates old.cluster.sent order done (Some e)
       × IsAllowed old e × Brings core old e mid × StopsAfter order (suc done) mid es why
 
-  -- it stops at one of so many times
+  -- it stops at one of `times` times
   abbrev pub StopsWithin : Order → ℕ → RunState S M → LineFailure → Type 0
   StopsWithin order zero old why = ⊥
   StopsWithin order (suc times) old why =
