@@ -1,6 +1,6 @@
 -- Help: the words. Histories: what happens, one event after another. Cuts: the lines of links that
 -- are cut. Views: what is shown. Commands: what a line asks for. Lines: the lines of a session.
--- LineTurns: which turns are those of which lines. Sessions: what lines did. Turns: what lines do,
+-- LineTurns: the turn of each line. Sessions: what lines did. Turns: what lines do,
 -- one after another. PlayWords: what the words of the command ask for. Played: what `play` does.
 pub mod Help
 pub mod Histories

@@ -11,9 +11,9 @@ const MAX_AHEAD: usize = 4096;
 /// A line at which more bytes come, or signals interrupt more reads, can't be read.
 const MAX_STEPS: u64 = 2 * MAX_BYTES;
 
-/// The lines that are typed, or come through a pipe. What is there is read, and nothing more is
-/// waited for than the end of the line that is asked for. In all they have as many bytes as a file
-/// may have, and are read by as many reads: a line with more can't be read.
+/// The lines that are typed, or come through a pipe. Reading a line waits only for the end of that
+/// line. In all, they have at most as many bytes as a file may have, and take at most as many reads;
+/// a line beyond that can't be read.
 #[derive(Drop)]
 pub struct Typed<R: Read + Drop> {
     reader: Counted<R>,

@@ -28,8 +28,8 @@ fn once(done: u64, event: SessionEvent) -> Option<SessionEvent>
 }
 
 impl<C: Exclusion> State<C> {
-    /// The next event that an order asks for, of which so many have happened; or none, if no more
-    /// is to happen.
+    /// Returns the next event that an order asks for, after `done` of its events; none if it asks for
+    /// no more.
     ///
     /// # Errors
     ///
