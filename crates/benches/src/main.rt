@@ -7,7 +7,6 @@ mod gate;
 mod jobs;
 mod journals;
 mod live;
-mod nodes;
 mod shapes;
 
 use crate::jobs::time_jobs;

@@ -72,6 +72,7 @@ fn request_in<'a>(name: &str, matches: &ArgMatches<'a>) -> Option<Request<'a>>
     }
 }
 
+/// Returns what `check` asks for, or `None` with `--json`, a form that has a call of its own.
 fn check_in<'a>(matches: &ArgMatches<'a>) -> Option<Request<'a>>
     ensures { option_map request_of result ≡ check_in (rows_of (found_of matches.now)) }
 {
@@ -88,6 +89,7 @@ fn check_in<'a>(matches: &ArgMatches<'a>) -> Option<Request<'a>>
     }
 }
 
+/// Returns what `replay` asks for, or `None` with an option, a form that has a call of its own.
 fn replay_in<'a>(matches: &ArgMatches<'a>) -> Option<Request<'a>>
     ensures { option_map request_of result ≡ replay_in (rows_of (found_of matches.now)) }
 {
@@ -97,6 +99,8 @@ fn replay_in<'a>(matches: &ArgMatches<'a>) -> Option<Request<'a>>
     names_at(matches).map(Request::Replay)
 }
 
+/// Returns what `explore` asks for, or `None` with `--count` or `--json`, forms that have a call of
+/// their own.
 fn explore_in<'a>(matches: &ArgMatches<'a>) -> Option<Request<'a>>
     ensures { option_map request_of result ≡ explore_in (rows_of (found_of matches.now)) }
 {

@@ -108,3 +108,10 @@ RanOf takes_all old new told request result =
 abbrev pub StopsAt : {G : Type 0} → ℕ → Result G StepFault → CommandError → Type 0
 StopsAt k wanted end =
     (end ≡ command_error.Memory) ⊎ ((end ≡ command_error.Fault (NoParcel k)) × (wanted ≡ Err step_fault.NoParcel))
+
+-- why a run of this report stops while it prints nothing: by the report's fault, or because memory
+-- ran out
+abbrev pub StopsAs : Report → CommandError → Type 0
+StopsAs r (command_error.Fault fault) = r.end ≡ Some fault
+StopsAs r command_error.Writer = ⊥
+StopsAs r command_error.Memory = ⊤

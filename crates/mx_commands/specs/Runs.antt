@@ -72,6 +72,10 @@ pub record Texts (S M : Type 0) : Type 0 where
   -- at the end
   pub closing : ClusterState S M → Text
 
+-- nothing is printed
+abbrev pub silent : {S M : Type 0} → Texts S M
+silent = record { event = λ _ _ _. []; closing = λ _. [] }
+
 module _ {S M : Type 0} (texts : Texts S M) where
   -- the text of one event, and then the rest; or there is no such parcel, since the events that are
   -- read name nodes of the plan

@@ -52,7 +52,7 @@ fn add_member<C: Exclusion>(
 }
 
 /// Appends the lines of the parcels from `before` on.
-pub(crate) fn add_parcels<C: Exclusion>(
+pub fn add_parcels<C: Exclusion>(
     plan: &Plan,
     cluster: &Cluster<C>,
     before: u64,

@@ -26,7 +26,7 @@ impl fmt::Display for VerdictJson {
     }
 }
 
-/// The object of a broken verdict: the event at which it is, and the clause.
+/// The object of a broken verdict: the index of the event that breaks the trace, and the clause.
 #[derive(Clone, Copy)]
 struct BrokenJson<'a> {
     index: u64,

@@ -22,8 +22,8 @@ use Rattle.mx_count.specs.Counts.{all_parcels_text, all_refusals_text, parcels_t
 use Rattle.mx_count.specs.Waits.{longest_wait}
 use Rattle.mx_count.specs.Kinds.{gossip_names, is_under, letter_names, other_names}
 use Rattle.mx_count.specs.Measures.{measure_text}
-use Rattle.mx_count.specs.NodeCounts.{entries_of, node_tallies, node_tally, received_of, refused_of, sent_of}
-use Rattle.mx_count.specs.Tallies.{counts_end, kind_indent, part_indent, share_text, tally_text}
+use Rattle.mx_count.specs.NodeCounts.{entries_of, node_tallies, received_of, refused_of, sent_of}
+use Rattle.mx_count.specs.Tallies.{counts_end, kind_indent, part_indent, share_text, tally, tally_text}
 use Rattle.mx_count.specs.declared.counted_run.Options.{Options}
 use Rattle.mx_count.specs.declared.measures.Measure.TheVariants.{Response, Delay}
 
@@ -97,12 +97,12 @@ timed_is {M} is_json sent trace es wait t t1 t2 t3 (Err e) same waited first sec
 
 -- the counts of a node
 pub node_counted : {S M : Type 0} (is_json : Bool) (g : ClusterState S M) (i entered sent received refused : ℕ) (t t1 t2 t3 t4 : Text) (r : Result ⊤ AllocError)
-    → entered ≡ entries_of i g → sent ≡ sent_of i g → received ≡ received_of i g → refused ≡ refused_of i g → t1 ≡ t ++ node_tally is_json (codes ": ") (codes "sections") entered
-    → t2 ≡ t1 ++ node_tally is_json (codes ", ") (codes "sent") sent → t3 ≡ t2 ++ node_tally is_json (codes ", ") (codes "received") received
-    → OnOk r (t4 ≡ t3 ++ node_tally is_json (codes ", ") (codes "refused") refused) → OnOk r (t4 ≡ t ++ node_tallies is_json g i)
+    → entered ≡ entries_of i g → sent ≡ sent_of i g → received ≡ received_of i g → refused ≡ refused_of i g → t1 ≡ t ++ tally is_json (codes ": ") (codes "sections") entered
+    → t2 ≡ t1 ++ tally is_json (codes ", ") (codes "sent") sent → t3 ≡ t2 ++ tally is_json (codes ", ") (codes "received") received
+    → OnOk r (t4 ≡ t3 ++ tally is_json (codes ", ") (codes "refused") refused) → OnOk r (t4 ≡ t ++ node_tallies is_json g i)
 node_counted {S} {M} is_json g i entered sent received refused t t1 t2 t3 t4 (Ok u) a b c d first second third fourth =
-    let one = node_tally is_json (codes ": ") (codes "sections") in
-    let more = node_tally is_json (codes ", ") in
+    let one = tally is_json (codes ": ") (codes "sections") in
+    let more = tally is_json (codes ", ") in
     four t t1 t2 t3 t4 (one (entries_of i g)) (more (codes "sent") (sent_of i g)) (more (codes "received") (received_of i g)) (more (codes "refused") (refused_of i g))
     (first ∙ ap (λ (n : ℕ). t ++ one n) a) (second ∙ ap (λ (n : ℕ). t1 ++ more (codes "sent") n) b) (third ∙ ap (λ (n : ℕ). t2 ++ more (codes "received") n) c)
     (fourth ∙ ap (λ (n : ℕ). t3 ++ more (codes "refused") n) d)

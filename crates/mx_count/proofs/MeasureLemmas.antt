@@ -1,7 +1,5 @@
 -- Measures of a trace, one item after another, and their texts.
-use Rattle.std.proofs.Common.{◌≡◌, ◌∙◌, ◌<◌, ◌≤◌, ◌+◌, ◌-◌, ◌++◌, ℕ, Bool, List, [], ◌∷◌, Option, Some, None, false, Result, Ok, Err, OnOk, ap, append_assoc, arith, drop, get_or, length, max, min, refl, slice_get, subst, sym, take}
-use Rattle.std.specs.Prelude.{if◌then◌else◌}
-use Rattle.std.specs.Option.{option_map_or}
+use Rattle.std.proofs.Common.{◌≡◌, ◌∙◌, ◌<◌, ◌≤◌, ◌+◌, ◌-◌, ◌++◌, ℕ, Bool, List, [], ◌∷◌, Result, Ok, Err, OnOk, ap, append_assoc, arith, drop, get_or, length, max, min, refl, subst, sym, take}
 use Rattle.std.specs.Bool.{⊤}
 use Rattle.std.specs.declared.alloc.AllocError.{AllocError}
 use Rattle.std.proofs.lemmas.List.{at_drop_all, at_drop_more, length-drop, take_all}
@@ -9,8 +7,8 @@ use Rattle.mx_stamps.proofs.Lists.{append_nil}
 use Rattle.mx_trace.specs.declared.outcome.Entry.{Entry}
 use Rattle.mx_member.specs.declared.parcel.Parcel.{Parcel}
 use Rattle.mx_plan.specs.Text.{Text}
-use Rattle.mx_count.specs.Measures.{end_from, greatest_from, greatest_text, least_from, least_text, letters_in, letters_until, mean_start, measure_end, measure_name, measure_text, measured, numbers_text, place_if, spread_text, sum_from}
-use Rattle.mx_count.specs.Tallies.{quotient_text, value_end, value_start}
+use Rattle.mx_count.specs.Measures.{end_from, greatest_from, greatest_start, greatest_text, least_from, least_start, least_text, letters_until, mean_start, measure_end, measure_name, measure_text, measured, numbers_text, spread_text, sum_from}
+use Rattle.mx_count.specs.Tallies.{labelled, quotient_text, value_end, value_start}
 use Rattle.mx_count.specs.declared.measures.Measure.{Measure}
 use Rattle.mx_count.proofs.CountedLemmas.{four, joined}
 
@@ -34,20 +32,6 @@ pub measured_end : {M : Type 0} (measure : Measure) (sent : List (ℕ × ℕ × 
     → a ++ measured measure sent (drop k xs) ≡ total → a ≡ total
 unfolding measured
 measured_end {M} measure sent xs k a total le is = sym (append_nil a) ∙ ap (λ (l : List ℕ). a ++ l) (sym (at_drop_all (measured measure sent) xs k le)) ∙ is
-
--- nothing, or one number, is measured from an item on
-pub nothing_measured : {M : Type 0} (sent : List (ℕ × ℕ × Parcel M)) (es : List Entry) (o : Option ℕ) (a : List ℕ) → o ≡ None → a ≡ a ++ letters_until sent es o
-nothing_measured {M} sent es o a is = subst (λ (p : Option ℕ). a ≡ a ++ letters_until sent es p) (sym is) (sym (append_nil a))
-
-pub one_measured : {M : Type 0} (sent : List (ℕ × ℕ × Parcel M)) (es : List Entry) (o : Option ℕ) (a b : List ℕ) (k n : ℕ) → o ≡ Some k → n ≡ letters_in sent (take k es)
-    → b ≡ a ++ n ∷ [] → b ≡ a ++ letters_until sent es o
-one_measured {M} sent es o a b k n is count more =
-    subst (λ (p : Option ℕ). b ≡ a ++ letters_until sent es p) (sym is) (more ∙ ap (λ (m : ℕ). a ++ m ∷ []) count)
-
--- a place, by what is there
-pub place_is : (p : Entry → Bool) (es : List Entry) (o : Option ℕ) (k : ℕ) (x : Entry) → o ≡ Some k → slice_get es k ≡ Some x → place_if p es o ≡ (if p x then Some k else None)
-place_is p es o k x is there =
-    ap (place_if p es) is ∙ ap (λ (y : Option Entry). if option_map_or p y false then Some k else None) there
 
 -- ---- one number after another
 
@@ -85,13 +69,14 @@ sum_end = fold_end sum_from (λ a x. a + x) (λ _. refl) (λ _ _ _. refl)
 
 -- ---- texts
 
-pub spread_is : (is_json : Bool) (x : ℕ) (xs : List ℕ) (least greatest : ℕ) (t t1 t2 t3 t4 : Text) (r : Result ⊤ AllocError) → least ≡ least_from x xs → greatest ≡ greatest_from x xs
-    → t1 ≡ t ++ least_text is_json least → t2 ≡ t1 ++ (mean_start is_json ++ quotient_text (sum_from x xs) (length xs + 1)) → t3 ≡ t2 ++ greatest_text is_json greatest
+pub spread_is : (is_json : Bool) (x : ℕ) (xs : List ℕ) (low high : Text) (least greatest : ℕ) (t t1 t2 t3 t4 : Text) (r : Result ⊤ AllocError) → low ≡ least_start is_json
+    → high ≡ greatest_start is_json → least ≡ least_from x xs → greatest ≡ greatest_from x xs → t1 ≡ t ++ labelled low least → t2 ≡ t1 ++ (mean_start is_json ++ quotient_text (sum_from x xs) (length xs + 1)) → t3 ≡ t2 ++ labelled high greatest
     → OnOk r (t4 ≡ t3 ++ measure_end is_json) → OnOk r (t4 ≡ t ++ spread_text is_json x xs)
-spread_is is_json x xs least greatest t t1 t2 t3 t4 (Ok u) low high first second third fourth =
+spread_is is_json x xs low high least greatest t t1 t2 t3 t4 (Ok u) below above few many first second third fourth =
     four t t1 t2 t3 t4 (least_text is_json (least_from x xs)) (mean_start is_json ++ quotient_text (sum_from x xs) (length xs + 1)) (greatest_text is_json (greatest_from x xs)) (measure_end is_json)
-    (first ∙ ap (λ (n : ℕ). t ++ least_text is_json n) low) second (third ∙ ap (λ (n : ℕ). t2 ++ greatest_text is_json n) high) fourth
-spread_is is_json x xs least greatest t t1 t2 t3 t4 (Err e) low high first second third fourth = tt
+    (first ∙ ap (λ (n : ℕ). t ++ labelled low n) few ∙ ap (λ (l : Text). t ++ labelled l (least_from x xs)) below) second
+    (third ∙ ap (λ (n : ℕ). t2 ++ labelled high n) many ∙ ap (λ (l : Text). t2 ++ labelled l (greatest_from x xs)) above) fourth
+spread_is is_json x xs low high least greatest t t1 t2 t3 t4 (Err e) below above few many first second third fourth = tt
 
 pub numbers_are : (is_json : Bool) (ns : List ℕ) (x : ℕ) (xs : List ℕ) (t t1 : Text) (r : Result ⊤ AllocError) → ns ≡ x ∷ xs → OnOk r (t1 ≡ t ++ spread_text is_json x xs)
     → OnOk r (t1 ≡ t ++ numbers_text is_json ns)

@@ -1,5 +1,5 @@
 -- What is counted of each node of a cluster.
-use Rattle.std.specs.Prelude.{ℕ, ◌&&◌, ◌++◌, Bool, false, List, Option, Some, None, codes, decimal, nat_eq, slice_get, if◌then◌else◌}
+use Rattle.std.specs.Prelude.{ℕ, ◌&&◌, ◌++◌, Bool, false, List, Option, Some, None, codes, nat_eq, slice_get, if◌then◌else◌}
 use Rattle.std.specs.List.{count_by}
 use Rattle.mx_events.specs.Events.{node_of}
 use Rattle.mx_events.specs.declared.event.Event.{Event}
@@ -12,7 +12,8 @@ use Rattle.mx_plan.specs.Text.{Text}
 use Rattle.mx_plan.specs.Fields.{Fields}
 use Rattle.mx_format.specs.EventTexts.{name_of}
 use Rattle.mx_format.specs.Lines.{texts_from}
-use Rattle.mx_format.specs.Members.{node_start, number_member}
+use Rattle.mx_format.specs.Members.{node_start}
+use Rattle.mx_count.specs.Tallies.{tally}
 use Rattle.mx_count.specs.Waits.{is_refusal}
 
 -- this node is that of an event
@@ -54,14 +55,6 @@ refused_of i g = count_by (is_refusal_of i) g.trace
 
 -- ---- the text of a node
 
-abbrev pub node_tally_text : Text → Text → ℕ → Text
-node_tally_text before name count = before ++ name ++ codes " " ++ decimal count
-
--- a name and its count, in a line after what separates them from the others
-abbrev pub node_tally : Bool → Text → Text → ℕ → Text
-node_tally is_json before name count =
-    if is_json then number_member name count else node_tally_text before name count
-
 abbrev pub node_head : Bool → Fields → ℕ → Text
 node_head is_json p i = if is_json then node_start p i else name_of p i
 
@@ -71,10 +64,10 @@ node_end is_json = if is_json then codes "}\n" else codes "\n"
 -- the counts of the i-th node
 abbrev pub node_tallies : {S M : Type 0} → Bool → ClusterState S M → ℕ → Text
 node_tallies is_json g i =
-    node_tally is_json (codes ": ") (codes "sections") (entries_of i g)
-    ++ node_tally is_json (codes ", ") (codes "sent") (sent_of i g)
-    ++ node_tally is_json (codes ", ") (codes "received") (received_of i g)
-    ++ node_tally is_json (codes ", ") (codes "refused") (refused_of i g)
+    tally is_json (codes ": ") (codes "sections") (entries_of i g)
+    ++ tally is_json (codes ", ") (codes "sent") (sent_of i g)
+    ++ tally is_json (codes ", ") (codes "received") (received_of i g)
+    ++ tally is_json (codes ", ") (codes "refused") (refused_of i g)
 
 abbrev pub node_text : {S M : Type 0} → Bool → Fields → ClusterState S M → ℕ → Text
 node_text is_json p g i =

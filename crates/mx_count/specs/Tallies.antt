@@ -10,22 +10,31 @@ part_indent = codes "  "
 abbrev pub kind_indent : Text
 kind_indent = codes "    "
 
-abbrev pub tally_line : Text → Text → ℕ → Text
-tally_line indent name count = indent ++ name ++ codes " " ++ decimal count ++ line_feed
+-- a name and its count, after what comes before them
+abbrev pub named_count : Text → Text → ℕ → Text
+named_count before name count = before ++ name ++ codes " " ++ decimal count
 
 -- a number after what it is of
 abbrev pub labelled : Text → ℕ → Text
 labelled label number = label ++ decimal number
 
--- a name and its count
+-- a count: a member, or a part of a line
+abbrev pub tally : Bool → Text → Text → ℕ → Text
+tally is_json before name count =
+    if is_json then number_member name count else named_count before name count
+
+-- what comes after a count, or another value
+abbrev pub value_end : Bool → Text
+value_end is_json = if is_json then [] else line_feed
+
+-- a count: a member, or a line
 abbrev pub tally_text : Bool → Text → Text → ℕ → Text
-tally_text is_json indent name count =
-    if is_json then number_member name count else tally_line indent name count
+tally_text is_json indent name count = tally is_json indent name count ++ value_end is_json
 
 -- the first count of an object, or of lines
 abbrev pub first_tally_text : Bool → Text → ℕ → Text
 first_tally_text is_json name count =
-    if is_json then number_start name count else tally_line [] name count
+    if is_json then number_start name count else tally_text is_json [] name count
 
 -- ---- values that are no counts
 
@@ -33,12 +42,9 @@ first_tally_text is_json name count =
 abbrev pub key_text : Text → Text
 key_text name = codes ",\"" ++ name ++ codes "\":"
 
--- what comes before a value, and after it
+-- what comes before a value
 abbrev pub value_start : Bool → Text → Text
 value_start is_json name = if is_json then key_text name else name ++ codes " "
-
-abbrev pub value_end : Bool → Text
-value_end is_json = if is_json then [] else line_feed
 
 -- a value that there is none of
 abbrev pub absent_text : Bool → Text

@@ -1,37 +1,20 @@
 //! The texts of counts.
 
 ghost use Rattle.std.specs.Prelude.{Some};
-ghost use Rattle.mx_count.specs.NodeCounts.{node_tally_text};
-ghost use Rattle.mx_count.specs.Tallies.{labelled, tally_line, tenths_text};
+ghost use Rattle.mx_count.specs.Tallies.{labelled, named_count, tenths_text};
 
 use std::fmt;
 
-/// The line of a name and its count, behind its indentation.
+/// A name and its count, after their indentation, or what separates them from the count before.
 #[derive(Clone, Copy)]
-pub(crate) struct TallyLine<'a> {
-    pub(crate) indent: &'a str,
-    pub(crate) name: &'a str,
-    pub(crate) count: u64,
-}
-
-impl fmt::Display for TallyLine<'_> {
-    ghost output = { λ l. Some (tally_line l.indent.now l.name.now l.count) };
-
-    fn fmt<W: fmt::Write>(&self, f: &mut fmt::Formatter<W>) -> fmt::Result {
-        writeln!(f, "{}{} {}", self.indent, self.name, self.count)
-    }
-}
-
-/// A name and its count in the line of a node, after what separates them from the others.
-#[derive(Clone, Copy)]
-pub(crate) struct NodeTallyText<'a> {
+pub(crate) struct NamedCount<'a> {
     pub(crate) before: &'a str,
     pub(crate) name: &'a str,
     pub(crate) count: u64,
 }
 
-impl fmt::Display for NodeTallyText<'_> {
-    ghost output = { λ t. Some (node_tally_text t.before.now t.name.now t.count) };
+impl fmt::Display for NamedCount<'_> {
+    ghost output = { λ n. Some (named_count n.before.now n.name.now n.count) };
 
     fn fmt<W: fmt::Write>(&self, f: &mut fmt::Formatter<W>) -> fmt::Result {
         write!(f, "{}{} {}", self.before, self.name, self.count)

@@ -12,7 +12,7 @@ use crate::node_counts::add_node_counts;
 use crate::parcel_counts::{add_parcel_counts, count_parcels};
 use crate::refusal_counts::add_refusal_counts;
 use crate::spread::add_measure;
-use crate::tallies::{add_counts_end, add_first_tally, add_share, add_tally};
+use crate::tallies::{add_counts_end, add_first_tally, add_share, add_tally_line};
 use crate::waits::longest_wait;
 use mx_cli::{CommandError, Fault};
 use mx_commands::{add_verdict, by_shape, entries_in, happen, verdict_status};
@@ -187,8 +187,8 @@ fn add_head(
         ≡ string_bytes text.old ++ head_text is_json events sections parcels) }
 {
     add_first_tally(is_json, "events", events, text)?;
-    add_tally(is_json, "", "sections", sections, text)?;
-    add_tally(is_json, "", "parcels", parcels, text)
+    add_tally_line(is_json, "", "sections", sections, text)?;
+    add_tally_line(is_json, "", "parcels", parcels, text)
 }
 
 /// Appends how many steps, sections and parcels an exploration has.
@@ -278,7 +278,7 @@ fn add_times<C: Exclusion>(
         ++ times_text is_json cluster.now.sent cluster.now.trace) }
 {
     let wait = longest_wait(cluster.trace());
-    add_tally(is_json, "", "longest wait", wait, text)?;
+    add_tally_line(is_json, "", "longest wait", wait, text)?;
     add_measure(alloc, cluster, is_json, Measure::Response, text)?;
     add_measure(alloc, cluster, is_json, Measure::Delay, text)
 }

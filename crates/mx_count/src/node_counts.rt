@@ -1,15 +1,15 @@
 //! The counts of each node.
 
-ghost use Rattle.std.specs.Prelude.{◌≡◌, ◌<◌, ◌++◌, OnOk, length, slice_get, string_bytes};
+ghost use Rattle.std.specs.Prelude.{◌≡◌, ◌<◌, ◌++◌, OnOk, slice_get, string_bytes};
 ghost use Rattle.std.specs.List.{count_by};
-ghost use Rattle.mx_count.specs.NodeCounts.{is_addressee, is_delivered_to, is_entry_of, is_node, is_refusal_of, node_end, node_head, node_tallies, node_tally, node_text, nodes_text, sent_of};
+ghost use Rattle.mx_count.specs.NodeCounts.{is_addressee, is_delivered_to, is_entry_of, is_node, is_refusal_of, node_end, node_head, node_tallies, node_text, nodes_text, sent_of};
 
-use crate::count_lines::NodeTallyText;
 use crate::kinds::Group;
 use crate::parcel_counts::count_parcels;
+use crate::tallies::add_tally;
 use crate::waits::is_refusal;
 use mx_commands::is_entry;
-use mx_format::json::{NodeStart, add_number};
+use mx_format::json::NodeStart;
 use mx_format::{Letter, name_of};
 use mx_network::{Cluster, Entry, Event};
 use mx_nodelaws::Exclusion;
@@ -30,13 +30,13 @@ where
         ≡ string_bytes text.old ++ nodes_text is_json plan.now cluster.now) }
 {
     for i in 0..plan.nodes() {
-        add_at(plan, cluster, is_json, i, text)?;
+        add_node(plan, cluster, is_json, i, text)?;
     }
     Ok(())
 }
 
 /// Appends the counts of the node of this index.
-fn add_at<C: Exclusion>(
+fn add_node<C: Exclusion>(
     plan: &Plan,
     cluster: &Cluster<C>,
     is_json: bool,
@@ -50,22 +50,6 @@ where
         ≡ string_bytes text.old ++ node_text is_json plan.now cluster.now i) }
 {
     let node = NodeId::of(i).unwrap();
-    add_node(plan, cluster, is_json, node, text)
-}
-
-/// Appends the counts of a node.
-fn add_node<C: Exclusion>(
-    plan: &Plan,
-    cluster: &Cluster<C>,
-    is_json: bool,
-    node: NodeId,
-    text: &mut String,
-) -> Result<(), AllocError>
-where
-    C::Msg: Letter,
-    ensures { OnOk result (string_bytes text.new
-        ≡ string_bytes text.old ++ node_text is_json plan.now cluster.now node) }
-{
     add_head(plan, is_json, node, text)?;
     add_node_tallies(cluster, is_json, node, text)?;
     add_node_end(is_json, text)
@@ -84,16 +68,16 @@ where
         ≡ string_bytes text.old ++ node_tallies is_json cluster.now node) }
 {
     let trace = cluster.trace();
-    add_node_tally(is_json, ": ", "sections", entries_of(trace, node), text)?;
-    add_node_tally(is_json, ", ", "sent", sent_of(cluster, node), text)?;
-    add_node_tally(
+    add_tally(is_json, ": ", "sections", entries_of(trace, node), text)?;
+    add_tally(is_json, ", ", "sent", sent_of(cluster, node), text)?;
+    add_tally(
         is_json,
         ", ",
         "received",
         received_of(cluster, trace, node),
         text,
     )?;
-    add_node_tally(is_json, ", ", "refused", refused_of(trace, node), text)
+    add_tally(is_json, ", ", "refused", refused_of(trace, node), text)
 }
 
 /// Appends the name of a node, with which its counts start.
@@ -105,27 +89,6 @@ fn add_head(plan: &Plan, is_json: bool, node: NodeId, text: &mut String) -> Resu
         return text.write(NodeStart(plan, node));
     }
     text.push_str(name_of(plan, node))
-}
-
-/// Appends a count of a node: a member, or a part of its line, after what separates it.
-fn add_node_tally(
-    is_json: bool,
-    before: &str,
-    name: &str,
-    count: u64,
-    text: &mut String,
-) -> Result<(), AllocError>
-    ensures { OnOk result (string_bytes text.new
-        ≡ string_bytes text.old ++ node_tally is_json before.now name.now count) }
-{
-    if is_json {
-        return add_number(name, count, text);
-    }
-    text.write(NodeTallyText {
-        before,
-        name,
-        count,
-    })
 }
 
 /// Ends the counts of a node.

@@ -7,7 +7,7 @@ ghost use Rattle.mx_count.specs.Counts.{all_parcels_text, parcels_text};
 ghost use Rattle.mx_count.specs.Kinds.{is_in};
 
 use crate::kinds::{Group, gossip_names, is_in, letter_names, other_names};
-use crate::tallies::{KIND_INDENT, PART_INDENT, add_tally};
+use crate::tallies::{KIND_INDENT, PART_INDENT, add_tally_line};
 use mx_format::Letter;
 use mx_network::Cluster;
 use mx_nodelaws::Exclusion;
@@ -48,7 +48,7 @@ where
 {
     for name in names {
         let count = count_parcels(cluster, &Group::Named(*name));
-        add_tally(is_json, indent, *name, count, text)?;
+        add_tally_line(is_json, indent, *name, count, text)?;
     }
     Ok(())
 }

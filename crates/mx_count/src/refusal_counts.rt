@@ -5,7 +5,7 @@ ghost use Rattle.std.specs.List.{count_by};
 ghost use Rattle.mx_count.specs.Counts.{all_refusals_text, is_entry_under, refusals_text};
 
 use crate::kinds::{cause_names, is_refused_under, refused_names};
-use crate::tallies::{PART_INDENT, add_tally};
+use crate::tallies::{PART_INDENT, add_tally_line};
 use mx_network::Entry;
 use std::alloc::AllocError;
 
@@ -34,7 +34,7 @@ fn add_refusals_under(
         ++ refusals_text is_json indent.now trace.now (map (λ name. name.now) names.now)) }
 {
     for name in names {
-        add_tally(is_json, indent, *name, count_refusals(trace, *name), text)?;
+        add_tally_line(is_json, indent, *name, count_refusals(trace, *name), text)?;
     }
     Ok(())
 }

@@ -1,7 +1,7 @@
 //! The least, the mean and the greatest of numbers.
 
 ghost use Rattle.std.specs.Prelude.{◌≡◌, ◌++◌, ◌+◌, OnOk, length, string_bytes};
-ghost use Rattle.mx_count.specs.Measures.{greatest_from, greatest_start, greatest_text, least_from, least_start, least_text, mean_start, measure_end, measure_name, measure_text, numbers_text, spread_text, sum_from};
+ghost use Rattle.mx_count.specs.Measures.{greatest_from, greatest_start, least_from, least_start, mean_start, measure_end, measure_name, measure_text, numbers_text, spread_text, sum_from};
 ghost use Rattle.mx_count.specs.Tallies.{quotient_text};
 
 use crate::count_lines::Labelled;
@@ -54,18 +54,10 @@ fn add_spread(is_json: bool, first: u64, rest: &[u64], text: &mut String) -> Res
     ensures { OnOk result (string_bytes text.new
         ≡ string_bytes text.old ++ spread_text is_json first rest.now) }
 {
-    add_least(is_json, least_of(first, rest), text)?;
+    text.write(Labelled(least_start(is_json), least_of(first, rest)))?;
     add_mean(is_json, first, rest, text)?;
-    add_greatest(is_json, greatest_of(first, rest), text)?;
+    text.write(Labelled(greatest_start(is_json), greatest_of(first, rest)))?;
     add_measure_end(is_json, text)
-}
-
-/// Appends the least of numbers.
-fn add_least(is_json: bool, least: u64, text: &mut String) -> Result<(), AllocError>
-    ensures { OnOk result (string_bytes text.new
-        ≡ string_bytes text.old ++ least_text is_json least) }
-{
-    text.write(Labelled(least_start(is_json), least))
 }
 
 fn least_start(is_json: bool) -> &'static str
@@ -79,26 +71,14 @@ fn add_mean(is_json: bool, first: u64, rest: &[u64], text: &mut String) -> Resul
     ensures { OnOk result (string_bytes text.new ≡ string_bytes text.old
         ++ (mean_start is_json ++ quotient_text (sum_from first rest.now) (length rest.now + 1))) }
 {
-    add_mean_start(is_json, text)?;
+    text.push_str(mean_start(is_json))?;
     add_quotient(sum_of(first, rest), rest.len() as u64 + 1, text)
 }
 
-/// Appends the name of a mean.
-fn add_mean_start(is_json: bool, text: &mut String) -> Result<(), AllocError>
-    ensures { OnOk result (string_bytes text.new ≡ string_bytes text.old ++ mean_start is_json) }
+fn mean_start(is_json: bool) -> &'static str
+    ensures { result.now ≡ mean_start is_json }
 {
-    if is_json {
-        return text.push_str(",\"mean\":");
-    }
-    text.push_str(", mean ")
-}
-
-/// Appends the greatest of numbers.
-fn add_greatest(is_json: bool, greatest: u64, text: &mut String) -> Result<(), AllocError>
-    ensures { OnOk result (string_bytes text.new
-        ≡ string_bytes text.old ++ greatest_text is_json greatest) }
-{
-    text.write(Labelled(greatest_start(is_json), greatest))
+    if is_json { ",\"mean\":" } else { ", mean " }
 }
 
 fn greatest_start(is_json: bool) -> &'static str

@@ -1,9 +1,9 @@
 //! Counts and values with their names, as lines or as members of an object of JSON.
 
-ghost use Rattle.std.specs.Prelude.{◌≡◌, ◌≢◌, ◌++◌, [], OnOk, string_bytes};
-ghost use Rattle.mx_count.specs.Tallies.{absent_text, counts_end, first_tally_text, key_text, quotient_text, share_of, share_text, tally_text, value_end, value_start};
+ghost use Rattle.std.specs.Prelude.{◌≡◌, ◌≢◌, ◌++◌, OnOk, string_bytes};
+ghost use Rattle.mx_count.specs.Tallies.{absent_text, counts_end, first_tally_text, key_text, quotient_text, share_of, share_text, tally, tally_text, value_end, value_start};
 
-use crate::count_lines::{TallyLine, TenthsText};
+use crate::count_lines::{NamedCount, TenthsText};
 use mx_format::json::{NumberStart, add_number};
 use std::alloc::AllocError;
 
@@ -26,16 +26,11 @@ pub(crate) fn add_first_tally(
     if is_json {
         return text.write(NumberStart(name, count));
     }
-    let indent = "";
-    text.write(TallyLine {
-        indent,
-        name,
-        count,
-    })
+    add_tally_line(is_json, "", name, count, text)
 }
 
-/// Appends a count.
-pub(crate) fn add_tally(
+/// Appends a count: a member of an object, or a line.
+pub(crate) fn add_tally_line(
     is_json: bool,
     indent: &str,
     name: &str,
@@ -45,11 +40,26 @@ pub(crate) fn add_tally(
     ensures { OnOk result (string_bytes text.new
         ≡ string_bytes text.old ++ tally_text is_json indent.now name.now count) }
 {
+    add_tally(is_json, indent, name, count, text)?;
+    add_value_end(is_json, text)
+}
+
+/// Appends a count: a member of an object, or a part of a line, after what comes before it there.
+pub(crate) fn add_tally(
+    is_json: bool,
+    before: &str,
+    name: &str,
+    count: u64,
+    text: &mut String,
+) -> Result<(), AllocError>
+    ensures { OnOk result (string_bytes text.new
+        ≡ string_bytes text.old ++ tally is_json before.now name.now count) }
+{
     if is_json {
         return add_number(name, count, text);
     }
-    text.write(TallyLine {
-        indent,
+    text.write(NamedCount {
+        before,
         name,
         count,
     })

@@ -87,6 +87,13 @@ pub record CountsLine (is_fault : Bool) (old new : FileLines) : Type 0 where
   pub some : 0 < new.more
   pub hides : new.hides_fault ≡ (old.hides_fault || is_fault)
 
+-- this many warnings are counted
+pub record CountsWarnings (count : ℕ) (old new : FileLines) : Type 0 where
+  pub lines : new.lines ≡ old.lines
+  pub more : old.more + count < 2 ^ 64 → new.more ≡ old.more + count
+  pub some : 0 < count → 0 < new.more
+  pub hides : new.hides_fault ≡ old.hides_fault
+
 -- one line more: it is added, or counted if the file has the greatest number
 abbrev pub AddsLine : Bool → FileLines → FileLines → Type 0
 AddsLine is_fault old new =

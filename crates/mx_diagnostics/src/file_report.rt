@@ -2,7 +2,7 @@
 
 ghost use Rattle.std.specs.Prelude.{◌≡◌, ◌≤◌, ◌<◌, IfOk, OnErr, OnOk, length, true, false, []};
 ghost use Rattle.std.specs.Bool.{MatchBool};
-ghost use Rattle.mx_diagnostics.specs.Reports.{AddsLine, AreAll, CountsLine, max_lines};
+ghost use Rattle.mx_diagnostics.specs.Reports.{AddsLine, AreAll, CountsLine, CountsWarnings, max_lines};
 
 use crate::location::{Location, offset_of_line};
 use crate::report::either;
@@ -16,7 +16,7 @@ use std::marker::Model;
 pub(crate) type Explained = Result<(), AllocError>;
 
 /// The greatest number of lines of one file. More are counted.
-const MAX_LINES: usize = 20;
+pub const MAX_LINES: usize = 20;
 
 /// The lines of a file so far, and the text in which they have their places.
 #[derive(Drop)]
@@ -136,6 +136,13 @@ impl<'a> FileReport<'a> {
     {
         let offset = self.offset_of(number);
         self.add(false, offset, message)
+    }
+
+    /// Counts warnings that are not shown.
+    pub fn count_warnings(&mut self, count: u64)
+        ensures { CountsWarnings count self.old self.new }
+    {
+        self.more = self.more.saturating_add(count);
     }
 
     /// Returns where a line begins, which nobody asks for once lines are only counted.

@@ -26,7 +26,7 @@ mod shapes;
 mod words;
 
 pub use event_report::{EventOffsets, explain_event_text};
-pub use file_report::FileReport;
+pub use file_report::{FileReport, MAX_LINES};
 pub use messages::Unreadable;
 pub use names::{PlanNames, message_of_unknown_node};
 pub use plan_report::explain_plan_text;

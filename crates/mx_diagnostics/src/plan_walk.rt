@@ -311,7 +311,7 @@ fn is_of_kind(member: &Member, members: &[Member], kind: Option<&str>) -> bool {
     }
 }
 
-/// Returns whether the first of these members may be this word.
+/// Returns whether this word is one that the value of the first of these members may be.
 fn is_known_kind(members: &[Member], kind: &str) -> bool {
     match members.first() {
         Some(

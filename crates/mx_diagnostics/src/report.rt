@@ -63,7 +63,7 @@ impl Report {
         self.push(line)
     }
 
-    /// Adds the lines of a file, or only its warnings if the command finds no fault in the files.
+    /// Adds the report on a file, or only its warnings if the command finds no fault in the files.
     ///
     /// # Errors
     ///
@@ -105,7 +105,7 @@ impl Report {
         Ok(())
     }
 
-    /// Ends the lines. Where the files are not well and no line is of a fault, one says so.
+    /// Ends the report. Adds a line that says so if the command finds a fault and no line is of one.
     pub fn end(&mut self, file: &str) -> Result<(), AllocError>
         ensures longer { IsLonger self.old self.new }
         ensures well { OnOk result (has_fault self.new.lines ≡ not self.old.is_well) }
@@ -130,6 +130,7 @@ impl Report {
         Ok(text)
     }
 
+    /// Returns the text of all lines. The contract of `text` says more about it.
     fn written(&self) -> Result<String, AllocError>
         ensures value { IfOk result (λ text. string_bytes text ≡ report_text self.now.lines) }
         ensures lines { IfOk result (λ _. AreLines self.now.lines) }
@@ -143,12 +144,14 @@ impl Report {
     }
 }
 
+/// Returns whether both hold; the clause says for the prover what `&&` returns.
 fn both(a: bool, b: bool) -> bool
     ensures { result ≡ (a && b) }
 {
     a && b
 }
 
+/// Returns whether one of both holds; the clause says for the prover what `||` returns.
 pub(crate) fn either(a: bool, b: bool) -> bool
     ensures { result ≡ (a || b) }
 {

@@ -1,18 +1,18 @@
 -- What standard output gets of an explanation.
-use Rattle.std.proofs.Common.{◌≡◌, ◌≢◌, ◌∙◌, ◌⊎◌, ◌↔◌, ℕ, Bool, true, false, suc, List, [], ◌∷◌, Result, Ok, Err, ap, subst, sym, refl, inl, inr, arith}
-use Rattle.std.specs.Prelude.{◌&&◌, IfOk, IfErr, OnOk, MatchResult}
+use Rattle.std.proofs.Common.{◌≡◌, ◌≢◌, ◌∙◌, ◌⊎◌, ℕ, Bool, true, false, suc, [], ◌∷◌, Result, Ok, Err, ap, refl, inl, inr, arith}
+use Rattle.std.specs.Prelude.{IfOk, OnOk}
 use Rattle.std.specs.Io.KnownBytes.{Appends, Keeps}
 use Rattle.mx_plan.specs.Text.{Text}
 use Rattle.mx_io.specs.Outputs.{Held}
 use Rattle.mx_cli.specs.declared.faults.CommandError.{CommandError}
 use Rattle.mx_cli.specs.declared.faults.CommandError.TheVariants as command_error
-use Rattle.mx_cli.specs.Reports.{MayReport, ReportsFault}
+use Rattle.mx_cli.specs.Reports.{ReportsFault}
 use Rattle.mx_cli.specs.Closed.{Closes, FallsShort}
 use Rattle.mx_cli.proofs.OutputLemmas.{Appends-keeps, Appends-nil, Keeps-refl}
 use Rattle.mx_scripts.specs.declared.script_error.ScriptError.{ScriptError}
 use Rattle.mx_scripts.specs.declared.script_error.ScriptError.TheVariants as script_error
 use Rattle.mx_scripts.specs.Ended.{ClosesScript}
-use Rattle.mx_diagnostics.specs.Reports.{AreShown, last_line, nothing_at_fault}
+use Rattle.mx_diagnostics.specs.Reports.{last_line, nothing_at_fault}
 use Rattle.mx_explain.specs.Explained.{Prints, PrintsReport, TellsLines}
 
 -- ---- what is printed

@@ -12,31 +12,14 @@ ghost use Rattle.std.specs.Io.KnownBytes.{Keeps};
 
 use crate::cached_source::{CachedSource, DetailedSource};
 use crate::files::explain_files;
+use crate::replay::{ReplayWarnings, replay};
 use crate::request::{ExplainRequest, parse};
 use crate::scripts::explain_script;
 use mx_cli::{CommandError, Fault, Request, close, refuse};
-use mx_commands::{carry_out, names_in};
+use mx_commands::{NullOutput, carry_out, names_in};
 use mx_diagnostics::Report;
-use mx_io::{Output, OutputFault, Source};
+use mx_io::{Output, Source};
 use std::alloc::{AllocError, Global};
-
-/// An output that takes all, and keeps nothing.
-#[derive(Drop)]
-struct NullOutput;
-
-impl Output for NullOutput {
-    ghost takes_all = { λ _. true };
-
-    ghost has_refused = { λ _. false };
-
-    fn put(&mut self, _text: &[u8]) -> Result<(), OutputFault> {
-        Ok(())
-    }
-
-    fn flush(&mut self) -> Result<(), OutputFault> {
-        Ok(())
-    }
-}
 
 /// Runs a command line whose first argument is `explain`, without the program's name. Returns the
 /// exit status:
@@ -136,8 +119,7 @@ fn explain_request<S: Source + DetailedSource, O: Output, E: Output>(
     close(alloc, ended, &names_in(request), out, err)
 }
 
-/// Carries out what is to be explained, while nobody reads what it prints, and prints what is
-/// wrong. Returns how it ended.
+/// Carries out what is to be explained, and prints what is wrong. Returns how it ended.
 fn carry_out_and_explain<S: Source + DetailedSource, O: Output>(
     alloc: Global,
     request: &Request<'_>,
@@ -150,10 +132,28 @@ fn carry_out_and_explain<S: Source + DetailedSource, O: Output>(
     ensures zero { IfOk result (λ status. status ≡ 0) }
     ensures stays { O.takes_all out.new ≡ O.takes_all out.old }
 {
-    let mut null = NullOutput;
-    let ended = carry_out(alloc, request, source, &mut null);
-    print_end(alloc, request, &ended, source, out)?;
+    let mut warnings = ReplayWarnings::new(alloc);
+    let ended = run(alloc, request, source, &mut warnings);
+    print_end(alloc, request, &ended, &warnings, source, out)?;
     ended
+}
+
+/// Carries out what is to be explained, and keeps the warnings of a replay. Prints nothing.
+fn run<S: Source>(
+    alloc: Global,
+    request: &Request<'_>,
+    source: &mut S,
+    warnings: &mut ReplayWarnings,
+) -> Result<u8, CommandError>
+    ensures ran { RanOf true None None (S.told source.old) (request_of request.now) result }
+    ensures zero { IfOk result (λ status. status ≡ 0) }
+{
+    match request {
+        Request::Replay(names) => replay(alloc, names, source, warnings),
+        Request::Check(_) | Request::Asks(_) | Request::Explore(_) => {
+            carry_out(alloc, request, source, &mut NullOutput)
+        }
+    }
 }
 
 /// Prints what is wrong in files that were read with this end. Where memory ran out that is
@@ -162,6 +162,7 @@ fn print_end<S: Source + DetailedSource, O: Output>(
     alloc: Global,
     request: &Request<'_>,
     ended: &Result<u8, CommandError>,
+    warnings: &ReplayWarnings,
     source: &mut S,
     out: &mut O,
 ) -> Result<(), CommandError>
@@ -171,11 +172,12 @@ fn print_end<S: Source + DetailedSource, O: Output>(
     ensures stays { O.takes_all out.new ≡ O.takes_all out.old }
 {
     match ended {
-        Ok(_) => print_explanation(alloc, request, None, source, out),
+        Ok(_) => print_explanation(alloc, request, None, warnings, source, out),
         Err(CommandError::Fault(fault)) => print_explanation(
             alloc,
             request,
             Some(*fault),
+            warnings,
             source,
             out,
         ),
@@ -188,6 +190,7 @@ fn print_explanation<S: Source + DetailedSource, O: Output>(
     alloc: Global,
     request: &Request<'_>,
     fault: Option<Fault>,
+    warnings: &ReplayWarnings,
     source: &mut S,
     out: &mut O,
 ) -> Result<(), CommandError>
@@ -197,7 +200,7 @@ fn print_explanation<S: Source + DetailedSource, O: Output>(
     ensures same { OnErr result (Keeps (O.written out.old) (O.written out.new)) }
     ensures stays { O.takes_all out.new ≡ O.takes_all out.old }
 {
-    let report = report_of(alloc, request, fault, source)?;
+    let report = report_of(alloc, request, fault, warnings, source)?;
     put_report(&report, out)
 }
 
@@ -219,12 +222,13 @@ fn report_of<S: Source + DetailedSource>(
     alloc: Global,
     request: &Request<'_>,
     fault: Option<Fault>,
+    warnings: &ReplayWarnings,
     source: &mut S,
 ) -> Result<Report, AllocError>
     ensures { IfOk result (λ report. has_fault report.lines ≡ is_some fault) }
 {
     let mut report = Report::new(alloc, fault.is_none());
-    explain_files(&mut report, request, fault, source)?;
+    explain_files(&mut report, request, fault, warnings, source)?;
     report.end(names_in(request).plan)?;
     Ok(report)
 }

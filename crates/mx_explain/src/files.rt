@@ -3,28 +3,23 @@
 ghost use Rattle.mx_diagnostics.specs.Reports.{IsLonger};
 
 use crate::cached_source::DetailedSource;
-use crate::runs::explain_run;
-use crate::script_runs::explain_script_run;
+use crate::replay::ReplayWarnings;
+use crate::script_warnings::ScriptWarnings;
 use mx_cli::{Fault, Names, Request, are_dashes, split_line};
 use mx_diagnostics::{
     FileReport, PlanNames, Report, Unreadable, explain_event_text, explain_plan_text,
     explain_script_text,
 };
 use mx_io::{Refusal, Source};
-use mx_scripts::RefusedLine;
 use std::alloc::AllocError;
 
-/// What comes with a plan. Where both were read they can run.
+/// What comes with a plan.
 #[derive(Clone, Copy)]
 pub(crate) enum Second<'a> {
-    Events {
-        is_read: bool,
-    },
-    /// A script, of which this line is refused.
-    Script {
-        is_read: bool,
-        refused: Option<&'a RefusedLine>,
-    },
+    /// Events, with the warnings of their run if they were read.
+    Events(Option<&'a ReplayWarnings>),
+    /// A script, with the warnings of its run if it was read.
+    Script(Option<&'a ScriptWarnings>),
 }
 
 /// Adds what is wrong in the files of a check or of a replay that ended with this fault.
@@ -32,22 +27,25 @@ pub(crate) fn explain_files<S: Source + DetailedSource>(
     report: &mut Report,
     request: &Request<'_>,
     fault: Option<Fault>,
+    warnings: &ReplayWarnings,
     source: &mut S,
 ) -> Result<(), AllocError>
     ensures { IsLonger report.old report.new }
 {
     match request {
         Request::Replay(names) => {
-            let is_read = matches!(fault, None | Some(Fault::NoParcel(_)));
-            explain_both(report, names, &Second::Events { is_read }, source)
+            let ran = match fault {
+                None | Some(Fault::NoParcel(_)) => Some(warnings),
+                Some(_) => None,
+            };
+            explain_both(report, names, &Second::Events(ran), source)
         }
         Request::Check(plan) | Request::Asks(plan) => explain_alone(report, plan, source),
         Request::Explore(_) => Ok(()),
     }
 }
 
-/// Adds what is wrong in a plan that has no shape for this fault, or has one, and in what comes with
-/// it.
+/// Adds what is wrong in a plan and in what comes with it.
 pub(crate) fn explain_both<S: Source + DetailedSource>(
     report: &mut Report,
     names: &Names<'_>,
@@ -91,7 +89,7 @@ fn explain_one<S: Source + DetailedSource>(
     };
     let (line, rest) = split_line(text.as_slice());
     let plan = explain_plan_text(report, names.plan, line)?;
-    explain_second(report, names.events, second, &plan, line, rest, 1)
+    explain_second(report, names.events, second, &plan, rest, 1)
 }
 
 /// A plan and what comes with it in two files.
@@ -110,8 +108,7 @@ fn explain_two<S: Source + DetailedSource>(
     let Some(rest) = fetched(report, names.events, source)? else {
         return Ok(());
     };
-    let (text, rest) = (text.as_slice(), rest.as_slice());
-    explain_second(report, names.events, second, &plan, text, rest, 0)
+    explain_second(report, names.events, second, &plan, rest.as_slice(), 0)
 }
 
 /// What is wrong in events or in a script, each event and each line by itself, and in their run.
@@ -120,21 +117,18 @@ fn explain_second<'a>(
     file: &'a str,
     second: &Second<'_>,
     plan: &PlanNames,
-    plan_text: &[u8],
     text: &'a [u8],
     above: usize,
 ) -> Result<(), AllocError>
     ensures { IsLonger report.old report.new }
 {
     match second {
-        Second::Events { is_read: true } => explain_run(report, file, plan_text, text, above),
-        Second::Events { .. } => explain_event_text(report, file, plan, text, above),
-        Second::Script { is_read, refused } => {
-            let alloc = report.alloc();
-            let ran = if *is_read {
-                explain_script_run(alloc, file, plan_text, text, above, *refused)?
-            } else {
-                FileReport::new(alloc, file)
+        Second::Events(Some(warnings)) => warnings.explain(report, file, text, above),
+        Second::Events(None) => explain_event_text(report, file, plan, text, above),
+        Second::Script(warnings) => {
+            let ran = match warnings {
+                Some(warnings) => warnings.explain(file, text, above)?,
+                None => FileReport::new(report.alloc(), file),
             };
             explain_script_text(report, file, plan, text, above, ran)
         }

@@ -5,11 +5,12 @@
 mod cached_source;
 mod explanation;
 mod files;
-mod refused_lines;
+mod refusal;
+mod replay;
 mod request;
-mod runs;
-mod script_runs;
+mod script_warnings;
 mod scripts;
+mod warnings;
 
 pub use cached_source::DetailedSource;
 pub use explanation::explain;

@@ -1,6 +1,6 @@
 //! `explain --script`: how a script ends, and what is wrong in its lines.
 
-ghost use Rattle.std.specs.Prelude.{◌≡◌, ◌&&◌, ◌||◌, Bool, IfErr, IfOk, OnErr, OnOk, is_some};
+ghost use Rattle.std.specs.Prelude.{◌≡◌, ◌&&◌, Bool, IfErr, IfOk, OnErr, OnOk, not};
 ghost use Rattle.std.specs.Io.KnownBytes.{Keeps};
 ghost use Rattle.mx_cli.specs.Closed.{IsRunStatus, PassesOn};
 ghost use Rattle.mx_cli.specs.Words.{names_of};
@@ -11,10 +11,11 @@ ghost use Rattle.mx_scripts.specs.Ended.{EndsScript, ScriptsOf};
 use crate::cached_source::DetailedSource;
 use crate::explanation::put_report;
 use crate::files::{Second, explain_both};
-use mx_cli::{CommandError, Fault, Names};
+use crate::script_warnings::ScriptWarnings;
+use mx_cli::{CommandError, Names};
 use mx_diagnostics::Report;
 use mx_io::{Output, Source};
-use mx_scripts::{RefusedLine, ScriptError, close_script, file_of_names};
+use mx_scripts::{ScriptError, close_script, file_of_names};
 use std::alloc::{AllocError, Global};
 
 /// Tells how a script ends, and prints what is wrong in it. Returns the status.
@@ -50,20 +51,26 @@ fn end_and_explain<S: Source + DetailedSource, O: Output>(
     ensures zero { IfOk result (λ status. status ≡ 0) }
     ensures stays { O.takes_all out.new ≡ O.takes_all out.old }
 {
-    let ended = end_of(alloc, names, source);
-    match print_end(alloc, names, &ended, source, out) {
+    let mut warnings = ScriptWarnings::new(alloc);
+    let ended = end_of(alloc, names, source, &mut warnings);
+    match print_end(alloc, names, &ended, &warnings, source, out) {
         Ok(()) => ended,
         Err(stop) => Err(ScriptError::Command(stop)),
     }
 }
 
-/// How a script ends whose file nobody reads.
-fn end_of<S: Source>(alloc: Global, names: &Names<'_>, source: &mut S) -> Result<u8, ScriptError>
+/// Returns how a script ends whose file nobody reads, and keeps its warnings.
+fn end_of<S: Source>(
+    alloc: Global,
+    names: &Names<'_>,
+    source: &mut S,
+    warnings: &mut ScriptWarnings,
+) -> Result<u8, ScriptError>
     ensures ends { (takes : Bool) → EndsScript takes (S.told source.old)
         (names_of names.now) result }
     ensures zero { IfOk result (λ status. status ≡ 0) }
 {
-    match file_of_names(alloc, names, source) {
+    match file_of_names(alloc, names, source, warnings) {
         Ok(_file) => Ok(0),
         Err(error) => Err(error),
     }
@@ -75,6 +82,7 @@ fn print_end<S: Source + DetailedSource, O: Output>(
     alloc: Global,
     names: &Names<'_>,
     ended: &Result<u8, ScriptError>,
+    warnings: &ScriptWarnings,
     source: &mut S,
     out: &mut O,
 ) -> Result<(), CommandError>
@@ -84,52 +92,49 @@ fn print_end<S: Source + DetailedSource, O: Output>(
     ensures stays { O.takes_all out.new ≡ O.takes_all out.old }
 {
     match ended {
-        Ok(_) => print_wrong(alloc, names, None, None, source, out),
-        Err(ScriptError::Command(CommandError::Fault(fault))) => {
-            print_wrong(alloc, names, Some(*fault), None, source, out)
+        Ok(_) => print_wrong(alloc, names, true, Some(warnings), source, out),
+        Err(ScriptError::AtLine(_)) => {
+            print_wrong(alloc, names, false, Some(warnings), source, out)
         }
-        Err(ScriptError::AtLine(line)) => print_wrong(alloc, names, None, Some(line), source, out),
+        Err(ScriptError::Command(CommandError::Fault(_))) => {
+            print_wrong(alloc, names, false, None, source, out)
+        }
         Err(ScriptError::Command(_)) => Ok(()),
     }
 }
 
-/// Prints what is wrong in files that were read with this fault, or of which this line is refused,
-/// or that nothing is.
+/// Prints what is wrong in a plan and a script, or that nothing is. The warnings are given if both
+/// were read.
 fn print_wrong<S: Source + DetailedSource, O: Output>(
     alloc: Global,
     names: &Names<'_>,
-    fault: Option<Fault>,
-    line: Option<&RefusedLine>,
+    is_well: bool,
+    warnings: Option<&ScriptWarnings>,
     source: &mut S,
     out: &mut O,
 ) -> Result<(), CommandError>
     ensures fails { IfErr result (FailsToPrint (O.takes_all out.old)) }
     ensures prints { OnOk result (PrintsReport (O.written out.old) (O.written out.new)
-        (is_some fault || is_some line.entry)) }
+        (not is_well)) }
     ensures same { OnErr result (Keeps (O.written out.old) (O.written out.new)) }
     ensures stays { O.takes_all out.new ≡ O.takes_all out.old }
 {
-    let report = report_of(alloc, names, fault, line, source)?;
+    let report = report_of(alloc, names, is_well, warnings, source)?;
     put_report(&report, out)
 }
 
-/// What is wrong in a plan and a script.
+/// Returns what is wrong in a plan and a script.
 fn report_of<S: Source + DetailedSource>(
     alloc: Global,
     names: &Names<'_>,
-    fault: Option<Fault>,
-    line: Option<&RefusedLine>,
+    is_well: bool,
+    warnings: Option<&ScriptWarnings>,
     source: &mut S,
 ) -> Result<Report, AllocError>
-    ensures { IfOk result (λ report.
-        has_fault report.lines ≡ (is_some fault || is_some line.entry)) }
+    ensures { IfOk result (λ report. has_fault report.lines ≡ not is_well) }
 {
-    let mut report = Report::new(alloc, fault.is_none() && line.is_none());
-    let second = Second::Script {
-        is_read: fault.is_none(),
-        refused: line,
-    };
-    explain_both(&mut report, names, &second, source)?;
+    let mut report = Report::new(alloc, is_well);
+    explain_both(&mut report, names, &Second::Script(warnings), source)?;
     report.end(names.plan)?;
     Ok(report)
 }

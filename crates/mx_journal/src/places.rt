@@ -112,7 +112,8 @@ pub(crate) fn top_in(runs: &[Run]) -> u64
     }
 }
 
-/// Returns the end of the numbers that follow this one without a gap. Visits only one run.
+/// Returns the last of the numbers that follow this one without a gap, or this one if the next is
+/// missing. Visits only one run.
 pub(crate) fn gapless_in(runs: &[Run], number: u64) -> u64
     requires { AreRuns 1 runs.now }
     ensures { result + 1 ≡ first_missing (number + 1) (above number (flatten runs.now)) }

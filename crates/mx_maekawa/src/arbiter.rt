@@ -55,7 +55,7 @@ impl Arbiter {
     ghost use Rattle.mx_stamps.specs.declared.limits.TheConstants.{MAX_NODES};
     ghost use Rattle.mx_maekawa.specs.ArbiterStep.{start_arbiter, waiting_at, others_at, IsLeastOf, least_of, lock_letter, grant_to, grant, rank, queue, take_request, take_relinquish, take_release};
 
-    /// Creates an arbiter that has just been started.
+    /// Creates an arbiter at the start of a cluster. Its grants count on from `origin`.
     pub(crate) fn start(count: u8, origin: u64) -> Self
         requires { count ≤ MAX_NODES }
         ensures { result ≡ start_arbiter count origin }

@@ -176,7 +176,7 @@ fn send_base<M: Copy + Default>(
     }
 }
 
-/// Sends records, if there are any, after at most one parcel.
+/// Sends these records in one parcel, if there are any. The outbox has at most one parcel before.
 fn send_records<M: Copy + Default>(
     to: NodeId,
     records: ArrayVec<Record, 4>,

@@ -194,7 +194,7 @@ impl<C: Exclusion> Cluster<C> {
     }
 
     /// Returns the member of this number, if there is one. Its journal knows only sections of this
-    /// trace, and without gaps it shows their writes in order of entry.
+    /// trace. If it has no gaps, it shows their writes in order of entry.
     pub fn member(&self, node: NodeId) -> Option<&Member<C>>
         ensures value { MatchOption result (slice_get self.now.members node ≡ None)
             (λ member. slice_get self.now.members node ≡ Some member.now) }
@@ -213,8 +213,8 @@ impl<C: Exclusion> Cluster<C> {
         self.parcel_log.len() as u64
     }
 
-    /// Returns the sender and the addressee of the parcel of this number, counted from 0, and the
-    /// parcel.
+    /// Returns the sender and the addressee of a parcel, and the parcel itself. Parcels are
+    /// numbered from 0.
     pub fn parcel(&self, number: u64) -> Option<(NodeId, NodeId, &Parcel<C::Msg>)>
         ensures { MatchOption result (slice_get self.now.sent number ≡ None)
             (λ parcel. slice_get self.now.sent number

@@ -1,4 +1,4 @@
-mod EndLemmas
-mod SheetLemmas
+mod OutputLemmas
+mod PictureLemmas
 mod RefusedLemmas
-mod KeptLemmas
+mod SheetLemmas

@@ -1,24 +1,80 @@
--- The printed picture, and why none is printed.
-use Rattle.std.specs.Prelude.{◌≡◌, ◌++◌, ℕ, Some, Result, Ok, Err, codes}
+-- The printed picture.
+use Rattle.std.specs.Prelude.{◌≡◌, ◌++◌, ℕ, List, Result, Ok, Err, codes, decimal, length}
 use Rattle.std.specs.Io.KnownBytes.{Appends, Keeps}
+use Rattle.mx_events.specs.declared.event.Event.{Event}
 use Rattle.mx_plan.specs.Text.{Text, line_feed}
+use Rattle.mx_plan.specs.Fields.{Fields}
+use Rattle.mx_plan.specs.Events.{events_at}
+use Rattle.mx_plan.specs.declared.shape.Shape.{Shape}
+use Rattle.mx_plan.specs.declared.shape.Shape.TheVariants.{Ricart, Maekawa, Raymond}
+use Rattle.mx_format.specs.EventTexts.{name_of}
+use Rattle.mx_format.specs.Lines.{texts_from}
 use Rattle.mx_cli.specs.declared.faults.CommandError.{CommandError}
-use Rattle.mx_cli.specs.declared.faults.CommandError.TheVariants as command_error
 use Rattle.mx_io.specs.Outputs.{Held}
-use Rattle.mx_commands.specs.Runs.{Report}
+use Rattle.mx_picture.specs.declared.opening.Corner.{Corner}
+use Rattle.mx_picture.specs.declared.opening.Size.{Size}
 
--- why a run of this report stops: by the report's fault, or because memory ran out
-abbrev pub StopsAs : Report → CommandError → Type 0
-StopsAs r (command_error.Fault fault) = r.end ≡ Some fault
-StopsAs r command_error.Writer = ⊥
-StopsAs r command_error.Memory = Unit {0}
+-- ---- the first line
 
--- a picture is whole: its last line closes it
-abbrev pub IsWhole : Text → Type 0
-IsWhole picture = (inner : Text) × (picture ≡ inner ++ (codes "</svg>" ++ line_feed))
+abbrev pub size_text : Size → Text
+size_text size =
+    codes "width=\"" ++ decimal size.width ++ codes "\" height=\"" ++ decimal size.height
+    ++ codes "\""
 
--- a whole picture was added to the output, or nothing was
-abbrev pub Draws : Held → Held → Result ℕ CommandError → Type 0
-Draws old new (Ok status) =
-    (status ≡ 0) × ((picture : Text) × IsWhole picture × Appends old new picture)
-Draws old new (Err end) = Keeps old new
+abbrev pub corner_text : Corner → Text
+corner_text corner = codes "-" ++ decimal corner.left ++ codes " -" ++ decimal corner.top
+
+abbrev pub view_text : Corner → Size → Text
+view_text corner size =
+    codes "viewBox=\"" ++ corner_text corner ++ codes " " ++ decimal size.width ++ codes " "
+    ++ decimal size.height ++ codes "\""
+
+abbrev pub opening_line : Corner → Size → Text
+opening_line corner size =
+    codes "<svg xmlns=\"http://www.w3.org/2000/svg\" role=\"img\" " ++ size_text size ++ codes " "
+    ++ view_text corner size ++ codes ">\n"
+
+-- ---- the title
+
+abbrev pub algorithm_name : Shape → Text
+algorithm_name (Ricart count) = codes "Ricart and Agrawala's"
+algorithm_name (Maekawa family) = codes "Maekawa's"
+algorithm_name (Raymond tree) = codes "Raymond's"
+
+abbrev pub title_start : Text → Text
+title_start algorithm = codes "<title>" ++ algorithm ++ codes " algorithm, nodes:"
+
+abbrev pub name_text : Fields → ℕ → Text
+name_text p i = codes " " ++ name_of p i
+
+abbrev pub names_text : Fields → Text
+names_text p = texts_from (λ i name. name_text p i) 0 p.nodes
+
+abbrev pub title_end : ℕ → Text
+title_end events = codes ", events: " ++ decimal events ++ codes "</title>\n"
+
+-- the algorithm, the nodes and the number of events
+abbrev pub title_line : Fields → ℕ → Text
+title_line p events =
+    title_start (algorithm_name p.shape) ++ names_text p ++ title_end events
+
+-- ---- the whole picture
+
+-- a picture of a run of this many events: its first line opens it, its second is its title, and its
+-- last closes it
+abbrev pub IsPicture : Fields → ℕ → Text → Type 0
+IsPicture p events picture =
+    (corner : Corner) × (size : Size) × (body : Text)
+    × (picture ≡ opening_line corner size ++ title_line p events ++ body
+    ++ (codes "</svg>" ++ line_feed))
+
+-- a picture of the events that a text lists
+abbrev pub IsPictureOf : Fields → List ℕ → Text → Type 0
+IsPictureOf p bytes picture =
+    (es : List Event) × (events_at p bytes ≡ Ok es) × IsPicture p (length es) picture
+
+-- such a picture was added to the output, or nothing was
+abbrev pub Draws : (Text → Type 0) → Held → Held → Result ℕ CommandError → Type 0
+Draws IsDrawn old new (Ok status) =
+    (status ≡ 0) × ((picture : Text) × IsDrawn picture × Appends old new picture)
+Draws IsDrawn old new (Err end) = Keeps old new

@@ -1,4 +1,4 @@
--- Drawn: the printed picture, and why none is printed. LettersOnly: what `--letters` draws.
+-- Drawn: the printed picture. LettersOnly: what `--letters` draws.
 -- PictureWords: the arguments of `picture`. Pictures: the outcome of a command line.
 pub mod Drawn
 pub mod LettersOnly

@@ -1,34 +1,11 @@
-//! What a picture says of itself: its title, its description and its heading.
+//! What a picture says of itself below its title: its description and its heading.
 
+use crate::opening::algorithm_of;
 use crate::part::Part;
 use crate::sheet::Sheet;
 use crate::title::add_escaped;
-use mx_plan::{Plan, Shape};
+use mx_plan::Plan;
 use std::alloc::AllocError;
-
-/// Appends the title: the algorithm, the nodes and the number of events.
-pub(crate) fn add_document_title(
-    plan: &Plan,
-    events: u64,
-    text: &mut String,
-) -> Result<(), AllocError> {
-    let algorithm = algorithm_of(plan);
-    write!(text, "<title>{algorithm} algorithm, nodes:")?;
-    for index in 0..plan.nodes() {
-        text.push(' ')?;
-        add_escaped(plan.node_name(index).unwrap_or(""), text)?;
-    }
-    write!(text, ", events: {events}</title>\n")
-}
-
-/// Returns the name of the plan's algorithm.
-fn algorithm_of(plan: &Plan) -> &'static str {
-    match plan.shape() {
-        Shape::Ricart(_) => "Ricart and Agrawala's",
-        Shape::Maekawa(_) => "Maekawa's",
-        Shape::Raymond(_) => "Raymond's",
-    }
-}
 
 /// Appends the description for readers who cannot see the picture.
 pub(crate) fn add_story(story: &str, text: &mut String) -> Result<(), AllocError> {

@@ -3,22 +3,22 @@
 ghost use Rattle.std.specs.Prelude.{◌≡◌, ◌⊎◌, None, length, option_map, string_bytes, IfErr, IfOk, OnOk};
 ghost use Rattle.mx_commands.specs.Jobs.{report_of_events, run_by};
 ghost use Rattle.mx_commands.specs.Runs.{AllNameNodes};
-ghost use Rattle.mx_commands.specs.Ran.{Ran};
-ghost use Rattle.mx_picture.specs.Drawn.{Draws, IsWhole, StopsAs};
+ghost use Rattle.mx_commands.specs.Ran.{Ran, StopsAs};
+ghost use Rattle.mx_picture.specs.Drawn.{Draws, IsPicture, IsPictureOf};
 ghost use Rattle.mx_picture.specs.PictureWords.{request_of};
-ghost use Rattle.mx_picture.specs.Pictures.{EndsAsReplay, IsUnknownNode, LacksNode};
+ghost use Rattle.mx_picture.specs.Pictures.{EndsAsReplay, IsPictureTold, IsUnknownNode, LacksNode};
 
-use crate::page::add_page;
+use crate::drawing::Drawing;
+use crate::page::page_of;
 use crate::part::Part;
-use crate::run::{Drawing, add_gap, draw_run};
 use crate::words::Request;
 use mx_cli::{CommandError, Fault, fetch_both};
-use mx_commands::by_shape;
+use mx_commands::observe;
 use mx_io::{Output, Source};
 use mx_network::Event;
 use mx_plan::{Place, Plan, PlanFault, read_events};
 use mx_stamps::NodeId;
-use std::alloc::{AllocError, Global};
+use std::alloc::Global;
 
 /// Reads the plan, then the events, and prints a picture of the requested part. Returns the exit
 /// status.
@@ -34,7 +34,8 @@ pub(crate) fn draw<S: Source, O: Output>(
 ) -> Result<u8, CommandError>
     ensures ran { EndsAsReplay (O.takes_all out.old) (S.told source.old)
         (request_of request.now) result }
-    ensures drawn { Draws (O.written out.old) (O.written out.new) result }
+    ensures drawn { Draws (IsPictureTold (S.told source.old) (request_of request.now).names)
+        (O.written out.old) (O.written out.new) result }
     ensures stays { O.takes_all out.new ≡ O.takes_all out.old }
 {
     let both = fetch_both(alloc, source, &request.names)?;
@@ -51,7 +52,8 @@ fn draw_text<O: Output>(
 ) -> Result<u8, CommandError>
     ensures ran { Ran (O.takes_all out.old) None None (report_of_events text.now plan.now) result
         ⊎ LacksNode plan.now (request_of request.now).node result }
-    ensures drawn { Draws (O.written out.old) (O.written out.new) result }
+    ensures drawn { Draws (IsPictureOf plan.now text.now)
+        (O.written out.old) (O.written out.new) result }
     ensures stays { O.takes_all out.new ≡ O.takes_all out.old }
 {
     let events = read_events(alloc, text, plan)?;
@@ -97,47 +99,13 @@ fn picture_of(
     events: &[Event],
 ) -> Result<String, CommandError>
     requires { AllNameNodes (length plan.now.nodes) events.now }
-    ensures whole { IfOk result (λ page. IsWhole (string_bytes page)) }
+    ensures whole { IfOk result (λ page.
+        IsPicture plan.now (length events.now) (string_bytes page)) }
     ensures ok { OnOk result ((run_by plan.now plan.now.shape events.now).end ≡ None) }
     ensures err { IfErr result (StopsAs (run_by plan.now plan.now.shape events.now)) }
 {
     let mut drawing = Drawing::new(alloc, events, part)?;
-    draw_by_shape(alloc, plan, events, &mut drawing)?;
-    let page = whole_page(alloc, plan, events.len() as u64, part, &mut drawing)?;
+    observe(alloc, plan, events, &mut drawing)?;
+    let page = page_of(plan, events.len() as u64, part, &drawing.sheet)?;
     Ok(page)
-}
-
-/// Returns the page with all that was drawn of a number of events.
-fn whole_page(
-    alloc: Global,
-    plan: &Plan,
-    events: u64,
-    part: &Part,
-    drawing: &mut Drawing,
-) -> Result<String, AllocError>
-    ensures { IfOk result (λ page. IsWhole (string_bytes page)) }
-{
-    add_gap(drawing)?;
-    drawing.sheet.close()?;
-    let mut page = String::new(alloc);
-    add_page(plan, events, part, &drawing.sheet, &mut page)?;
-    Ok(page)
-}
-
-/// Draws the events, by the plan's algorithm.
-fn draw_by_shape(
-    alloc: Global,
-    plan: &Plan,
-    events: &[Event],
-    drawing: &mut Drawing,
-) -> Result<(), CommandError>
-    requires { AllNameNodes (length plan.now.nodes) events.now }
-    ensures ok { OnOk result ((run_by plan.now plan.now.shape events.now).end ≡ None) }
-    ensures err { IfErr result (StopsAs (run_by plan.now plan.now.shape events.now)) }
-{
-    by_shape!(
-        alloc,
-        plan,
-        |cluster| draw_run(plan, cluster, events, drawing)
-    )
 }

@@ -71,7 +71,7 @@ impl Label {
         }
     }
 
-    /// Appends the text on this side of the line at `x`.
+    /// Appends this label to the text of the picture, on this side of the line at `x`.
     fn add_to(&self, x: u64, side: Side, text: &mut String) -> Result<(), AllocError> {
         let y = self.y;
         let attributes = side.attributes();

@@ -1,9 +1,9 @@
 //! The events of a run that are not shown, and their effects on the picture.
 
+use crate::drawing::{Drawing, write_route};
 use crate::letters::{is_drawn, is_letter, is_original};
 use crate::part::Part;
 use crate::route::Route;
-use crate::run::{Drawing, write_route};
 use crate::sheet::Sheet;
 use mx_format::Letter;
 use mx_network::{Cluster, Entry, Event, Outcome};

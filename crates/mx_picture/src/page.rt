@@ -1,13 +1,14 @@
 //! The whole picture: its size, its nodes, and all that was drawn.
 
-ghost use Rattle.std.specs.Prelude.{string_bytes, OnOk};
-ghost use Rattle.mx_picture.specs.Drawn.{IsWhole};
+ghost use Rattle.std.specs.Prelude.{string_bytes, IfOk};
+ghost use Rattle.mx_picture.specs.Drawn.{IsPicture};
 
 use crate::columns::Columns;
-use crate::heading::{add_document_title, add_story, heading_of};
+use crate::heading::{add_story, heading_of};
 use crate::labels::Extent;
 use crate::lanes::Lanes;
 use crate::legend::{LEGEND, LEGEND_WIDTH, STYLES};
+use crate::opening::{Corner, OpeningLine, Size, add_title_line};
 use crate::part::Part;
 use crate::rows::y_of;
 use crate::shapes::Shapes;
@@ -16,7 +17,7 @@ use crate::text_width::width_of;
 use crate::title::add_escaped;
 use mx_plan::Plan;
 use mx_stamps::{MAX_NODES, NodeId};
-use std::alloc::AllocError;
+use std::alloc::{AllocError, Global};
 
 /// The height above the first row, in pixels: the heading, the legend and the names of the nodes.
 const HEAD: u64 = 86;
@@ -71,6 +72,20 @@ impl Frame {
             bottom,
         }
     }
+
+    /// Returns the first line of the page.
+    fn opening(&self) -> OpeningLine {
+        OpeningLine {
+            corner: Corner {
+                left: self.left,
+                top: HEAD,
+            },
+            size: Size {
+                width: self.width,
+                height: self.height,
+            },
+        }
+    }
 }
 
 /// Returns the room that a heading wants, which is larger than other texts and bold.
@@ -87,29 +102,56 @@ struct Page<'a> {
     frame: Frame,
 }
 
-/// Appends the whole picture of a part of a number of events.
-pub(crate) fn add_page(
+/// What a page shows below its title, and its frame.
+#[derive(Drop)]
+struct Body {
+    frame: Frame,
+    svg: String,
+}
+
+/// Returns the whole picture of a part of a number of events.
+pub(crate) fn page_of(
     plan: &Plan,
     events: u64,
     part: &Part,
     sheet: &Sheet,
-    text: &mut String,
-) -> Result<(), AllocError>
-    ensures { OnOk result (IsWhole (string_bytes text.new)) }
+) -> Result<String, AllocError>
+    ensures { IfOk result (λ page. IsPicture plan.now events (string_bytes page)) }
 {
+    let body = body_of(plan, part, sheet)?;
+    whole_page(sheet.shapes.alloc, plan, events, &body)
+}
+
+/// Returns the page with this body.
+fn whole_page(alloc: Global, plan: &Plan, events: u64, body: &Body) -> Result<String, AllocError>
+    ensures { IfOk result (λ page. IsPicture plan.now events (string_bytes page)) }
+{
+    let mut text = String::new(alloc);
+    text.write(body.frame.opening())?;
+    add_title_line(plan, events, &mut text)?;
+    text.push_str(body.svg.as_str())?;
+    text.push_str("</svg>\n")?;
+    Ok(text)
+}
+
+/// Returns what the page of a part of a run shows below its title.
+fn body_of(plan: &Plan, part: &Part, sheet: &Sheet) -> Result<Body, AllocError> {
     let shapes = &sheet.shapes;
     let columns = columns_of(plan, part, shapes);
     let texts = shapes.texts(&columns)?;
     let heading = heading_of(plan, part, sheet)?;
+    let frame = Frame::new(&columns, texts.extent, heading.as_str(), y_of(sheet.row));
     let page = Page {
         plan,
         shapes,
         columns,
-        frame: Frame::new(&columns, texts.extent, heading.as_str(), y_of(sheet.row)),
+        frame,
     };
-    add_top(&page, events, heading.as_str(), text)?;
-    add_lines(&page, text)?;
-    add_marks(&page, texts.svg.as_str(), text)
+    let mut svg = String::new(shapes.alloc);
+    add_top(&page, heading.as_str(), &mut svg)?;
+    add_lines(&page, &mut svg)?;
+    add_marks(&page, texts.svg.as_str(), &mut svg)?;
+    Ok(Body { frame, svg })
 }
 
 /// Returns the columns of the nodes that are shown: those with events, if only a part is shown and
@@ -124,14 +166,7 @@ fn columns_of(plan: &Plan, part: &Part, shapes: &Shapes) -> Columns {
 }
 
 /// Appends everything that is below the drawn marks.
-fn add_top(
-    page: &Page<'_>,
-    events: u64,
-    heading: &str,
-    text: &mut String,
-) -> Result<(), AllocError> {
-    add_size(&page.frame, text)?;
-    add_document_title(page.plan, events, text)?;
+fn add_top(page: &Page<'_>, heading: &str, text: &mut String) -> Result<(), AllocError> {
     add_story(page.shapes.story.as_str(), text)?;
     add_head(&page.frame, text)?;
     add_heading_text(&page.frame, heading, text)?;
@@ -147,25 +182,10 @@ fn add_lines(page: &Page<'_>, text: &mut String) -> Result<(), AllocError> {
         .add_repeated_names(page.plan, &page.columns, text)
 }
 
-/// Appends dots, numbers of sections and texts, and closes the picture.
-fn add_marks(page: &Page<'_>, texts: &str, text: &mut String) -> Result<(), AllocError>
-    ensures { OnOk result (IsWhole (string_bytes text.new)) }
-{
+/// Appends dots, numbers of sections and texts.
+fn add_marks(page: &Page<'_>, texts: &str, text: &mut String) -> Result<(), AllocError> {
     page.shapes.add_marks(&page.columns, text)?;
-    text.push_str(texts)?;
-    text.push_str("</svg>\n")
-}
-
-/// Appends the size of the picture.
-fn add_size(frame: &Frame, text: &mut String) -> Result<(), AllocError> {
-    let left = frame.left;
-    let width = frame.width;
-    let height = frame.height;
-    write!(
-        text,
-        "<svg xmlns=\"http://www.w3.org/2000/svg\" role=\"img\" width=\"{width}\" height=\"{height}\""
-    )?;
-    write!(text, " viewBox=\"-{left} -{HEAD} {width} {height}\">\n")
+    text.push_str(texts)
 }
 
 /// Appends the styles, the paper and the legend.

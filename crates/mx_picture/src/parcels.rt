@@ -1,8 +1,8 @@
 //! The drawing of parcels: as arrows to their delivery, or lost in the air.
 
+use crate::drawing::{Drawing, write_end, write_journal, write_parcel, write_route};
 use crate::omissions::{concerns, sends_original};
 use crate::route::Route;
-use crate::run::{Drawing, write_end, write_journal, write_parcel, write_route};
 use crate::side::Side;
 use mx_format::Letter;
 use mx_member::SentParcel;

@@ -126,7 +126,7 @@ impl Shapes {
         Ok(())
     }
 
-    /// Adds an arrow, which ends in the row of the one before or below it.
+    /// Adds an arrow. No arrow that was added before ends in a lower row.
     pub(crate) fn add_arrow(
         &mut self,
         route: Route,
@@ -146,7 +146,7 @@ impl Shapes {
         Ok(())
     }
 
-    /// Adds a piece of an arrow.
+    /// Adds the start or the tip of an arrow whose other end is not drawn.
     pub(crate) fn add_piece(
         &mut self,
         route: Route,

@@ -21,9 +21,6 @@ on_err (Err fault) X x = x
 -- ---- the list goes on
 
 module _ {S M : Type 0} where
-  pub extends_not : (s : SessionState S M) → Extends s s
-  extends_not s = record { more = []; done = sym (append_nil s.done); marks = refl; undone = refl }
-
   pub extends_done : {T E : Type 0} (r : Result T E) (a b : SessionState S M) → b.done ≡ a.done → b.marks ≡ a.marks → b.undone ≡ a.undone → OnErr r (Extends a b)
   extends_done r a b done marks undone = on_err r (Extends a b) (record { more = []; done = done ∙ sym (append_nil a.done); marks = marks; undone = undone })
 

@@ -8,3 +8,5 @@ mod LinePlanLemmas
 pub mod TurnLemmas
 pub mod PlayedLemmas
 mod CommandLemmas
+mod WordLemmas
+mod SameLineLemmas

@@ -1,5 +1,5 @@
 -- What is read of the lines of a session.
-use Rattle.std.proofs.Common.{◌≡◌, ◌≤◌, ◌⊎◌, true, false, List, [], ◌∷◌, Option, Some, None, Result, Ok, Err, IfOk, IfSome, length, refl, sym, subst, inl, inr}
+use Rattle.std.proofs.Common.{◌≡◌, ◌≤◌, ◌⊎◌, true, List, [], ◌∷◌, Option, Some, None, Result, Ok, Err, IfOk, IfSome, length, sym, subst, inl, inr}
 use Rattle.std.specs.Str.{IsUtf8}
 use Rattle.mx_cli.specs.Reading.{IsRead, Reads}
 use Rattle.mx_cli.specs.declared.faults.CommandError.{CommandError}
@@ -11,16 +11,12 @@ use Rattle.mx_play.specs.LineTurns.{AsksFor, Comes, IsInputOf, Means, MeansText,
 use Rattle.mx_play.specs.Played.{IsLinePlan}
 use Rattle.mx_play.specs.declared.input.Input.{Input}
 use Rattle.mx_play.specs.declared.input.Input.TheVariants as input
-use Rattle.mx_play.specs.declared.faults.InputFault.{InputFault}
 use Rattle.mx_play.specs.declared.lines.LineRead.{LineRead}
 use Rattle.mx_play.specs.declared.lines.LineRead.TheVariants as read
 use Rattle.mx_play.specs.declared.lines.TheConstants.{MAX_LINE}
 
 line_is_end : ◌≡◌ {A = LineRead} read.Line read.End → ⊥
 line_is_end e = cc
-
-long_is_end : ◌≡◌ {A = LineRead} read.TooLong read.End → ⊥
-long_is_end e = cc
 
 module _ (p : Fields) (rest : Option (List Text)) (buffer : Text) where
   input_of_line : (line : Text) (of : Input) → length line ≤ MAX_LINE → buffer ≡ line → Means p buffer of → IsInputOf p line of buffer
@@ -36,30 +32,11 @@ module _ (p : Fields) (rest : Option (List Text)) (buffer : Text) where
   reads_line_input [] of x means = absurd (line_is_end x.0)
   reads_line_input (line ∷ lines) of x means = (input_of_line line of x.0.0 x.0.1 means, x.1)
 
-  -- a line is too long
-  pub reads_long_input : (known : List Text) (fault : InputFault) → ReadsNext known read.TooLong buffer rest → ReadsInput p known (input.Fault fault) buffer rest
-  reads_long_input [] fault x = absurd (long_is_end x.0)
-  reads_long_input (line ∷ lines) fault x = (inl x.0, x.1)
-
-  -- there are no more lines
-  pub reads_end_input : (known : List Text) → ReadsNext known read.End buffer rest → ReadsInput p known input.Eof buffer rest
-  reads_end_input [] x = (refl, x.2)
-  reads_end_input (line ∷ lines) x = absurd x.0
-
   -- the same of lines that may be known
   pub line_input : (lines : Option (List Text)) (of : Input) → IfSome lines (λ known. ReadsNext known read.Line buffer rest) → Means p buffer of
       → IfSome lines (λ known. ReadsInput p known of buffer rest)
   line_input None of x means = tt
   line_input (Some known) of x means = reads_line_input known of x means
-
-  pub long_input : (lines : Option (List Text)) (fault : InputFault) → IfSome lines (λ known. ReadsNext known read.TooLong buffer rest)
-      → IfSome lines (λ known. ReadsInput p known (input.Fault fault) buffer rest)
-  long_input None fault x = tt
-  long_input (Some known) fault x = reads_long_input known fault x
-
-  pub end_input : (lines : Option (List Text)) → IfSome lines (λ known. ReadsNext known read.End buffer rest) → IfSome lines (λ known. ReadsInput p known input.Eof buffer rest)
-  end_input None x = tt
-  end_input (Some known) x = reads_end_input known x
 
 -- ---- a plan that is the first line
 
@@ -110,10 +87,6 @@ module _ (rest : Option (List Text)) (buffer : Text) (lines : Option (List Text)
   left_on_ok of (Ok p) (inl is) x = left_after_line rest buffer lines (subst (λ (of : LineRead). IfSome lines (λ known. ReadsNext known of buffer rest)) is x)
   left_on_ok of (Ok p) (inr is) x = left_after_end rest buffer lines (subst (λ (of : LineRead). IfSome lines (λ known. ReadsNext known of buffer rest)) is x)
   left_on_ok of (Err e) is x = tt
-
-pub all_left : (lines : Option (List Text)) → AreLeft (session_lines false lines) lines
-all_left None = tt
-all_left (Some known) = refl
 
 -- ---- what bytes mean
 

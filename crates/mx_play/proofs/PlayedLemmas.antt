@@ -1,7 +1,5 @@
 -- Sessions that were played, of what was read.
-use Rattle.std.proofs.Common.{◌++◌, ℕ, List, Option, Some, None, Result, Ok, Err, IfOk, IfSome, ap, subst, sym}
-use Rattle.std.specs.Prelude.{Vec}
-use Rattle.std.specs.declared.alloc.Global.{Global}
+use Rattle.std.proofs.Common.{◌++◌, List, Option, Some, None, subst}
 use Rattle.std.specs.Io.KnownBytes.{Keeps}
 use Rattle.mx_nodelaws.specs.Core.{Core}
 use Rattle.mx_knowledge.specs.Facts.{Known}
@@ -18,15 +16,11 @@ use Rattle.mx_plan.specs.declared.shape.Shape.TheVariants.{Ricart, Maekawa, Raym
 use Rattle.mx_format.specs.LetterTexts.{ricart_text, maekawa_text, raymond_text}
 use Rattle.mx_cli.proofs.OutputLemmas.{Appends-keeps}
 use Rattle.mx_commands.specs.Runs.{closing_text}
-use Rattle.mx_cli.specs.Reading.{Fetches}
-use Rattle.mx_cli.specs.declared.faults.Named.{Named}
-use Rattle.mx_cli.specs.declared.faults.CommandError.{CommandError}
 use Rattle.mx_io.specs.Outputs.{Held}
-use Rattle.mx_io.specs.Told.{Telling}
 use Rattle.mx_play.specs.Commands.{Turn}
 use Rattle.mx_play.specs.Lines.{AreLeft}
 use Rattle.mx_play.specs.LineTurns.{AreTurns}
-use Rattle.mx_play.specs.Played.{IsPlayedBy, IsScriptOf}
+use Rattle.mx_play.specs.Played.{IsPlayedBy}
 use Rattle.mx_play.specs.Turns.{IsPlayed}
 
 module _ {H S M : Type 0} (core : Core H S M) (letter_text : Fields → M → Text) (knows : S → List Known) (p : Fields) (shape : H) (script : Text) (a b c : Held) where
@@ -70,12 +64,3 @@ module _ (p : Fields) (script : Text) (a b c : Held) where
   by_left lines rest (Ricart count) = played_left ricart_core ricart_text ricart_known p count script a b c lines rest
   by_left lines rest (Maekawa family) = played_left maekawa_core maekawa_text maekawa_known p family script a b c lines rest
   by_left lines rest (Raymond tree) = played_left raymond_core raymond_text raymond_known p tree script a b c lines rest
-
--- a script that was fetched
-pub fetched_script : (named : Named) (told : Option Telling) (r : Result (Vec ℕ Global) CommandError) → IfSome told (λ telling. Fetches named telling r)
-    → IfOk r (λ text. IsScriptOf told text.items)
-fetched_script named None (Ok text) x = tt
-fetched_script named (Some None) (Ok text) x = absurd x
-fetched_script named (Some (Some bytes)) (Ok text) x = ap (λ (l : List ℕ). Some l) (sym x)
-fetched_script named None (Err e) x = tt
-fetched_script named (Some telling) (Err e) x = tt

@@ -15,9 +15,10 @@ ghost use Rattle.mx_scripts.specs.Scripts.{IsOver};
 use crate::faults::InputFault;
 use crate::help::add_words;
 use crate::interpreter::repeat;
+use crate::run_texts::add_events;
 use crate::session::{Session, Setting};
 use crate::undo::{event_count, redo_lines, truncate, undo_lines};
-use crate::views::{add_events, show};
+use crate::views::show;
 use mx_format::Letter;
 use mx_knowledge::Knowledge;
 use mx_lines::{Line, SessionCommand, words_in};
@@ -125,7 +126,8 @@ fn show_session<C: Exclusion + Knowledge>(
 ) -> Result<(), AllocError>
 where
     C::Msg: Letter,
-    requires members { length session.now.state.cluster.members ≡ length setting.now.plan.now.nodes }
+    requires members { length session.now.state.cluster.members
+        ≡ length setting.now.plan.now.nodes }
     ensures { OnOk result (string_bytes text.new ≡ string_bytes text.old
         ++ view_text C.core (letter_text C.Msg.parts) setting.now.plan.now C.knows to.now
         session.now.state) }

@@ -1,9 +1,8 @@
 //! The lines of links that are cut.
 
 ghost use Rattle.std.specs.Prelude.{◌≡◌, ◌<◌, ◌++◌, length, string_bytes, OnOk, Some};
-ghost use Rattle.mx_play.specs.Cuts.{cut_line, cut_lines, cut_lines_of, cut_text, is_shown};
+ghost use Rattle.mx_play.specs.Cuts.{cut_line, cut_lines, cut_lines_of, cut_text, is_shown, is_to};
 
-use crate::views::is_to;
 use mx_format::name_of;
 use mx_plan::Plan;
 use mx_scripts::InFlight;
@@ -106,4 +105,14 @@ fn is_shown(to: &Option<NodeId>, in_flight: &InFlight, one: NodeId, other: NodeI
     ensures { result ≡ is_shown to.now in_flight.now.links one other }
 {
     in_flight.is_cut(one, other) && (is_to(to, one) || is_to(to, other))
+}
+
+/// Whether it is the node that is named, if one is.
+pub(crate) fn is_to(to: &Option<NodeId>, addressee: NodeId) -> bool
+    ensures { result ≡ is_to to.now addressee }
+{
+    match to {
+        Some(node) => addressee == *node,
+        None => true,
+    }
 }

@@ -5,7 +5,8 @@ ghost use Rattle.mx_format.specs.LetterTexts.{letter_text};
 ghost use Rattle.mx_format.specs.ParcelTexts.{parcel_lines};
 ghost use Rattle.mx_commands.specs.Runs.{event_lines};
 
-use mx_format::{EventLine, Letter, add_parcel_line};
+use mx_commands::add_parcels;
+use mx_format::{EventLine, Letter};
 use mx_network::{Cluster, Entry};
 use mx_nodelaws::Exclusion;
 use mx_plan::Plan;
@@ -67,47 +68,6 @@ fn add_event(
             event: &entry.event,
             outcome: &entry.outcome,
         }),
-        None => unreachable!(),
-    }
-}
-
-/// Appends the lines of the parcels from this number on.
-fn add_parcels<C: Exclusion>(
-    plan: &Plan,
-    cluster: &Cluster<C>,
-    first: u64,
-    text: &mut String,
-) -> Result<(), AllocError>
-where
-    C::Msg: Letter,
-    requires { first ≤ length cluster.now.sent }
-    ensures { OnOk result (string_bytes text.new ≡ string_bytes text.old
-        ++ parcel_lines (letter_text C.Msg.parts) plan.now first (drop first cluster.now.sent)) }
-{
-    for number in first..cluster.sent() {
-        add_parcel(plan, cluster, number, text)?;
-    }
-    Ok(())
-}
-
-/// Appends the line of the parcel of this number.
-fn add_parcel<C: Exclusion>(
-    plan: &Plan,
-    cluster: &Cluster<C>,
-    number: u64,
-    text: &mut String,
-) -> Result<(), AllocError>
-where
-    C::Msg: Letter,
-    requires { number < length cluster.now.sent }
-    ensures { OnOk result (string_bytes text.old
-        ++ parcel_lines (letter_text C.Msg.parts) plan.now number (drop number cluster.now.sent)
-        ≡ string_bytes text.new
-        ++ parcel_lines (letter_text C.Msg.parts) plan.now (number + 1)
-        (drop (number + 1) cluster.now.sent)) }
-{
-    match cluster.sent_parcel(number) {
-        Some(sent) => add_parcel_line(plan, number, &sent, text),
         None => unreachable!(),
     }
 }

@@ -13,8 +13,8 @@ use crate::commands::execute;
 use crate::faults::{InputFault, InputFaultLine};
 use crate::input::{Input, greet, is_end, read_input};
 use crate::lines::{Lines, Listed};
+use crate::run_texts::add_end;
 use crate::session::{Session, Setting};
-use crate::views::add_end;
 use mx_cli::{CommandError, Fault, Named, write_line};
 use mx_format::Letter;
 use mx_io::Output;
@@ -220,7 +220,8 @@ fn finish<C: Exclusion, O: Output>(
 ) -> Result<u8, CommandError>
 where
     C::Msg: Letter,
-    requires members { length session.now.state.cluster.members ≡ length setting.now.plan.now.nodes }
+    requires members { length session.now.state.cluster.members
+        ≡ length setting.now.plan.now.nodes }
     ensures closes { IfOk result (λ _. Appends (O.written out.old) (O.written out.new)
         (closing_text C.core (letter_text C.Msg.parts) setting.now.plan.now
         session.now.state.cluster)) }
@@ -240,7 +241,8 @@ fn end_session<C: Exclusion>(
 ) -> Result<u8, AllocError>
 where
     C::Msg: Letter,
-    requires members { length session.now.state.cluster.members ≡ length setting.now.plan.now.nodes }
+    requires members { length session.now.state.cluster.members
+        ≡ length setting.now.plan.now.nodes }
     ensures text { OnOk result (string_bytes text.new ≡ string_bytes text.old
         ++ closing_text C.core (letter_text C.Msg.parts) setting.now.plan.now
         session.now.state.cluster) }

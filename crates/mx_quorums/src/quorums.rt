@@ -42,8 +42,8 @@ impl Quorums {
     ///
     /// # Errors
     ///
-    /// Returns the first rule that the lists break, in the order of `QuorumFault`, with its least
-    /// witness.
+    /// Returns the first rule that the lists break, in the order of `QuorumFault`, with the first
+    /// numbers that break it.
     pub fn listed(sets: &[Vec<u8>]) -> Result<Quorums, QuorumFault>
         ensures ok { IsOk result ↔ AreMeeting (lists_of sets.now) }
         ensures sets { IfOk result (λ family. IsFamilyOf (lists_of sets.now) family) }

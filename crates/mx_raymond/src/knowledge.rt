@@ -37,7 +37,7 @@ impl Raymond {
         }
     }
 
-    /// Adds that the node has asked its holder, if it has.
+    /// Adds `has asked` if the node sent a request towards the privilege and has not had it since.
     fn add_asked(&self, facts: &mut Facts) -> Result<(), AllocError>
         ensures { OnOk result (facts.new ≡ facts.old ++ asked_of self.now) }
     {
@@ -48,7 +48,7 @@ impl Raymond {
         }
     }
 
-    /// Adds the privilege that may be sent again, if there is one.
+    /// Adds where the node sent the privilege last, and its hop, until that is acknowledged.
     fn add_unacked(&self, facts: &mut Facts) -> Result<(), AllocError>
         ensures { OnOk result (facts.new ≡ facts.old ++ unacked_of self.now.unacked) }
     {

@@ -47,7 +47,7 @@ impl Ricart {
         }
     }
 
-    /// Adds the nodes whose replies are missing, or that the node may enter.
+    /// Adds the nodes whose replies are missing. If none is missing, adds that the node may enter.
     fn add_missing(&self, alloc: Global, facts: &mut Facts) -> Result<(), AllocError>
         ensures { OnOk result (facts.new ≡ facts.old ++ missing_of self.now) }
     {
@@ -59,7 +59,7 @@ impl Ricart {
         }
     }
 
-    /// Returns the other nodes whose reply to the current request has not counted.
+    /// Returns the other nodes from which this node has no reply to its current request yet.
     fn missing(&self, alloc: Global) -> Result<Vec<Item>, AllocError>
         ensures { IfOk result (λ items. items.items ≡ below (missing_at self.now) self.now.count) }
     {

@@ -1,5 +1,5 @@
 -- How a script ends.
-use Rattle.std.proofs.Common.{◌≡◌, ◌∙◌, ℕ, Bool, Option, Some, None, Result, Ok, Err, IfErr, IfOk, refl, subst, inl, inr}
+use Rattle.std.proofs.Common.{◌≡◌, ◌∙◌, ℕ, Bool, Option, Some, None, Result, Ok, Err, IfErr, IfOk, refl, subst, inl, inr, ◌⊎◌}
 use Rattle.std.specs.Io.KnownBytes.{Appends}
 use Rattle.mx_stamps.proofs.Lists.{append_nil}
 use Rattle.mx_plan.specs.Text.{Text}
@@ -17,9 +17,24 @@ use Rattle.mx_commands.specs.Runs.{whole}
 use Rattle.mx_scripts.specs.declared.script_error.ScriptError.{ScriptError}
 use Rattle.mx_scripts.specs.declared.script_error.ScriptError.TheVariants as script_error
 use Rattle.mx_scripts.specs.Ended.{ClosesScript, EndsScript, IsFileOfNames, IsScriptError, IsLineError, IsPrintError, IsScriptOf, ScriptsOf}
-use Rattle.mx_scripts.specs.ScriptFiles.{IsScriptFile}
+use Rattle.mx_plan.specs.declared.shape.Shape.{Shape}
+use Rattle.mx_plan.specs.declared.shape.Shape.TheVariants.{Ricart, Maekawa, Raymond}
+use Rattle.mx_scripts.specs.ScriptFiles.{IsScriptFile, IsShort, StopsInPlan}
 use Rattle.mx_scripts.specs.Printed.{HasDone, Scripts}
 use Rattle.mx_scripts.specs.Requests.{Request, draw, walk, script}
+
+-- ---- lines that are not done
+
+-- only memory is at fault, where it is no line
+stops_short : (p : Fields) (all : Text) (end : CommandError) (shape : Shape) → StopsInPlan p all (script_error.Command end) shape → end ≡ command_error.Memory
+stops_short p all end (Ricart count) h = h.stops.3
+stops_short p all end (Maekawa family) h = h.stops.3
+stops_short p all end (Raymond tree) h = h.stops.3
+
+-- the error of a script that was read as text
+pub error_in : (p : Fields) (all text : Text) (error : ScriptError) → text ≡ all → IsShort error ⊎ StopsInPlan p text error p.shape → IsLineError p all error
+error_in p all text error is (inl h) = inl h
+error_in p all text error is (inr h) = inr (inr (subst (λ (t : Text). StopsInPlan p t error p.shape) is h))
 
 -- ---- a file, or none
 
@@ -31,10 +46,14 @@ module _ (told : Text → Option Telling) (names : Text × Text) where
   file_read bytes p lines (Err e) read of h = tt
 
   -- the lines of a plan that was read give none
-  pub line_fails : {T : Type 0} (p : Fields) (r : Result T ScriptError) → IsPlanOf (plan_told told names) p → IfErr r IsLineError → IfErr r (IsScriptError told names)
-  line_fails p (Ok t) read h = tt
-  line_fails p (Err (script_error.Command end)) read h = inl h
-  line_fails p (Err (script_error.AtLine line)) read h = (p, read)
+  pub line_fails : {T : Type 0} (p : Fields) (text : Text) (r : Result T ScriptError) → IsPlanOf (plan_told told names) p → IsScriptOf told names text → IfErr r (IsLineError p text)
+      → IfErr r (IsScriptError told names)
+  line_fails p text (Ok t) read of h = tt
+  line_fails p text (Err (script_error.Command end)) read of (inl h) = inl (let e : script_error.Command end ≡ script_error.Command command_error.Memory = h in cc)
+  line_fails p text (Err (script_error.Command end)) read of (inr (inl h)) = absurd h
+  line_fails p text (Err (script_error.Command end)) read of (inr (inr h)) = inl (stops_short p text end p.shape h)
+  line_fails p text (Err (script_error.AtLine line)) read of (inl h) = absurd (let bad : script_error.AtLine line ≡ script_error.Command command_error.Memory = h in cc)
+  line_fails p text (Err (script_error.AtLine line)) read of (inr h) = (p, text, read, of, h)
 
   -- the file was printed
   pub file_done : {E : Type 0} (text : Text) (a b : Held) (r : Result ℕ E) → IsFileOfNames told names text → IfOk r (λ _. Appends a b text)

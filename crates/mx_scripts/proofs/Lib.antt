@@ -1,4 +1,5 @@
 pub mod FateLemmas
+pub mod UnderWayLemmas
 pub mod FileLemmas
 pub mod PlayedLemmas
 pub mod ItemLemmas

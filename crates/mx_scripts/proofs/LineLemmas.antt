@@ -20,10 +20,10 @@ use Rattle.mx_lines.specs.declared.orders.Order.{Order}
 use Rattle.mx_lines.specs.declared.orders.Order.TheVariants as order
 use Rattle.mx_lines.specs.declared.orders.Scope.TheVariants.{Link}
 use Rattle.mx_scripts.specs.Fates.{Fates, is_under_way}
-use Rattle.mx_scripts.specs.Lines.{DoesAll, DoesIfSome, DoesText, IsNext, Once, Performs, IsNotDone, Misreads, Reads, Repeats, StopsAfter, StopsAt, StopsWithin}
+use Rattle.mx_scripts.specs.Lines.{DoesAll, DoesIfSome, DoesText, IsNext, Once, Performs, IsNotDone, Misreads, Reads, Repeats, StopsAfter, StopsAt, StopsBy, StopsWithin}
 use Rattle.mx_scripts.specs.Files.{file_text}
 use Rattle.mx_scripts.specs.Played.{Plays, events_of}
-use Rattle.mx_scripts.specs.ScriptFiles.{IsFileOfScript}
+use Rattle.mx_scripts.specs.ScriptFiles.{IsFileOfScript, IsShort, StopsFrom}
 use Rattle.mx_scripts.proofs.OverLemmas.{read_over}
 use Rattle.mx_scripts.proofs.PlayedLemmas.{file_of_played, noted, plays_step}
 use Rattle.mx_scripts.specs.Scripts.{IsOver, failure_of_step}
@@ -138,9 +138,14 @@ module _ {H S M : Type 0} (core : Core H S M) (o : Order) where
 
 -- ---- why an event is not applied
 
-pub err_of : {T : Type 0} (P : LineFailure → Type 0) (r : Result T LineFailure) (why : LineFailure) → IsErrAnd r (λ w. w ≡ why) → P why → IfErr r P
+pub err_of : {T E : Type 0} (P : E → Type 0) (r : Result T E) (why : E) → IsErrAnd r (λ w. w ≡ why) → P why → IfErr r P
 err_of P (Ok t) why h p = tt
 err_of P (Err w) why h p = subst P (sym h) p
+
+-- an error that is one, and so the other
+pub err_then : {T E : Type 0} {P Q : E → Type 0} (r : Result T E) → ((why : E) → P why → Q why) → IfErr r P → IfErr r Q
+err_then (Ok t) f p = tt
+err_then (Err why) f p = f why p
 
 module _ {H S M : Type 0} (core : Core H S M) (fates : Fates) where
   abbrev with_cluster : ClusterState S M → RunState S M
@@ -277,6 +282,13 @@ module _ {H S M : Type 0} (core : Core H S M) (p : Fields) where
   file_from bytes script start old last (Ok t) fresh empty does is =
       file_of_lines script start last last.cluster.trace (bytes t) empty (subst (λ (s : RunState S M). DoesAll core p (lines script) s last) fresh does) refl is
   file_from bytes script start old last (Err e) fresh empty does is = tt
+
+  -- lines that give no file, from before any parcel was sent
+  pub none_from : {T : Type 0} (script : Text) (start : ClusterState S M) (old : RunState S M) (r : Result T ScriptError) → old ≡ before_any start
+      → IfErr r (λ e. IsShort e ⊎ StopsBy core p (lines script) old e) → IfErr r (λ e. IsShort e ⊎ StopsFrom core p start script e)
+  none_from script start old (Ok t) fresh h = tt
+  none_from script start old (Err e) fresh (inl h) = inl h
+  none_from script start old (Err e) fresh (inr h) = inr (record { stops = subst (λ (s : RunState S M). StopsBy core p (lines script) s e) fresh h })
 
   -- ---- a loop over the lines
 

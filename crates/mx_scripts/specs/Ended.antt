@@ -1,5 +1,5 @@
 -- How a script ends, and how that is told.
-use Rattle.std.specs.Prelude.{◌≡◌, ◌⊎◌, ◌&&◌, ⊤, ℕ, Bool, false, Option, Some, Result, Ok, Err, IfSome, string_bytes}
+use Rattle.std.specs.Prelude.{◌≡◌, ◌⊎◌, ◌&&◌, ℕ, Bool, false, Option, Some, Result, Ok, Err, IfSome, string_bytes, IsUtf8}
 use Rattle.mx_plan.specs.Text.{Text}
 use Rattle.mx_plan.specs.Fields.{Fields}
 use Rattle.mx_io.specs.Told.{Telling}
@@ -9,32 +9,45 @@ use Rattle.mx_cli.specs.Closed.{Closes}
 use Rattle.mx_cli.specs.Naming.{IsUnread}
 use Rattle.mx_cli.specs.Reading.{IsPlanOf, plan_told, text_told}
 use Rattle.mx_cli.specs.Reports.{ReportsFault}
+use Rattle.mx_lines.specs.declared.errors.LineFault.TheVariants.{NotText}
 use Rattle.mx_scripts.specs.declared.script_error.ScriptError.{ScriptError}
 use Rattle.mx_scripts.specs.declared.script_error.ScriptError.TheVariants as script_error
-use Rattle.mx_scripts.specs.ScriptFiles.{IsScriptFile}
+use Rattle.mx_scripts.specs.ScriptFiles.{IsScriptFile, IsShort, StopsInPlan}
 use Rattle.mx_scripts.specs.Scripts.{script_line}
-
--- why there is no file of the events of a script: plan or script can't be read, or memory ran out;
--- or the plan was read, and a line is refused
-abbrev pub IsScriptError : (Text → Option Telling) → Text × Text → ScriptError → Type 0
-IsScriptError told names (script_error.Command end) = (end ≡ command_error.Memory) ⊎ IsUnread told names end
-IsScriptError told names (script_error.AtLine line) = (p : Fields) × IsPlanOf (plan_told told names) p
 
 -- the script was read, where the source tells of it
 abbrev pub IsScriptOf : (Text → Option Telling) → Text × Text → Text → Type 0
 IsScriptOf told names script =
     IfSome (text_told told names) (λ telling. telling ≡ Some script)
 
+-- the bytes of a script are not in UTF-8
+abbrev pub IsNotText : Text → ScriptError → Type 0
+IsNotText script (script_error.Command end) = ⊥
+IsNotText script (script_error.AtLine line) = ¬ (IsUtf8 script) × (line.fault ≡ NotText)
+
+-- why a script is refused: it is no text, or the error is that of its first line that is not done in
+-- the cluster of the plan
+abbrev pub IsRefusedScript : Fields → Text → ScriptError → Type 0
+IsRefusedScript p script error = IsNotText script error ⊎ StopsInPlan p script error p.shape
+
+-- why a script gives no file: memory ran out, or it is refused
+abbrev pub IsLineError : Fields → Text → ScriptError → Type 0
+IsLineError p script error = IsShort error ⊎ IsRefusedScript p script error
+
+-- why there is no file of the events of a script: plan or script can't be read, or memory ran out;
+-- or both were read, and a line is refused
+abbrev pub IsScriptError : (Text → Option Telling) → Text × Text → ScriptError → Type 0
+IsScriptError told names (script_error.Command end) =
+    (end ≡ command_error.Memory) ⊎ IsUnread told names end
+IsScriptError told names (script_error.AtLine line) =
+    (p : Fields) × (script : Text) × IsPlanOf (plan_told told names) p
+    × IsScriptOf told names script × IsRefusedScript p script (script_error.AtLine line)
+
 -- the text is the file of what the lines of the script do in the cluster of the plan
 abbrev pub IsFileOfNames : (Text → Option Telling) → Text × Text → Text → Type 0
 IsFileOfNames told names text =
     (p : Fields) × (script : Text) × IsPlanOf (plan_told told names) p
     × IsScriptOf told names script × IsScriptFile p script text p.shape
-
--- why the lines of a script give no file: memory ran out, or a line is refused
-abbrev pub IsLineError : ScriptError → Type 0
-IsLineError (script_error.Command end) = end ≡ command_error.Memory
-IsLineError (script_error.AtLine line) = ⊤
 
 -- why a text was not printed: memory ran out, or the output refused, which one that takes all bytes
 -- never does

@@ -1,10 +1,12 @@
 -- What has become of the parcels that were sent.
-use Rattle.std.specs.Prelude.{ℕ, ◌≡◌, ◌≤◌, ◌<◌, ◌-◌, ◌==◌, ◌&&◌, Bool, true, false, IsTrue, not, List, [], ◌++◌, Option, Some, None, length, replicate, slice_get, slice_index_or, slice_set}
+use Rattle.std.specs.Prelude.{ℕ, ◌≡◌, ◌<◌, ◌-◌, ◌==◌, ◌&&◌, Bool, true, false, IsTrue, not, List, [], ◌++◌, Option, Some, None, length, replicate, slice_get, slice_index_or, slice_set}
 use Rattle.mx_events.specs.declared.event.Event.{Event}
 use Rattle.mx_events.specs.declared.event.Event.TheVariants.{Deliver}
 use Rattle.mx_lines.specs.declared.orders.LinkChange.{LinkChange}
 use Rattle.mx_lines.specs.declared.orders.Scope.{Scope}
 use Rattle.mx_lines.specs.declared.orders.Scope.TheVariants.{All, Link}
+use Rattle.mx_scripts.specs.declared.in_flight.Wanted.{Wanted}
+use Rattle.mx_scripts.specs.declared.in_flight.Wanted.TheVariants.{Waiting, Arriving}
 use Rattle.mx_scripts.specs.Links.{LinkState, changed, is_cut, link_of, uncut}
 
 -- of each parcel that was sent, whether it is under way no more; of each link, the parcel that was
@@ -54,15 +56,6 @@ relinked change f = record { gone = f.gone; last = f.last; links = changed chang
 abbrev pub is_under_way : Fates → ℕ → Bool
 is_under_way f k = not (slice_index_or f.gone k true)
 
--- no parcel below this number is under way
-abbrev pub AreGone : ℕ → List Bool → Type 0
-AreGone first gone = (k : ℕ) → k < first → IsTrue (slice_index_or gone k false)
-
--- the parcel is so, and none of those from this number on that were sent before it
-abbrev pub IsFirstFrom : ℕ → (ℕ → Bool) → ℕ → Type 0
-IsFirstFrom begin is_so k =
-    IsTrue (is_so k) × ((j : ℕ) → begin ≤ j → j < k → is_so j ≡ false)
-
 -- the parcel is so, and none that was sent before it
 abbrev pub IsOldest : (ℕ → Bool) → ℕ → Type 0
 IsOldest is_so k = IsTrue (is_so k) × ((j : ℕ) → j < k → is_so j ≡ false)
@@ -96,9 +89,11 @@ module _ {P : Type 0} (f : Fates) (sent : List (ℕ × ℕ × P)) (scope : Scope
   abbrev pub can_arrive : ℕ → Bool
   can_arrive k = is_waiting k && not (is_held f (slice_get sent k))
 
-  -- there is no such parcel
+  -- the parcel is under way, `all` speaks of it, and it is wanted
+  abbrev pub is_wanted : Wanted → ℕ → Bool
+  is_wanted Waiting k = is_waiting k
+  is_wanted Arriving k = can_arrive k
+
+  -- no parcel in the scope is under way
   abbrev pub NoneWaits : Type 0
   NoneWaits = (k : ℕ) → is_waiting k ≡ false
-
-  abbrev pub NoneArrives : Type 0
-  NoneArrives = (k : ℕ) → can_arrive k ≡ false

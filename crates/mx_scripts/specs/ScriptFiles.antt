@@ -11,11 +11,14 @@ use Rattle.mx_plan.specs.Text.{Text}
 use Rattle.mx_plan.specs.Fields.{Fields}
 use Rattle.mx_plan.specs.declared.shape.Shape.{Shape}
 use Rattle.mx_plan.specs.declared.shape.Shape.TheVariants.{Ricart, Maekawa, Raymond}
+use Rattle.mx_cli.specs.declared.faults.CommandError.TheVariants as command_error
 use Rattle.mx_commands.specs.Runs.{at_rest}
 use Rattle.mx_scripts.specs.Files.{file_text}
-use Rattle.mx_scripts.specs.Lines.{DoesAll}
+use Rattle.mx_scripts.specs.Lines.{DoesAll, StopsBy}
 use Rattle.mx_scripts.specs.Played.{IsFileOf, events_of}
 use Rattle.mx_scripts.specs.States.{RunState, before_any}
+use Rattle.mx_scripts.specs.declared.script_error.ScriptError.{ScriptError}
+use Rattle.mx_scripts.specs.declared.script_error.ScriptError.TheVariants as script_error
 
 -- the text is the file of what the lines of a script do, one after another: no more events than are
 -- read back, which can happen in the cluster
@@ -35,3 +38,21 @@ IsScriptFile p script text (Maekawa family) =
     IsFileOfScript maekawa_core p (at_rest maekawa_core p family) script text
 IsScriptFile p script text (Raymond tree) =
     IsFileOfScript raymond_core p (at_rest raymond_core p tree) script text
+
+-- memory ran out
+abbrev pub IsShort : ScriptError → Type 0
+IsShort error = error ≡ script_error.Command command_error.Memory
+
+-- the error is that of the first line of a script that is not done, in a cluster
+pub record StopsFrom {H S M : Type 0} (core : Core H S M) (p : Fields) (start : ClusterState S M)
+    (script : Text) (error : ScriptError) : Type 0 where
+  pub stops : StopsBy core p (lines script) (before_any start) error
+
+-- the same in the cluster of a plan, at rest, by its algorithm
+abbrev pub StopsInPlan : Fields → Text → ScriptError → Shape → Type 0
+StopsInPlan p script error (Ricart count) =
+    StopsFrom ricart_core p (at_rest ricart_core p count) script error
+StopsInPlan p script error (Maekawa family) =
+    StopsFrom maekawa_core p (at_rest maekawa_core p family) script error
+StopsInPlan p script error (Raymond tree) =
+    StopsFrom raymond_core p (at_rest raymond_core p tree) script error

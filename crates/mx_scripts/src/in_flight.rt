@@ -1,10 +1,11 @@
 //! Which parcels are under way.
 
-ghost use Rattle.std.specs.Prelude.{◌≡◌, ◌≤◌, ℕ, false, IfNone, IfSome, IsTrue, None, OnOk, slice_get, slice_index_or};
-ghost use Rattle.mx_scripts.specs.Fates.{AreGone, IsFirstFrom, IsOldest, NoneArrives, NoneWaits, arrived, at_first, can_arrive, can_pass, delivered, grown, is_held, is_in, is_under_way, is_waiting, is_within, lost, noted, relinked};
+ghost use Rattle.std.specs.Prelude.{◌≡◌, ◌≤◌, ℕ, false, IfNone, IfSome, None, OnOk, slice_get, slice_index_or};
+ghost use Rattle.mx_scripts.specs.Fates.{IsOldest, arrived, at_first, can_arrive, can_pass, delivered, is_held, is_in, is_under_way, is_waiting, is_wanted, is_within, lost, noted, relinked};
 ghost use Rattle.mx_scripts.specs.Links.{is_cut, link_of};
 
 use crate::links::{LINKS, Links, link};
+use crate::under_way::UnderWay;
 use mx_lines::{LinkChange, Scope};
 use mx_network::{Cluster, Event};
 use mx_nodelaws::Exclusion;
@@ -15,26 +16,30 @@ use std::marker::Model;
 /// Which parcels were delivered or lost, and which links are cut.
 #[derive(Drop)]
 pub struct InFlight {
-    /// Whether a parcel is under way no more.
-    gone: Vec<bool>,
-    /// No parcel below this number is under way.
-    first: u64,
+    under_way: UnderWay,
     /// The parcel of the link that was delivered last.
     last: [Option<u64>; LINKS],
     links: Links,
 }
 
+/// Which parcels under way are wanted.
+#[derive(Clone, Copy)]
+pub(crate) enum Wanted {
+    /// All.
+    Waiting,
+    /// Those over a link that is not cut.
+    Arriving,
+}
+
 impl Model for InFlight {
-    ghost use Rattle.mx_scripts.specs.Fates.{AreGone, Fates};
+    ghost use Rattle.mx_scripts.specs.Fates.{Fates};
 
     ghost Value = { Fates };
 
-    ghost view = { λ m. record { gone = m.gone.items; last = m.last; links = m.links } };
-
-    ghost invariant = { λ m. AreGone m.first m.gone.items };
+    ghost view = { λ m. record { gone = m.under_way; last = m.last; links = m.links } };
 }
 
-/// Whether a parcel was sent, and is one of these.
+/// Whether a parcel was sent, and is in this scope.
 fn is_in<C: Exclusion>(cluster: &Cluster<C>, scope: &Scope, number: u64) -> bool
     ensures { result ≡ is_in scope.now (slice_get cluster.now.sent number) }
 {
@@ -44,7 +49,7 @@ fn is_in<C: Exclusion>(cluster: &Cluster<C>, scope: &Scope, number: u64) -> bool
     }
 }
 
-/// Whether a parcel from one node to another is one of these.
+/// Whether a parcel from one node to another is in this scope.
 fn is_within(scope: &Scope, from: NodeId, to: NodeId) -> bool
     ensures { result ≡ is_within scope.now from to }
 {
@@ -54,38 +59,13 @@ fn is_within(scope: &Scope, from: NodeId, to: NodeId) -> bool
     }
 }
 
-/// Takes in that each parcel up to this number was sent.
-fn grow(gone: &mut Vec<bool>, sent: u64) -> Result<(), AllocError>
-    ensures ok { OnOk result (gone.new.items ≡ grown sent gone.old.items) }
-    ensures kept { (first : ℕ) → AreGone first gone.old.items → AreGone first gone.new.items }
-{
-    for number in gone.len() as u64..sent {
-        gone.push(false)?;
-    }
-    Ok(())
-}
-
-/// The first parcel under way from this number on, or how many there are.
-fn first_left(gone: &[bool], first: u64) -> u64
-    requires { AreGone first gone.now }
-    ensures { AreGone result gone.now }
-{
-    for number in first..gone.len() as u64 {
-        if !gone[number as usize] {
-            return number;
-        }
-    }
-    gone.len() as u64
-}
-
 impl InFlight {
     /// Before any parcel was sent.
     pub fn new(alloc: Global) -> InFlight
         ensures { result ≡ at_first }
     {
         InFlight {
-            gone: Vec::new(alloc),
-            first: 0,
+            under_way: UnderWay::new(alloc),
             last: [None; LINKS],
             links: Links::uncut(),
         }
@@ -99,7 +79,7 @@ impl InFlight {
     ) -> Result<(), AllocError>
         ensures { OnOk result (self.new ≡ noted cluster.now.sent event.now self.old) }
     {
-        grow(&mut self.gone, cluster.sent())?;
+        self.under_way.grow(cluster.sent())?;
         self.take_in(event, cluster);
         Ok(())
     }
@@ -127,23 +107,14 @@ impl InFlight {
     pub fn lose(&mut self, number: u64)
         ensures { self.new ≡ lost number self.old }
     {
-        let place = number as usize;
-        if place < self.gone.len() {
-            self.gone[place] = true;
-            self.first = first_left(self.gone.as_slice(), self.first);
-        }
+        self.under_way.lose(number);
     }
 
     /// Whether a parcel was neither delivered nor lost.
     pub fn is_under_way(&self, number: u64) -> bool
         ensures { result ≡ is_under_way self.now number }
     {
-        let place = number as usize;
-        if place < self.gone.len() {
-            !self.gone[place]
-        } else {
-            false
-        }
+        self.under_way.is_under_way(number)
     }
 
     /// Links are cut, or heal.
@@ -180,114 +151,56 @@ impl InFlight {
         }
     }
 
-    /// Whether a parcel is under way, and one of these.
+    /// Whether a parcel is under way, and in this scope.
     pub fn is_waiting<C: Exclusion>(&self, cluster: &Cluster<C>, scope: &Scope, number: u64) -> bool
         ensures { result ≡ is_waiting self.now cluster.now.sent scope.now number }
     {
         self.is_under_way(number) && is_in(cluster, scope, number)
     }
 
-    /// Whether a parcel is under way over a link that is not cut, and one of these.
+    /// Whether a parcel is under way over a link that is not cut, and in this scope.
     fn can_arrive<C: Exclusion>(&self, cluster: &Cluster<C>, scope: &Scope, number: u64) -> bool
         ensures { result ≡ can_arrive self.now cluster.now.sent scope.now number }
     {
         self.is_waiting(cluster, scope, number) && !self.is_held(cluster, number)
     }
 
-    /// The first of these parcels, from this number on, that is under way over a link that is not
-    /// cut.
-    fn arriving_from<C: Exclusion>(
+    /// Whether a parcel is in this scope, and wanted.
+    fn is_wanted<C: Exclusion>(
         &self,
         cluster: &Cluster<C>,
         scope: &Scope,
-        begin: u64,
+        wanted: Wanted,
+        number: u64,
+    ) -> bool
+        ensures { result ≡ is_wanted self.now cluster.now.sent scope.now wanted number }
+    {
+        match wanted {
+            Wanted::Waiting => self.is_waiting(cluster, scope, number),
+            Wanted::Arriving => self.can_arrive(cluster, scope, number),
+        }
+    }
+
+    /// The oldest parcel in this scope that is wanted. Looks only at those under way.
+    pub(crate) fn oldest<C: Exclusion>(
+        &self,
+        cluster: &Cluster<C>,
+        scope: &Scope,
+        wanted: Wanted,
     ) -> Option<u64>
         ensures some { IfSome result
-            (IsFirstFrom begin (can_arrive self.now cluster.now.sent scope.now)) }
-        ensures none { IfNone result
-            ((k : ℕ) → begin ≤ k → can_arrive self.now cluster.now.sent scope.now k ≡ false) }
+            (IsOldest (is_wanted self.now cluster.now.sent scope.now wanted)) }
+        ensures none { IfNone result ((k : ℕ)
+            → is_wanted self.now cluster.now.sent scope.now wanted k ≡ false) }
     {
-        for number in begin..cluster.sent() {
-            if self.can_arrive(cluster, scope, number) {
+        let mut number = self.under_way.first();
+        while number < cluster.sent() {
+            if self.is_wanted(cluster, scope, wanted, number) {
                 return Some(number);
             }
+            number = self.under_way.after(number);
         }
         None
-    }
-
-    /// The oldest of these parcels that is under way over a link that is not cut. Looks at all that
-    /// were sent after the oldest one under way.
-    pub(crate) fn oldest_arriving<C: Exclusion>(
-        &self,
-        cluster: &Cluster<C>,
-        scope: &Scope,
-    ) -> Option<u64>
-        ensures some { IfSome result
-            (IsOldest (can_arrive self.now cluster.now.sent scope.now)) }
-        ensures none { IfNone result (NoneArrives self.now cluster.now.sent scope.now) }
-    {
-        self.arriving_from(cluster, scope, self.first)
-    }
-
-    /// The first of these parcels, from this number on, that is under way.
-    fn waiting_from<C: Exclusion>(
-        &self,
-        cluster: &Cluster<C>,
-        scope: &Scope,
-        begin: u64,
-    ) -> Option<u64>
-        ensures some { IfSome result
-            (IsFirstFrom begin (is_waiting self.now cluster.now.sent scope.now)) }
-        ensures none { IfNone result
-            ((k : ℕ) → begin ≤ k → is_waiting self.now cluster.now.sent scope.now k ≡ false) }
-    {
-        for number in begin..cluster.sent() {
-            if self.is_waiting(cluster, scope, number) {
-                return Some(number);
-            }
-        }
-        None
-    }
-
-    /// The oldest of these parcels that is under way. Looks at all that were sent after the oldest
-    /// one under way.
-    pub(crate) fn oldest_waiting<C: Exclusion>(
-        &self,
-        cluster: &Cluster<C>,
-        scope: &Scope,
-    ) -> Option<u64>
-        ensures some { IfSome result
-            (IsOldest (is_waiting self.now cluster.now.sent scope.now)) }
-        ensures none { IfNone result (NoneWaits self.now cluster.now.sent scope.now) }
-    {
-        self.waiting_from(cluster, scope, self.first)
-    }
-
-    /// The oldest of these parcels that is under way over a link that is not cut.
-    pub fn next_to_arrive<C: Exclusion>(
-        &mut self,
-        cluster: &Cluster<C>,
-        scope: &Scope,
-    ) -> Option<u64>
-        ensures same { self.new ≡ self.old }
-        ensures some { IfSome result (λ k.
-            IsTrue (can_arrive self.old cluster.now.sent scope.now k)) }
-        ensures none { IfNone result (NoneArrives self.old cluster.now.sent scope.now) }
-    {
-        self.oldest_arriving(cluster, scope)
-    }
-
-    /// The oldest parcel under way from one node to another.
-    pub fn oldest_between<C: Exclusion>(
-        &mut self,
-        cluster: &Cluster<C>,
-        from: NodeId,
-        to: NodeId,
-    ) -> Option<u64>
-        ensures same { self.new ≡ self.old }
-        ensures some { IfSome result (λ k. IsTrue (is_under_way self.old k)) }
-    {
-        self.oldest_waiting(cluster, &Scope::Link(from, to))
     }
 
     /// The parcel from one node to another that was delivered last.

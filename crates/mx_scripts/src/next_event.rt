@@ -6,6 +6,7 @@ ghost use Rattle.mx_scripts.specs.Lines.{Finds, IsAgain, IsNext, IsNoNext, Misse
 ghost use Rattle.mx_scripts.specs.Links.{link_of};
 ghost use Rattle.mx_scripts.specs.States.{Admits, Bars, IsAllowed};
 
+use crate::in_flight::Wanted;
 use crate::session_event::SessionEvent;
 use crate::state::State;
 use mx_lines::{LineFault, Order, Scope};
@@ -69,7 +70,10 @@ impl<C: Exclusion> State<C> {
         ensures { Finds (can_arrive self.now.fates self.now.cluster.sent scope.now)
             arrival result }
     {
-        match self.in_flight.oldest_arriving(&self.cluster, scope) {
+        match self
+            .in_flight
+            .oldest(&self.cluster, scope, Wanted::Arriving)
+        {
             Some(number) => Some(arrival(number)),
             None => None,
         }
@@ -80,7 +84,7 @@ impl<C: Exclusion> State<C> {
         ensures { Finds (is_waiting self.now.fates self.now.cluster.sent scope.now)
             SessionEvent.IsLost result }
     {
-        match self.in_flight.oldest_waiting(&self.cluster, scope) {
+        match self.in_flight.oldest(&self.cluster, scope, Wanted::Waiting) {
             Some(number) => Some(SessionEvent::IsLost(number)),
             None => None,
         }
@@ -151,9 +155,10 @@ impl<C: Exclusion> State<C> {
         ensures none { IfErr result (λ fault. (fault ≡ LineFault.NotUnderWay)
             × NoneWaits self.now.fates self.now.cluster.sent (Scope.Link from to)) }
     {
+        let scope = Scope::Link(from, to);
         match self
             .in_flight
-            .oldest_waiting(&self.cluster, &Scope::Link(from, to))
+            .oldest(&self.cluster, &scope, Wanted::Waiting)
         {
             Some(number) => Ok(number),
             None => Err(LineFault::NotUnderWay),

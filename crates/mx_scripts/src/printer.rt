@@ -10,6 +10,7 @@ ghost use Rattle.mx_scripts.specs.Ended.{EndsScript, IsPrintError, ScriptsOf};
 ghost use Rattle.mx_scripts.specs.Requests as wants;
 
 use crate::drawn_file::draw_schedule;
+use crate::recorder::NoRecorder;
 use crate::script_end::{close_script, file_of_names};
 use crate::script_error::ScriptError;
 use crate::walked_file::walk_file;
@@ -172,7 +173,7 @@ fn print_script<S: Source, O: Output>(
     ensures zero { IfOk result (λ status. status ≡ 0) }
     ensures stays { O.takes_all out.new ≡ O.takes_all out.old }
 {
-    match file_of_names(alloc, names, source) {
+    match file_of_names(alloc, names, source, &mut NoRecorder) {
         Ok(file) => print_file(&file, out),
         Err(error) => Err(error),
     }

@@ -1,71 +1,95 @@
 //! `script`: the events that the lines of a script ask for, as a file.
 
-ghost use Rattle.std.specs.Prelude.{◌≡◌, ◌⊎◌, List, [], string_bytes, IfErr, IfOk, OnOk};
+ghost use Rattle.std.specs.Prelude.{◌≡◌, ◌⊎◌, ℕ, List, [], string_bytes, IfErr, IfOk, OnOk};
 ghost use Rattle.std.specs.Str.Lines.{lines};
 ghost use Rattle.mx_scripts.specs.Files.{file_text};
 ghost use Rattle.mx_scripts.specs.Lines.{Does, DoesAll, DoesText, IsNotDone, Misreads, Performs, Reads, StopsAfter, StopsBy, StopsWithin};
 ghost use Rattle.mx_scripts.specs.Played.{events_of};
-ghost use Rattle.mx_scripts.specs.ScriptFiles.{IsFileOfScript, IsScriptFile};
-ghost use Rattle.mx_scripts.specs.States.{before_any};
+ghost use Rattle.mx_scripts.specs.ScriptFiles.{IsFileOfScript, IsScriptFile, IsShort, StopsFrom, StopsInPlan};
+ghost use Rattle.mx_scripts.specs.Scripts.{IsErrorAt};
+ghost use Rattle.mx_scripts.specs.States.{Brings, IsAllowed, IsNotApplied, before_any};
+ghost use Rattle.mx_scripts.specs.declared.script_error.LineFailure.{LineFailure};
 ghost use Rattle.mx_scripts.specs.declared.session_event.SessionEvent.{SessionEvent};
 
 use crate::files::file_of;
+use crate::recorder::Recorder;
 use crate::script_error::{LineFailure, ScriptError};
+use crate::session_event::SessionEvent;
 use crate::state::State;
+use mx_cli::CommandError;
 use mx_commands::by_shape;
 use mx_lines::{Line, LineFault, Order, read_line, words_in};
+use mx_maekawa::Maekawa;
 use mx_nodelaws::Exclusion;
 use mx_plan::Plan;
+use mx_raymond::Raymond;
+use mx_ricart::Ricart;
 use std::alloc::Global;
 
 /// The file of the events of a script, by the plan's algorithm.
-pub(crate) fn script_file(alloc: Global, plan: &Plan, script: &str) -> Result<String, ScriptError>
-    ensures { IfOk result (λ text.
+pub(crate) fn script_file<K>(
+    alloc: Global,
+    plan: &Plan,
+    script: &str,
+    recorder: &mut K,
+) -> Result<String, ScriptError>
+where
+    K: Recorder<State<Ricart>> + Recorder<State<Maekawa>> + Recorder<State<Raymond>>,
+    ensures ok { IfOk result (λ text.
         IsScriptFile plan.now script.now (string_bytes text) plan.now.shape) }
+    ensures err { IfErr result (λ error. IsShort error
+        ⊎ StopsInPlan plan.now script.now error plan.now.shape) }
 {
     by_shape!(alloc, plan, |cluster| {
         let mut state = State::of(alloc, cluster);
-        file_of_script(alloc, plan, script, &mut state)
+        file_of_script(alloc, plan, script, &mut state, recorder)
     })
 }
 
 /// The file of what the lines do, from before any parcel was sent.
-fn file_of_script<C: Exclusion>(
+fn file_of_script<C: Exclusion, K: Recorder<State<C>>>(
     alloc: Global,
     plan: &Plan,
     script: &str,
     state: &mut State<C>,
+    recorder: &mut K,
 ) -> Result<String, ScriptError>
     requires fresh { state.old ≡ before_any state.old.cluster }
     requires empty { state.old.cluster.trace ≡ [] }
-    ensures { IfOk result (λ text.
+    ensures ok { IfOk result (λ text.
         IsFileOfScript C.core plan.now state.old.cluster script.now (string_bytes text)) }
+    ensures err { IfErr result (λ error. IsShort error
+        ⊎ StopsFrom C.core plan.now state.old.cluster script.now error) }
 {
-    file_after(alloc, plan, script, state)
+    file_after(alloc, plan, script, state, recorder)
 }
 
 /// Does the lines; then makes the file of all that has happened.
-fn file_after<C: Exclusion>(
+fn file_after<C: Exclusion, K: Recorder<State<C>>>(
     alloc: Global,
     plan: &Plan,
     script: &str,
     state: &mut State<C>,
+    recorder: &mut K,
 ) -> Result<String, ScriptError>
     ensures does { OnOk result (DoesAll C.core plan.now (lines script.now) state.old state.new) }
     ensures file { IfOk result (λ text.
         string_bytes text ≡ file_text plan.now (events_of state.new.cluster.trace)) }
+    ensures err { IfErr result (λ error. IsShort error
+        ⊎ StopsBy C.core plan.now (lines script.now) state.old error) }
 {
-    do_script(alloc, plan, script, state)?;
+    do_script(alloc, plan, script, state, recorder)?;
     let text = file_of(alloc, plan, state.trace())?;
     Ok(text)
 }
 
 /// Does what each line of a script asks for, in turn. A fault names its line, counted from 1.
-fn do_script<C: Exclusion>(
+fn do_script<C: Exclusion, K: Recorder<State<C>>>(
     alloc: Global,
     plan: &Plan,
     script: &str,
     state: &mut State<C>,
+    recorder: &mut K,
 ) -> Result<(), ScriptError>
     ensures ok { OnOk result (DoesAll C.core plan.now (lines script.now) state.old state.new) }
     ensures err { IfErr result (StopsBy C.core plan.now (lines script.now) state.old) }
@@ -73,25 +97,47 @@ fn do_script<C: Exclusion>(
     let mut number = 0u64;
     for line in script.lines() {
         number = number.saturating_add(1);
-        if let Err(fault) = do_line(alloc, plan, line, state) {
-            return Err(ScriptError::at_line(alloc, plan, number, fault, line));
+        if let Err(fault) = do_line(alloc, plan, number, line, state, recorder) {
+            let error = ScriptError::at_line(alloc, plan, number, fault, line);
+            return Err(record_error(plan, error, state, recorder));
         }
     }
     Ok(())
 }
 
-/// Does what a line asks for.
-fn do_line<C: Exclusion>(
+/// Lets the recorder take in the line of an error, if it is of a line. Returns the error.
+fn record_error<C: Exclusion, K: Recorder<State<C>>>(
+    plan: &Plan,
+    error: ScriptError,
+    state: &State<C>,
+    recorder: &mut K,
+) -> ScriptError
+    ensures { (number : ℕ) (failure : LineFailure)
+        → IsErrorAt number failure error → IsErrorAt number failure result }
+{
+    match error {
+        ScriptError::AtLine(line) => match recorder.refused(plan, &line, state) {
+            Ok(()) => ScriptError::AtLine(line),
+            Err(_) => ScriptError::Command(CommandError::Memory),
+        },
+        ScriptError::Command(error) => ScriptError::Command(error),
+    }
+}
+
+/// Does what the line of this number asks for.
+fn do_line<C: Exclusion, K: Recorder<State<C>>>(
     alloc: Global,
     plan: &Plan,
+    number: u64,
     line: &str,
     state: &mut State<C>,
+    recorder: &mut K,
 ) -> Result<(), LineFailure>
     ensures ok { OnOk result (DoesText C.core plan.now line.now state.old state.new) }
     ensures err { IfErr result (IsNotDone C.core plan.now line.now state.old) }
 {
     match line_in(alloc, plan, line)? {
-        Some(line) => repeat(&line, state),
+        Some(line) => repeat(plan, number, &line, state, recorder),
         None => Ok(()),
     }
 }
@@ -109,20 +155,32 @@ fn line_in(alloc: Global, plan: &Plan, line: &str) -> Result<Option<Line>, LineF
     }
 }
 
-/// Does what a line asks for, as often as it says.
-fn repeat<C: Exclusion>(line: &Line, state: &mut State<C>) -> Result<(), LineFailure>
+/// Does what the line of this number asks for, as often as it says.
+fn repeat<C: Exclusion, K: Recorder<State<C>>>(
+    plan: &Plan,
+    number: u64,
+    line: &Line,
+    state: &mut State<C>,
+    recorder: &mut K,
+) -> Result<(), LineFailure>
     ensures ok { OnOk result (Does C.core line.now state.old state.new) }
     ensures err { IfErr result
         (StopsWithin C.core line.now.order line.now.times state.old) }
 {
     for _count in 0..line.times {
-        perform(&line.order, state)?;
+        perform(plan, number, &line.order, state, recorder)?;
     }
     Ok(())
 }
 
-/// Does what an order asks for, once.
-fn perform<C: Exclusion>(order: &Order, state: &mut State<C>) -> Result<(), LineFailure>
+/// Does what an order of the line of this number asks for, once.
+fn perform<C: Exclusion, K: Recorder<State<C>>>(
+    plan: &Plan,
+    number: u64,
+    order: &Order,
+    state: &mut State<C>,
+    recorder: &mut K,
+) -> Result<(), LineFailure>
     ensures ok { OnOk result ((es : List SessionEvent)
         × Performs C.core order.now 0 state.old es state.new) }
     ensures err { IfErr result (λ why. (es : List SessionEvent)
@@ -131,9 +189,26 @@ fn perform<C: Exclusion>(order: &Order, state: &mut State<C>) -> Result<(), Line
     for count in 0..u64::MAX {
         let next = state.next_event(order, count)?;
         match next {
-            Some(event) => state.apply(&event)?,
+            Some(event) => do_event(plan, number, &event, state, recorder)?,
             None => return Ok(()),
         }
     }
     Err(LineFailure::Refused(LineFault::TooMany))
+}
+
+/// Does an event that the line of this number asks for, and lets the recorder take it in.
+fn do_event<C: Exclusion, K: Recorder<State<C>>>(
+    plan: &Plan,
+    number: u64,
+    event: &SessionEvent,
+    state: &mut State<C>,
+    recorder: &mut K,
+) -> Result<(), LineFailure>
+    requires { IsAllowed state.old event.now }
+    ensures ok { OnOk result (Brings C.core state.old event.now state.new) }
+    ensures err { IfErr result (IsNotApplied C.core state.old event.now state.new) }
+{
+    state.apply(event)?;
+    recorder.event(plan, number, event, state)?;
+    Ok(())
 }

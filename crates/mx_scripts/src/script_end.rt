@@ -7,50 +7,54 @@ ghost use Rattle.mx_cli.specs.Words.{names_of};
 ghost use Rattle.mx_scripts.specs.Ended.{ClosesScript, IsFileOfNames, IsScriptError, IsLineError};
 ghost use Rattle.mx_scripts.specs.ScriptFiles.{IsScriptFile};
 
+use crate::recorder::Recorder;
 use crate::script::script_file;
 use crate::script_error::ScriptError;
+use crate::state::State;
 use crate::texts::text_in;
-use mx_cli::{CommandError, Names, close, close_with, fetch_named};
+use mx_cli::{Names, close, close_with, fetch_named};
 use mx_io::{Output, Source};
+use mx_maekawa::Maekawa;
 use mx_plan::Plan;
+use mx_raymond::Raymond;
+use mx_ricart::Ricart;
 use std::alloc::Global;
 
-/// The file of the events of a script, or why there is none.
-pub fn file_of_names<S: Source>(
+/// The file of the events of a script, or why there is none. The recorder takes in each event, and
+/// the line that is refused.
+pub fn file_of_names<S: Source, K>(
     alloc: Global,
     names: &Names<'_>,
     source: &mut S,
+    recorder: &mut K,
 ) -> Result<String, ScriptError>
+where
+    K: Recorder<State<Ricart>> + Recorder<State<Maekawa>> + Recorder<State<Raymond>>,
     ensures ok { IfOk result (λ text.
         IsFileOfNames (S.told source.old) (names_of names.now) (string_bytes text)) }
     ensures err { IfErr result (IsScriptError (S.told source.old) (names_of names.now)) }
 {
     match fetch_named(alloc, source, names) {
-        Ok(both) => file_of_bytes(alloc, &both.plan, both.text.as_slice()),
+        Ok(both) => file_of_bytes(alloc, &both.plan, both.text.as_slice(), recorder),
         Err(error) => Err(ScriptError::Command(error)),
     }
 }
 
-/// The file of the events that the bytes of a script ask for. Where no line is refused, only memory
-/// can be at fault.
-fn file_of_bytes(alloc: Global, plan: &Plan, script: &[u8]) -> Result<String, ScriptError>
+/// The file of the events that the bytes of a script ask for.
+fn file_of_bytes<K>(
+    alloc: Global,
+    plan: &Plan,
+    script: &[u8],
+    recorder: &mut K,
+) -> Result<String, ScriptError>
+where
+    K: Recorder<State<Ricart>> + Recorder<State<Maekawa>> + Recorder<State<Raymond>>,
     ensures ok { IfOk result (λ text.
         IsScriptFile plan.now script.now (string_bytes text) plan.now.shape) }
-    ensures err { IfErr result IsLineError }
-{
-    match file_of_text(alloc, plan, script) {
-        Ok(file) => Ok(file),
-        Err(ScriptError::AtLine(line)) => Err(ScriptError::AtLine(line)),
-        Err(ScriptError::Command(_)) => Err(ScriptError::Command(CommandError::Memory)),
-    }
-}
-
-fn file_of_text(alloc: Global, plan: &Plan, script: &[u8]) -> Result<String, ScriptError>
-    ensures { IfOk result (λ text.
-        IsScriptFile plan.now script.now (string_bytes text) plan.now.shape) }
+    ensures err { IfErr result (IsLineError plan.now script.now) }
 {
     let text = text_in(alloc, script)?;
-    script_file(alloc, plan, text)
+    script_file(alloc, plan, text, recorder)
 }
 
 /// Flushes the output, reports why there is no file, and returns the status: that of the end, 1

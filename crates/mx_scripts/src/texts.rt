@@ -1,6 +1,7 @@
 //! The text of a script.
 
-ghost use Rattle.std.specs.Prelude.{◌≡◌, IfOk};
+ghost use Rattle.std.specs.Prelude.{◌≡◌, IfErr, IfOk};
+ghost use Rattle.mx_scripts.specs.Ended.{IsNotText};
 
 use crate::script_error::{RefusedLine, ScriptError};
 use mx_lines::LineFault;
@@ -10,7 +11,8 @@ use std::str;
 /// The text that bytes are. Where they are not in UTF-8, the line of the first that is not is at
 /// fault.
 pub(crate) fn text_in(alloc: Global, bytes: &[u8]) -> Result<&str, ScriptError>
-    ensures { IfOk result (λ text. text.now ≡ bytes.now) }
+    ensures ok { IfOk result (λ text. text.now ≡ bytes.now) }
+    ensures err { IfErr result (IsNotText bytes.now) }
 {
     match str::from_utf8(bytes) {
         Ok(text) => Ok(text),

@@ -75,7 +75,9 @@ fn store_as<C: Exclusion, N: Next<Knowledge<C>>>(
         .store::<Becomes<N>>(seat, node.get() as usize, new);
 }
 
-/// Makes one act of a seat with one node.
+/// Makes one act of a node by one atomic step: stores its new status in its word. The seat, which
+/// is the station's handle of the table, has this node alone. `hand` is the parcel that was taken
+/// and is not delivered yet.
 pub(crate) fn act<C: Exclusion>(
     field: &Field<C>,
     seat: &mut SeatOf<C>,

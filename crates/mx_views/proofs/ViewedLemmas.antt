@@ -41,7 +41,7 @@ use Rattle.mx_commands.specs.Runs.{Report, at_rest, ends_with}
 use Rattle.mx_commands.proofs.JobLemmas.{ran_at_once, ran_out}
 use Rattle.mx_views.specs.Printed.{Lists, PrintsPlanned, PrintsText, PrintsView, node_in, view_on}
 use Rattle.mx_views.specs.Shown.{Prints, PrintsBy, closing_text, shown_from, view_by}
-use Rattle.mx_views.specs.Viewed.{Course, CourseRan, HoldsOf, HoldsOfPlan, IsFound, IsStranger, PrintsCourse, PrintsReport, RunsOut, ViewRan, ViewRanOf, Views, course_by, course_of, course_on, course_told, refused_text, reports, unknown_node, unread}
+use Rattle.mx_views.specs.Viewed.{Course, CourseRan, HoldsOf, HoldsOfPlan, IsFound, PrintsCourse, PrintsReport, RunsOut, ViewRan, ViewRanOf, Views, course_by, course_of, course_on, course_told, refused_text, reports, unknown_node, unread}
 use Rattle.mx_views.specs.ViewWords.{Request}
 use Rattle.mx_views.specs.declared.view_error.ViewError.{ViewError}
 use Rattle.mx_views.specs.declared.view_error.ViewError.TheVariants as view_error
@@ -146,11 +146,6 @@ module _ (t : Bool) (request : Request) (p : Fields) (es : List Event) where
   unfound_ran a (view_error.Command end) memory = inl (memory, Keeps-refl a)
   unfound_ran a (view_error.UnknownNode text) none =
       inr (subst (λ (o : Option (Option ℕ)). ViewRan t a a (option_map_or (λ n. reports (view_by p (view_on request n) p.shape es)) o unknown_node) (Err (view_error.UnknownNode text))) (sym none) (Keeps-refl a))
-
--- a name that no node has
-pub unfound : (p : Fields) (name : Text) (h : ViewError) → node_in p (Some name) ≡ None → IsStranger h → IsFound p (Some name) (Err h)
-unfound p name (view_error.Command end) none memory = memory
-unfound p name (view_error.UnknownNode text) none h = none
 
 -- ---- how it is closed
 

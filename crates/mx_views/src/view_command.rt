@@ -169,7 +169,7 @@ fn node_in(alloc: Global, plan: &Plan, name: Option<&str>) -> Result<Option<Node
     }
 }
 
-/// Why nothing is shown of a name that no node has.
+/// Returns the error for a name that no node has, or that for lack of memory.
 fn unknown_node(alloc: Global, plan: &Plan, name: &str) -> ViewError
     ensures { IsStranger result }
 {

@@ -13,7 +13,7 @@ loop-i-preserved g c =
     let there = is_at nodes k lt in
     record {
       in_range = omega (arith, lt);
-      written = c.loop-i.invariant.written ∙ place_more (λ k name. text k) nodes k there.0 (string_bytes c.loop-i.text) (string_bytes c.add_at.new.text) there.1 c.in_ok-add_at.ensures;
+      written = c.loop-i.invariant.written ∙ place_more (λ k name. text k) nodes k there.0 (string_bytes c.loop-i.text) (string_bytes c.add_node.new.text) there.1 c.in_ok-add_node.ensures;
     }
 
 pub returns : goal.returns

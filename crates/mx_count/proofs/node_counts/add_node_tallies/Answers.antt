@@ -10,8 +10,8 @@ returns g c =
     let same = c.trace-trace.ensures.value in
     let node = c.args.node in
     node_counted c.args.is_json c.args.cluster.now node c.entries_of.result c.sent_of.result c.received_of.result c.refused_of.result
-    (string_bytes c.args.text.now) (string_bytes c.add_node_tally.new.text) (string_bytes c.add_node_tally-2.new.text) (string_bytes c.add_node_tally-3.new.text)
-    (string_bytes c.add_node_tally-4.new.text) c.add_node_tally-4.result (c.entries_of.ensures ∙ ap (λ (es : List Entry). count_by (is_entry_of node) es) same) c.sent_of.ensures
+    (string_bytes c.args.text.now) (string_bytes c.add_tally.new.text) (string_bytes c.add_tally-2.new.text) (string_bytes c.add_tally-3.new.text)
+    (string_bytes c.add_tally-4.new.text) c.add_tally-4.result (c.entries_of.ensures ∙ ap (λ (es : List Entry). count_by (is_entry_of node) es) same) c.sent_of.ensures
     (c.received_of.ensures ∙ ap (λ (es : List Entry). count_by (λ entry. is_delivered_to node c.args.cluster.now.sent entry.event) es) same)
     (c.refused_of.ensures ∙ ap (λ (es : List Entry). count_by (is_refusal_of node) es) same)
-    c.in_ok-add_node_tally.ensures c.in_ok-add_node_tally-2.ensures c.in_ok-add_node_tally-3.ensures c.add_node_tally-4.ensures
+    c.in_ok-add_tally.ensures c.in_ok-add_tally-2.ensures c.in_ok-add_tally-3.ensures c.add_tally-4.ensures

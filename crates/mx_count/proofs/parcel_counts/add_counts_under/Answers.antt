@@ -12,8 +12,8 @@ use Rattle.mx_count.proofs.parcel_counts.add_counts_under.Goals as goal
 pub loop-name-preserved : goal.loop-name-preserved
 loop-name-preserved g c =
     let line = λ (name : Bor Text). tally_text c.args.is_json c.args.indent.now name.now (count_by (is_under (word_by g.C.Msg.Letter.parts) name.now) c.args.cluster.now.sent) in
-    c.loop-name.invariant ∙ each_more line c.args.names.now c.loop-name.name-index _ (string_bytes c.loop-name.text) (string_bytes c.add_tally.new.text) c.loop-name-test.true
-    (tally_is c.args.is_json c.args.indent.now _ _ _ _ _ c.in_ok-add_tally.ensures c.count_parcels-count.ensures)
+    c.loop-name.invariant ∙ each_more line c.args.names.now c.loop-name.name-index _ (string_bytes c.loop-name.text) (string_bytes c.add_tally_line.new.text) c.loop-name-test.true
+    (tally_is c.args.is_json c.args.indent.now _ _ _ _ _ c.in_ok-add_tally_line.ensures c.count_parcels-count.ensures)
 
 pub returns : goal.returns
 returns g c =

@@ -11,8 +11,8 @@ use Rattle.mx_count.proofs.refusal_counts.add_refusals_under.Goals as goal
 pub loop-name-preserved : goal.loop-name-preserved
 loop-name-preserved c =
     let line = λ (name : Bor Text). tally_text c.args.is_json c.args.indent.now name.now (count_by (is_entry_under name.now) c.args.trace.now) in
-    c.loop-name.invariant ∙ each_more line c.args.names.now c.loop-name.name-index _ (string_bytes c.loop-name.text) (string_bytes c.add_tally.new.text) c.loop-name-test.true
-    (tally_is c.args.is_json c.args.indent.now _ _ _ _ _ c.in_ok-add_tally.ensures c.count_refusals.ensures)
+    c.loop-name.invariant ∙ each_more line c.args.names.now c.loop-name.name-index _ (string_bytes c.loop-name.text) (string_bytes c.add_tally_line.new.text) c.loop-name-test.true
+    (tally_is c.args.is_json c.args.indent.now _ _ _ _ _ c.in_ok-add_tally_line.ensures c.count_refusals.ensures)
 
 pub returns : goal.returns
 returns c =

@@ -14,7 +14,7 @@ returns-in_err-print_end-clause-ran g c =
 
 pub returns-clause-ran : goal.returns-clause-ran
 returns-clause-ran g c =
-    ran_of_for (g.O.Output.takes_all c.args.out.now) (g.S.Source.told c.args.source.now) (request_of c.args.request.now) c.carry_out-ended.result c.carry_out-ended.ensures.ran
+    ran_of_for (g.O.Output.takes_all c.args.out.now) (g.S.Source.told c.args.source.now) (request_of c.args.request.now) c.run-ended.result c.run-ended.ensures.ran
 
 pub returns-in_err-print_end-clause-prints : goal.returns-in_err-print_end-clause-prints
 returns-in_err-print_end-clause-prints g c =

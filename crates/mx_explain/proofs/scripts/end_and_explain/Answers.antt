@@ -7,9 +7,9 @@ use Rattle.mx_explain.proofs.scripts.end_and_explain.Goals as goal
 pub returns-in-Ok-clause-ends : goal.returns-in-Ok-clause-ends
 returns-in-Ok-clause-ends g c = c.end_of-ended.ensures.ends (g.O.Output.takes_all c.args.out.now)
 
-pub returns-in-Err-clause-ends : goal.returns-in-Err-clause-ends
-returns-in-Err-clause-ends g c = inr (fails_as_error (g.O.Output.takes_all c.args.out.now) c.in-Err.stop c.in-Err.ensures.fails)
+pub returns-clause-ends : goal.returns-clause-ends
+returns-clause-ends g c = inr (fails_as_error (g.O.Output.takes_all c.args.out.now) c.in-Err.stop c.in-Err.ensures.fails)
 
-pub returns-in-Err-clause-prints : goal.returns-in-Err-clause-prints
-returns-in-Err-clause-prints g c =
+pub returns-clause-prints : goal.returns-clause-prints
+returns-clause-prints g c =
     prints_nothing ℕ (g.O.Output.written c.args.out.now) (g.O.Output.written c.print_end.new.out) (script_error.Command c.in-Err.stop) c.in-Err.ensures.same

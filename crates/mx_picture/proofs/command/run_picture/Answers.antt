@@ -2,7 +2,8 @@ use Rattle.std.proofs.Common.{Bool, subst}
 use Rattle.std.specs.Prelude.{◌&&◌}
 use Rattle.mx_cli.specs.Words.{names_of}
 use Rattle.mx_cli.specs.Closed.{Closes}
-use Rattle.mx_picture.proofs.KeptLemmas.{drawn_kept}
+use Rattle.mx_picture.specs.Pictures.{IsPictureTold}
+use Rattle.mx_picture.proofs.OutputLemmas.{drawn_kept}
 use Rattle.mx_picture.proofs.command.run_picture.Goals as goal
 
 pub returns : goal.returns
@@ -13,7 +14,7 @@ returns g c =
     c.draw-ended.ensures.stays c.close.ensures.closes in (
       ended,
       c.draw-ended.ensures.ran,
-      drawn_kept (g.O.Output.written c.args.out.now) (g.O.Output.written c.draw-ended.new.out) (g.O.Output.written c.close.new.out) ended c.draw-ended.ensures.drawn c.close.ensures.held,
+      drawn_kept (IsPictureTold (g.S.Source.told c.args.source.now) (names_of c.args.request.now.names)) (g.O.Output.written c.args.out.now) (g.O.Output.written c.draw-ended.new.out) (g.O.Output.written c.close.new.out) ended c.draw-ended.ensures.drawn c.close.ensures.held,
       closed,
       c.close.ensures.kept_back,
     )

@@ -6,7 +6,10 @@ use Rattle.mx_commands.specs.Ran.{Ran}
 use Rattle.mx_commands.proofs.JobLemmas.{both_read, both_unread}
 use Rattle.mx_commands.proofs.RunLemmas.{err_is}
 use Rattle.mx_picture.specs.PictureWords.{request_of}
-use Rattle.mx_picture.specs.Pictures.{LacksNode}
+use Rattle.mx_picture.specs.Drawn.{Draws, IsPictureOf}
+use Rattle.mx_picture.specs.Pictures.{IsPictureTold, LacksNode}
+use Rattle.mx_picture.proofs.OutputLemmas.{drawn_as}
+use Rattle.mx_picture.proofs.PictureLemmas.{picture_told}
 use Rattle.mx_picture.proofs.input.draw.Goals as goal
 
 pub returns-in_err-both-clause-ran : goal.returns-in_err-both-clause-ran
@@ -31,3 +34,14 @@ returns-clause-ran g c =
       | inl h ↦ inl (both_read t None (plan_told told names) (text_told told names) None both res c.in_ok-both.ensures.read h)
       | inr lacks ↦ inr (both.plan, c.in_ok-both.ensures.read.0, lacks)
     ]
+
+pub returns-clause-drawn : goal.returns-clause-drawn
+returns-clause-drawn g c =
+    let told = g.S.Source.told c.args.source.now in
+    let names = names_of c.args.request.now.names in
+    let a = g.O.Output.written c.args.out.now in
+    let b = g.O.Output.written c.draw_text.new.out in
+    let both = c.in_ok-both.both in
+    let res = c.draw_text.result in
+    let drawn = subst (λ (l : List ℕ). Draws (IsPictureOf both.plan l) a b res) c.as_slice.ensures.value c.draw_text.ensures.drawn in
+    drawn_as (IsPictureOf both.plan both.text.items) (IsPictureTold told names) a b res (picture_told told names both c.in_ok-both.ensures.read) drawn

@@ -1,13 +1,16 @@
-use Rattle.std.proofs.Common.{◌≡◌, Err, List, None, inl, length, subst, sym}
+use Rattle.std.proofs.Common.{◌≡◌, Err, List, None, ap, inl, length, refl, string_bytes, subst, sym, ℕ}
 use Rattle.mx_events.specs.declared.event.Event.{Event}
+use Rattle.mx_plan.specs.Text.{Text}
 use Rattle.mx_plan.specs.Events.{events_at}
 use Rattle.mx_commands.specs.Jobs.{report_of_events, run_by}
 use Rattle.mx_cli.specs.Outputs.{error_of}
 use Rattle.mx_commands.specs.Runs.{AllNameNodes}
 use Rattle.mx_commands.proofs.EventLemmas.{events_named}
 use Rattle.mx_commands.proofs.RunLemmas.{err_is}
-use Rattle.mx_picture.specs.Drawn.{StopsAs}
-use Rattle.mx_picture.proofs.EndLemmas.{ran_put, ran_read, ran_whole}
+use Rattle.mx_commands.specs.Ran.{StopsAs}
+use Rattle.mx_commands.proofs.SinkLemmas.{ran_read, ran_whole}
+use Rattle.mx_picture.specs.Drawn.{IsPicture}
+use Rattle.mx_picture.proofs.OutputLemmas.{ran_put}
 use Rattle.mx_picture.proofs.input.draw_text.Goals as goal
 
 pub picture_of-requires : goal.picture_of-requires
@@ -21,7 +24,7 @@ returns-in_err-page-clause-ran g c =
     let p = c.args.plan.now in
     let es = c.in_ok-events.events.items in
     let stopped = subst (λ (l : List Event). StopsAs (run_by p p.shape l) s) c.as_slice.ensures.value c.in_err-page.ensures.err in
-    let final = inl (ran_read (g.O.Output.takes_all c.args.out.now) p c.args.text.now (events_at p c.args.text.now) es s c.in_ok-events.ensures stopped) in
+    let final = inl (ran_read (g.O.Output.takes_all c.args.out.now) p (events_at p c.args.text.now) es s c.in_ok-events.ensures stopped) in
     let is : c.from_residual-in_err-page.result ≡ Err s = err_is c.from_residual-in_err-page.result s c.from_residual-in_err-page.ensures.1 in
     rw is final
 
@@ -38,3 +41,11 @@ returns-clause-ran g c =
     let es = c.in_ok-events.events.items in
     let ended = subst (λ (l : List Event). (run_by p p.shape l).end ≡ None) c.as_slice.ensures.value c.in_ok-page.ensures.ok in
     inl (ran_whole (g.O.Output.takes_all c.args.out.now) p (events_at p c.args.text.now) es 0 c.in_ok-events.ensures ended)
+
+pub returns-clause-drawn : goal.returns-clause-drawn
+returns-clause-drawn g c =
+    let p = c.args.plan.now in
+    let es = c.in_ok-events.events.items in
+    let drawn = subst (λ (n : ℕ). IsPicture p n (string_bytes c.in_ok-page.page)) (ap (λ (l : List Event). length l) c.as_slice.ensures.value) c.in_ok-page.ensures.whole in
+    let there = subst (λ (t : Text). IsPicture p (length es) t) (sym c.as_bytes.ensures.value) drawn in
+    (refl, (c.as_bytes.result.now, (es, c.in_ok-events.ensures, there), c.in_ok-put.ensures.ok))

@@ -1,4 +1,4 @@
-use Rattle.std.proofs.Common.{◌≡◌, ◌+◌, ◌-◌, ◌^◌, ◌∷◌, [], ℕ, List, arith, length, min, refl, subst}
+use Rattle.std.proofs.Common.{◌≡◌, ◌+◌, ◌-◌, ◌^◌, ◌∷◌, [], ℕ, List, arith, length, min, refl, rules, subst}
 use Rattle.std.proofs.lemmas.Iterator.Consumers.{YieldsList-end, YieldsList-so_far, YieldsList-turn}
 use Rattle.std.proofs.lemmas.Iterator.Splits.{YieldsList-from_lines}
 use Rattle.std.proofs.lemmas.List.{length-append}
@@ -41,5 +41,11 @@ returns-in-Err-clause-err g c =
       length l.yielded,
       c.in-Err.fault,
       stops_here g.C.Exclusion.core c.args.plan.now _ l.yielded c.in-Some.line.now c.args.state.now l.state c.in-Err.fault l.invariant.does so_far turn c.in-Err.ensures.err,
-      subst (λ (k : ℕ). IsErrorAt k c.in-Err.fault c.at_line.result) next c.at_line.ensures,
+      subst (λ (k : ℕ). IsErrorAt k c.in-Err.fault c.record_error.result) next (c.record_error.ensures c.saturating_add-number.result c.in-Err.fault c.at_line-error.ensures),
     )
+
+pub do_line-requires : goal.do_line-requires
+do_line-requires g c = search rules
+
+pub record_error-requires : goal.record_error-requires
+record_error-requires g c = search c.requires-raw

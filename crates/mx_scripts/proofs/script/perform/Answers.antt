@@ -12,8 +12,8 @@ use Rattle.mx_scripts.proofs.script.perform.Goals as goal
 pub loop-count-init : goal.loop-count-init
 loop-count-init g c = record { does = λ last es x. (es, x); stops = λ why es x. (es, x) }
 
-pub apply-requires : goal.apply-requires
-apply-requires g c =
+pub do_event-requires : goal.do_event-requires
+do_event-requires g c =
     let s = c.loop-count.state in
     (search rules, subst (λ (o : Option SessionEvent). IfSome o (IsAllowed s)) c.in-Some.is c.in_ok-next.ensures.allowed)
 
@@ -26,9 +26,9 @@ loop-count-preserved g c =
     let allowed = subst (λ (o : Option SessionEvent). IfSome o (IsAllowed s)) c.in-Some.is c.in_ok-next.ensures.allowed in
     record {
       does = λ last es x. l.invariant.does last (e ∷ es)
-          (performs_next g.C.Exclusion.core c.args.order.now l.count e es s c.apply.new.self last next allowed c.in_ok-apply-in-Some.ensures.ok x);
+          (performs_next g.C.Exclusion.core c.args.order.now l.count e es s c.do_event.new.state last next allowed c.in_ok-do_event-in-Some.ensures.ok x);
       stops = λ why es x. l.invariant.stops why (e ∷ es)
-          (stops_next g.C.Exclusion.core c.args.order.now l.count e es s c.apply.new.self why next allowed c.in_ok-apply-in-Some.ensures.ok x);
+          (stops_next g.C.Exclusion.core c.args.order.now l.count e es s c.do_event.new.state why next allowed c.in_ok-do_event-in-Some.ensures.ok x);
     }
 
 pub returns-in-None-clause-ok : goal.returns-in-None-clause-ok
@@ -44,15 +44,15 @@ returns-in_err-next-clause-err g c =
     err_of (λ (w : LineFailure). (es : List SessionEvent) × StopsAfter g.C.Exclusion.core c.args.order.now 0 c.args.state.now es w) c.from_residual.result why c.from_residual.ensures.1
     (c.loop-count.invariant.stops why [] (inl (failed.field-0.0, failed.ensures.err, refl)))
 
-pub returns-in_err-apply-in-Some-clause-err : goal.returns-in_err-apply-in-Some-clause-err
-returns-in_err-apply-in-Some-clause-err g c =
+pub returns-in_err-do_event-in-Some-clause-err : goal.returns-in_err-do_event-in-Some-clause-err
+returns-in_err-do_event-in-Some-clause-err g c =
     let s = c.loop-count.state in
-    let failed = c.in_err-apply-in-Some in
+    let failed = c.in_err-do_event-in-Some in
     let why = failed.field-0.0 in
     let next = subst (λ (o : Option SessionEvent). IsNext s.fates s.cluster.sent c.args.order.now c.loop-count.count o) c.in-Some.is c.in_ok-next.ensures.next in
-    err_of (λ (w : LineFailure). (es : List SessionEvent) × StopsAfter g.C.Exclusion.core c.args.order.now 0 c.args.state.now es w) c.from_residual-in_err-apply-in-Some.result why
-    c.from_residual-in_err-apply-in-Some.ensures.1
-    (c.loop-count.invariant.stops why [] (inr (inl (c.in-Some.event, c.apply.new.self, next, failed.ensures.err))))
+    err_of (λ (w : LineFailure). (es : List SessionEvent) × StopsAfter g.C.Exclusion.core c.args.order.now 0 c.args.state.now es w) c.from_residual-in_err-do_event-in-Some.result why
+    c.from_residual-in_err-do_event-in-Some.ensures.1
+    (c.loop-count.invariant.stops why [] (inr (inl (c.in-Some.event, c.do_event.new.state, next, failed.ensures.err))))
 
 pub returns-clause-err : goal.returns-clause-err
 returns-clause-err g c =

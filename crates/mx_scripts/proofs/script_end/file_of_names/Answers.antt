@@ -14,7 +14,10 @@ returns-in-Ok-clause-ok g c =
 
 pub returns-in-Ok-clause-err : goal.returns-in-Ok-clause-err
 returns-in-Ok-clause-err g c =
-    line_fails (g.S.Source.told c.args.source.now) (names_of c.args.names.now) c.in-Ok.both.plan c.file_of_bytes.result c.in-Ok.ensures.ok.0 c.file_of_bytes.ensures.err
+    let told = g.S.Source.told c.args.source.now in
+    let names = names_of c.args.names.now in
+    let of = subst (λ (t : Text). IsScriptOf told names t) (sym c.as_slice.ensures.value) c.in-Ok.ensures.ok.1 in
+    line_fails told names c.in-Ok.both.plan c.as_slice.result.now c.file_of_bytes.result c.in-Ok.ensures.ok.0 of c.file_of_bytes.ensures.err
 
 pub returns-in-Err-clause-err : goal.returns-in-Err-clause-err
 returns-in-Err-clause-err g c = inr c.in-Err.ensures.err

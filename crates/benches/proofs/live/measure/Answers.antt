@@ -1,0 +1,13 @@
+use Rattle.benches.proofs.live.measure.Goals as goal
+
+pub run_nodes-requires-send-C : goal.run_nodes-requires-send-C
+run_nodes-requires-send-C g c κs within = c.type_bounds.send-C
+
+pub run_nodes-requires-send-C-Msg : goal.run_nodes-requires-send-C-Msg
+run_nodes-requires-send-C-Msg g c κs within = c.type_bounds.send-C-Msg
+
+pub run_nodes-requires-send-C-Shape : goal.run_nodes-requires-send-C-Shape
+run_nodes-requires-send-C-Shape g c κs within = c.type_bounds.send-C-Shape
+
+pub run_nodes-requires-sync-R : goal.run_nodes-requires-sync-R
+run_nodes-requires-sync-R g c κs within = c.type_bounds.sync-R

@@ -1,0 +1,60 @@
+//! A run that prints nothing: a sink sees its events, and its end.
+
+ghost use Rattle.std.specs.Prelude.{◌≡◌, None, length, true, false, IfErr, OnOk};
+ghost use Rattle.mx_commands.specs.Jobs.{run_by};
+ghost use Rattle.mx_commands.specs.Ran.{StopsAs};
+ghost use Rattle.mx_commands.specs.Runs.{AllNameNodes};
+
+use crate::driver::drive;
+use crate::sink::Sink;
+use mx_cli::CommandError;
+use mx_io::{Output, OutputFault};
+use mx_maekawa::Maekawa;
+use mx_network::{Cluster, Event};
+use mx_plan::Plan;
+use mx_raymond::Raymond;
+use mx_ricart::Ricart;
+use std::alloc::Global;
+
+/// An output that takes all texts, and keeps nothing.
+#[derive(Drop)]
+pub struct NullOutput;
+
+impl Output for NullOutput {
+    ghost takes_all = { λ _. true };
+
+    ghost has_refused = { λ _. false };
+
+    fn put(&mut self, _text: &[u8]) -> Result<(), OutputFault> {
+        Ok(())
+    }
+
+    fn flush(&mut self) -> Result<(), OutputFault> {
+        Ok(())
+    }
+}
+
+/// Applies the events of a plan in order, by its algorithm. The sink sees each event, and the end
+/// of a run without fault. What it appends is dropped.
+///
+/// # Errors
+///
+/// Returns `Fault` with the first event that delivers a parcel that was not sent, and `Memory` if
+/// memory runs out.
+pub fn observe<K>(
+    alloc: Global,
+    plan: &Plan,
+    events: &[Event],
+    sink: &mut K,
+) -> Result<(), CommandError>
+where
+    K: Sink<Cluster<Ricart>> + Sink<Cluster<Maekawa>> + Sink<Cluster<Raymond>>,
+    requires { AllNameNodes (length plan.now.nodes) events.now }
+    ensures ok { OnOk result ((run_by plan.now plan.now.shape events.now).end ≡ None) }
+    ensures err { IfErr result (StopsAs (run_by plan.now plan.now.shape events.now)) }
+{
+    match drive(alloc, plan, events, sink, &mut NullOutput) {
+        Ok(_) => Ok(()),
+        Err(error) => Err(error),
+    }
+}

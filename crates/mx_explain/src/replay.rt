@@ -1,0 +1,177 @@
+//! The replay that is explained, and the warnings of its run.
+
+ghost use Rattle.std.specs.Prelude.{◌≡◌, None, IfOk, true};
+ghost use Rattle.mx_cli.specs.Words.{names_of};
+ghost use Rattle.mx_cli.specs.Words as wants;
+ghost use Rattle.mx_commands.specs.Jobs.{report_of_events};
+ghost use Rattle.mx_commands.specs.Ran.{Ran, RanOf};
+ghost use Rattle.mx_commands.specs.Runs.{silent};
+ghost use Rattle.mx_diagnostics.specs.Reports.{IsLonger};
+
+use crate::warnings::Warnings;
+use mx_cli::{CommandError, Fault, Names, fetch_both};
+use mx_commands::{Sink, observe};
+use mx_diagnostics::{EventOffsets, FileReport, Report};
+use mx_events::Event;
+use mx_io::Source;
+use mx_knowledge::Knowledge;
+use mx_network::Cluster;
+use mx_nodelaws::Exclusion;
+use mx_plan::{Plan, read_events};
+use std::alloc::{AllocError, Global};
+use std::fmt;
+
+/// The warnings of a replay: which events are refused, and which parcel was not sent.
+#[derive(Drop)]
+pub(crate) struct ReplayWarnings {
+    refused: Warnings,
+    /// How many parcels were sent.
+    sent: u64,
+    unsent: Option<Unsent>,
+}
+
+impl<C: Exclusion + Knowledge> Sink<Cluster<C>> for ReplayWarnings {
+    ghost texts = { λ _ _. silent };
+
+    fn event(
+        &mut self,
+        plan: &Plan,
+        index: u64,
+        _before: u64,
+        cluster: &Cluster<C>,
+        _text: &mut String,
+    ) -> Result<(), AllocError> {
+        self.sent = cluster.sent();
+        self.refused.note_newest(plan, cluster, index)
+    }
+
+    fn end(
+        &mut self,
+        _alloc: Global,
+        _plan: &Plan,
+        _cluster: &Cluster<C>,
+        _text: &mut String,
+    ) -> Result<u8, AllocError> {
+        Ok(0)
+    }
+}
+
+impl ReplayWarnings {
+    /// Creates the warnings of a replay before its first event.
+    pub(crate) fn new(alloc: Global) -> Self {
+        ReplayWarnings {
+            refused: Warnings::new(alloc),
+            sent: 0,
+            unsent: None,
+        }
+    }
+
+    /// Notes the event that ends a run if it delivers a parcel that was not sent.
+    fn note_end(&mut self, events: &[Event], error: &CommandError) {
+        let CommandError::Fault(Fault::NoParcel(index)) = error else {
+            return;
+        };
+        if let Some(Event::Deliver(number)) = events.get(*index as usize) {
+            self.unsent = Some(Unsent {
+                index: *index,
+                number: *number,
+                sent: self.sent,
+            });
+        }
+    }
+
+    /// Returns whether there is no warning, and each parcel was sent.
+    fn is_empty(&self) -> bool {
+        self.refused.shown().is_empty() && self.unsent.is_none()
+    }
+
+    /// Adds all lines to a report. They have their places in the text of the events, which begins
+    /// below a number of lines of its file.
+    pub(crate) fn explain<'a>(
+        &self,
+        report: &mut Report,
+        file: &'a str,
+        text: &'a [u8],
+        above: usize,
+    ) -> Result<(), AllocError>
+        ensures { IsLonger report.old report.new }
+    {
+        if self.is_empty() {
+            return Ok(());
+        }
+        let mut lines = FileReport::new(report.alloc(), file);
+        lines.look_at(text, above);
+        let offsets = EventOffsets::read(report.alloc(), text)?;
+        self.add_to(&mut lines, &offsets)?;
+        report.add(lines)
+    }
+
+    fn add_to(&self, lines: &mut FileReport<'_>, offsets: &EventOffsets) -> Result<(), AllocError> {
+        for warning in self.refused.shown() {
+            lines.warn_at(offsets.event(warning.number), warning.text.as_str())?;
+        }
+        lines.count_warnings(self.refused.more());
+        match self.unsent {
+            Some(unsent) => lines.fault_at(offsets.argument(unsent.index), unsent),
+            None => Ok(()),
+        }
+    }
+}
+
+/// Reads the plan, then the events, and replays them. Prints nothing.
+pub(crate) fn replay<S: Source>(
+    alloc: Global,
+    names: &Names<'_>,
+    source: &mut S,
+    warnings: &mut ReplayWarnings,
+) -> Result<u8, CommandError>
+    ensures ran { RanOf true None None (S.told source.old) (wants.replay (names_of names.now))
+        result }
+    ensures zero { IfOk result (λ status. status ≡ 0) }
+{
+    let both = fetch_both(alloc, source, names)?;
+    replay_events(alloc, &both.plan, both.text.as_slice(), warnings)
+}
+
+/// Reads the events and replays them, by the plan's algorithm.
+fn replay_events(
+    alloc: Global,
+    plan: &Plan,
+    text: &[u8],
+    warnings: &mut ReplayWarnings,
+) -> Result<u8, CommandError>
+    ensures ran { Ran true None None (report_of_events text.now plan.now) result }
+    ensures zero { IfOk result (λ status. status ≡ 0) }
+{
+    let events = read_events(alloc, text, plan)?;
+    match observe(alloc, plan, events.as_slice(), warnings) {
+        Ok(()) => Ok(0),
+        Err(error) => {
+            warnings.note_end(events.as_slice(), &error);
+            Err(error)
+        }
+    }
+}
+
+/// An event that delivers a parcel that was not sent.
+#[derive(Clone, Copy)]
+struct Unsent {
+    index: u64,
+    number: u64,
+    sent: u64,
+}
+
+impl fmt::Display for Unsent {
+    fn fmt<W: fmt::Write>(&self, f: &mut fmt::Formatter<W>) -> fmt::Result {
+        let index = self.index;
+        let number = self.number;
+        write!(
+            f,
+            " events[{index}][1]: {number} stands here, expected a parcel that was sent before: "
+        )?;
+        match self.sent.checked_sub(1) {
+            Some(last) => write!(f, "there are {}, from 0 to {last}", self.sent),
+            None => f.write_str("there is none yet"),
+        }
+    }
+}

@@ -1,0 +1,18 @@
+-- The lines of a text as a session reads them, beside those of std's `lines`, which `script` reads.
+use Rattle.std.specs.Prelude.{◌≡◌, ◌⊎◌, ◌↔◌, ⊤, List, [], ◌∷◌, ◌++◌}
+use Rattle.std.specs.Borrow.{Bor}
+use Rattle.mx_lines.specs.Words.{AreWords, before_comment}
+use Rattle.mx_plan.specs.Text.{Text}
+
+-- the same line, or less the carriage return at its end; so it has the same words
+pub record IsSameLine (line other : Text) : Type 0 where
+  pub is : (other ≡ line) ⊎ (line ≡ other ++ 13 ∷ [])
+  pub words : (words : List (Bor Text))
+      → AreWords (before_comment line) words ↔ AreWords (before_comment other) words
+
+-- as many lines, and each is the same
+abbrev pub AreSameLines : List Text → List Text → Type 0
+AreSameLines [] [] = ⊤
+AreSameLines (line ∷ lines) (other ∷ others) = IsSameLine line other × AreSameLines lines others
+AreSameLines [] (other ∷ others) = ⊥
+AreSameLines (line ∷ lines) [] = ⊥

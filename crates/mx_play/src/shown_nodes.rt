@@ -1,0 +1,114 @@
+//! What `show` prints of the nodes.
+
+ghost use Rattle.std.specs.Prelude.{◌≡◌, ◌+◌, ◌<◌, ◌++◌, drop, length, string_bytes, OnOk, Some, None};
+ghost use Rattle.mx_format.specs.FactTexts.{facts_line};
+ghost use Rattle.mx_format.specs.Lines.{texts_from};
+ghost use Rattle.mx_play.specs.Views.{node_shown, standing_lines};
+
+use crate::session::Setting;
+use mx_format::{add_facts_line, add_member_line};
+use mx_knowledge::Knowledge;
+use mx_member::Member;
+use mx_network::Cluster;
+use mx_nodelaws::Exclusion;
+use mx_stamps::{MAX_NODES, NodeId};
+use std::alloc::AllocError;
+
+/// Appends the line of each node, or of one.
+pub(crate) fn add_standing<C: Exclusion + Knowledge>(
+    setting: &Setting<'_, C>,
+    to: &Option<NodeId>,
+    cluster: &Cluster<C>,
+    text: &mut String,
+) -> Result<(), AllocError>
+    requires { length cluster.now.members ≡ length setting.now.plan.now.nodes }
+    ensures { OnOk result (string_bytes text.new ≡ string_bytes text.old
+        ++ standing_lines C.core C.knows setting.now.plan.now to.now cluster.now) }
+{
+    match to {
+        Some(node) => add_one(setting, *node, cluster, text),
+        None => add_each(setting, cluster, text),
+    }
+}
+
+/// Appends the lines of each node.
+fn add_each<C: Exclusion + Knowledge>(
+    setting: &Setting<'_, C>,
+    cluster: &Cluster<C>,
+    text: &mut String,
+) -> Result<(), AllocError>
+    requires { length cluster.now.members ≡ length setting.now.plan.now.nodes }
+    ensures { OnOk result (string_bytes text.new ≡ string_bytes text.old
+        ++ standing_lines C.core C.knows setting.now.plan.now None cluster.now) }
+{
+    for index in 0..setting.plan.nodes() {
+        add_member(setting, cluster, index, text)?;
+    }
+    Ok(())
+}
+
+/// Appends the lines of the node of this index.
+fn add_member<C: Exclusion + Knowledge>(
+    setting: &Setting<'_, C>,
+    cluster: &Cluster<C>,
+    index: u8,
+    text: &mut String,
+) -> Result<(), AllocError>
+    requires few { index < MAX_NODES }
+    requires there { index < length cluster.now.members }
+    ensures { OnOk result (string_bytes text.old
+        ++ texts_from (node_shown C.core C.knows setting.now.plan.now) index
+        (drop index cluster.now.members)
+        ≡ string_bytes text.new
+        ++ texts_from (node_shown C.core C.knows setting.now.plan.now) (index + 1)
+        (drop (index + 1) cluster.now.members)) }
+{
+    let node = NodeId::of(index).unwrap();
+    match cluster.member(node) {
+        Some(member) => add_shown(setting, node, member, text),
+        None => unreachable!(),
+    }
+}
+
+/// Appends the line of a node, and that of what it knows.
+fn add_shown<C: Exclusion + Knowledge>(
+    setting: &Setting<'_, C>,
+    node: NodeId,
+    member: &Member<C>,
+    text: &mut String,
+) -> Result<(), AllocError>
+    ensures { OnOk result (string_bytes text.new ≡ string_bytes text.old
+        ++ node_shown C.core C.knows setting.now.plan.now node member.now) }
+{
+    add_member_line(setting.plan, node, member, text)?;
+    add_known(setting, member, text)
+}
+
+/// Appends the line of what a node knows.
+fn add_known<C: Exclusion + Knowledge>(
+    setting: &Setting<'_, C>,
+    member: &Member<C>,
+    text: &mut String,
+) -> Result<(), AllocError>
+    ensures { OnOk result (string_bytes text.new ≡ string_bytes text.old
+        ++ facts_line setting.now.plan.now (C.knows member.now.core)) }
+{
+    let facts = member.core().facts(setting.alloc)?;
+    add_facts_line(setting.plan, &facts, text)
+}
+
+/// Appends the line of a node.
+fn add_one<C: Exclusion + Knowledge>(
+    setting: &Setting<'_, C>,
+    node: NodeId,
+    cluster: &Cluster<C>,
+    text: &mut String,
+) -> Result<(), AllocError>
+    ensures { OnOk result (string_bytes text.new ≡ string_bytes text.old
+        ++ standing_lines C.core C.knows setting.now.plan.now (Some node) cluster.now) }
+{
+    match cluster.member(node) {
+        Some(member) => add_shown(setting, node, member, text),
+        None => Ok(()),
+    }
+}
