@@ -14,7 +14,7 @@ pub record IsSafe (w : World Node ℕ) : Type 0 where
   pub alone : length w.nodes ≡ 1
   pub silent : (a b m : ℕ) → WasSent w a b m → ⊥
 
--- its numbers are u64 values, and its name is that of a node
+-- the numbers in the state of a node are u64 values, and its name is one of n nodes
 pub record BoundedNode (n : ℕ) (s : Node) : Type 0 where
   pub me : s.me < n
   pub limit : IsU64 s.limit

@@ -1,4 +1,4 @@
--- The step table: a node enters at any time. Refusals by the phase are in mx_nodelaws,
+-- The step table: a waiting node enters at any time. Refusals by the phase are in mx_nodelaws,
 -- specs/Calls.antt.
 use Rattle.std.specs.Prelude.{ℕ, ◌+◌, true, []}
 use Rattle.mx_stamps.specs.declared.stamp.Stamp.{Stamp}
@@ -36,7 +36,7 @@ solo_rows count = record {
   mine = λ s. s.mine;
   top = λ s. s.mine;
   limit = λ s. s.limit;
-  -- its stamps are drawn from no counter
+  -- stamps are drawn from no counter
   counter = λ s. 0;
   is_granted = λ s. true;
   ask = asked;

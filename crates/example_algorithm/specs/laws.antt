@@ -1,2 +1,2 @@
--- Laws (all together, with the promises on phases).
+-- Laws: the promises on phases, and all laws together.
 pub mod Laws

@@ -13,8 +13,10 @@ pub struct One;
 #[derive(Drop)]
 pub struct Solo {
     me: NodeId,
+    /// The greatest section number.
     limit: u64,
     phase: Phase,
+    /// The number of the last section that the node entered, or 0.
     mine: u64,
 }
 

@@ -28,9 +28,10 @@ const ACCOUNTS: u8 = 8;
 /// The number of transfers of each teller.
 const TRANSFERS: u64 = 1000;
 
-/// The number of parcels out of 256 that are lost, and that come twice.
+/// How many parcels of 256 are lost, on average.
 const LOST: u16 = 16;
 
+/// How many parcels of 256 come twice, on average.
 const TWICE: u16 = 16;
 
 /// Bounds the turns of each node, so that the program ends in any case. A node settles after every
@@ -46,7 +47,7 @@ const SETTINGS: Settings = Settings {
     registers: ACCOUNTS,
 };
 
-/// A teller, which moves money from one account to another, this many times.
+/// A teller, which moves money from account `from` to account `to`, in `left` more sections.
 #[derive(Drop)]
 struct Teller {
     from: u8,
@@ -60,7 +61,7 @@ impl Job for Teller {
 
     ghost asks_for = { λ teller accounts. accounts ≡ teller.from ∷ teller.to ∷ [] };
 
-    // the sum of all accounts
+    // the law: all accounts have 800 together, or 0 before the first section
     ghost holds = { λ sections accounts. sum accounts ≡ 800 * min sections 1 };
 
     fn asks(&self) -> Option<ArrayVec<u8, 8>> {
@@ -89,8 +90,9 @@ impl Job for Teller {
     }
 }
 
-/// Returns the balances of both accounts after the section of this number, which reads these
-/// values.
+/// Returns the new balances of a teller's two accounts; section `number` reads the old ones,
+/// `values`. Section 1 pays in 800; every other moves less than 50 from the first account to the
+/// second.
 fn balances(number: u64, values: &[u64]) -> (u64, u64)
     ensures first { number ≡ 1 → result.0 + result.1 ≡ 800 }
     ensures later { number ≢ 1
@@ -125,7 +127,7 @@ fn tellers(alloc: Global) -> Result<Vec<Teller>, AllocError> {
     Ok(all)
 }
 
-/// Creates links to each node that lose and repeat parcels, each by another seed.
+/// Creates links to each node, which lose and repeat parcels at random, each from another seed.
 fn links(alloc: Global) -> Result<Vec<Weather>, AllocError> {
     let mut all = Vec::new(alloc);
     for node in 0..TELLERS {
@@ -134,7 +136,7 @@ fn links(alloc: Global) -> Result<Vec<Weather>, AllocError> {
     Ok(all)
 }
 
-/// Returns the sum of all accounts.
+/// Returns the sum of all accounts after a run. Fails if no section was left.
 fn audit(all: &Finished<Teller>) -> Result<u64>
     requires { sum (contents_of ACCOUNTS all.now.gathered.journal)
         ≡ 800 * min (length all.now.gathered.receipts.items) 1 }
@@ -155,7 +157,7 @@ fn total(values: &[u64]) -> u64
     values.iter().sum()
 }
 
-/// Runs the bank by Ricart and Agrawala's algorithm.
+/// Runs the bank by Ricart and Agrawala's algorithm, and returns the sum of all accounts.
 fn ricart<R: Threads>(rt: &R, alloc: Global) -> Result<u64>
     ensures { IfOk result (λ total. total ≡ 800) }
 {
@@ -169,7 +171,7 @@ fn ricart<R: Threads>(rt: &R, alloc: Global) -> Result<u64>
     }
 }
 
-/// Runs the bank by Maekawa's algorithm.
+/// Runs the bank by Maekawa's algorithm, and returns the sum of all accounts.
 fn maekawa<R: Threads>(rt: &R, alloc: Global) -> Result<u64>
     ensures { IfOk result (λ total. total ≡ 800) }
 {
@@ -181,7 +183,7 @@ fn maekawa<R: Threads>(rt: &R, alloc: Global) -> Result<u64>
     }
 }
 
-/// Runs the bank by Raymond's algorithm.
+/// Runs the bank by Raymond's algorithm, and returns the sum of all accounts.
 fn raymond<R: Threads>(rt: &R, alloc: Global) -> Result<u64>
     ensures { IfOk result (λ total. total ≡ 800) }
 {

@@ -1,6 +1,6 @@
-//! Three nodes in one value, for one thread, by Raymond's algorithm. Each enters one section, in
-//! which it adds 1 to a register. The caller is the network: here each parcel arrives once, in
-//! order.
+//! A cluster of three nodes in one value, without threads, by Raymond's algorithm. Each node enters
+//! one section, in which it adds 1 to a register. The caller plays the network: here each parcel
+//! arrives once, in order.
 #![tactic(auto)]
 
 use anyhow::{Result, bail};
@@ -8,7 +8,7 @@ use mx_network::{Cluster, Event, Outcome};
 use mx_raymond::{Raymond, Tree};
 use mx_stamps::NodeId;
 
-/// Applies an event, then delivers each parcel that it sent, and each that follows from these.
+/// Applies an event, then delivers each parcel that it sends, and each that these deliveries send.
 fn act(cluster: &mut Cluster<Raymond>, event: Event) -> Result<()> {
     let first = cluster.sent();
     cluster.advance(event)?;
@@ -20,7 +20,8 @@ fn act(cluster: &mut Cluster<Raymond>, event: Event) -> Result<()> {
     Ok(())
 }
 
-/// Reads and writes 1 more, at a node that is inside. A refusal is an outcome, not an `Err`.
+/// Adds 1 to register 0, at a node that is inside, and returns the value before. A refused read is
+/// an outcome of `step`, not an `Err`.
 fn add_one(cluster: &mut Cluster<Raymond>, node: NodeId) -> Result<u64> {
     match cluster.step(Event::Read(node, 0))? {
         Outcome::Value(value) => {
@@ -31,7 +32,8 @@ fn add_one(cluster: &mut Cluster<Raymond>, node: NodeId) -> Result<u64> {
     }
 }
 
-/// Runs a section of a node, which asks another for the records of those before.
+/// Runs a section of a node, which asks `other` for the records of earlier sections. Returns the
+/// value that the section read.
 fn section(cluster: &mut Cluster<Raymond>, node: NodeId, other: NodeId) -> Result<u64> {
     act(cluster, Event::Ask(node))?;
     act(cluster, Event::Enter(node))?;

@@ -1,5 +1,6 @@
-//! Two replicas have a journal each and were apart for a while. They send each other what they
-//! lack, until both have all records, and show the registers. Then a third has a different record.
+//! Two replicas, each with a journal, were apart for a while. The left one asks the right one for
+//! the records that it lacks, and the right one merges the left journal: then both have all
+//! records. At the end, a journal with a different record of one section is not merged.
 #![tactic(auto)]
 
 use anyhow::{Result, bail};
@@ -9,7 +10,7 @@ use mx_registers::view;
 use mx_stamps::NodeId;
 use std::alloc::Global;
 
-/// Returns the record of the section of this number, which wrote register 0.
+/// Returns the record of the section of this number, which wrote `value` to register 0.
 fn record(number: u64, value: u64) -> Record {
     let mut record = Record::default();
     record.number = number;
@@ -20,7 +21,7 @@ fn record(number: u64, value: u64) -> Record {
     record
 }
 
-/// Returns a journal of these sections. Each wrote ten times its number.
+/// Returns a journal of the sections of these numbers. Each wrote ten times its number.
 fn journal_of(alloc: Global, numbers: &[u64]) -> Result<Journal> {
     let mut journal = Journal::new(alloc);
     for number in numbers {
@@ -29,6 +30,7 @@ fn journal_of(alloc: Global, numbers: &[u64]) -> Result<Journal> {
     Ok(journal)
 }
 
+/// Prints how many records a journal has, the number up to which it has no gap, and register 0.
 fn tell(rt: &HostRuntime, name: &str, journal: &Journal) -> Result<()> {
     let registers = view(journal, 1);
     let gapless = journal.gapless_to();
@@ -42,8 +44,8 @@ fn tell(rt: &HostRuntime, name: &str, journal: &Journal) -> Result<()> {
     Ok(())
 }
 
-/// Requests the sections that a journal lacks up to a number, as ranges, and puts the records that
-/// come back, at most four at a time.
+/// Asks the other journal once for the sections that `journal` lacks up to `upto`, and puts the
+/// records that come back, at most four.
 fn catch_up(rt: &HostRuntime, journal: &mut Journal, other: &Journal, upto: u64) -> Result<()> {
     let wanted = missing(journal, upto);
     let sent = answer(other, wanted.as_slice());
@@ -52,7 +54,7 @@ fn catch_up(rt: &HostRuntime, journal: &mut Journal, other: &Journal, upto: u64)
     Ok(())
 }
 
-/// Brings the left journal up to date with the right one, which then merges it.
+/// Brings the left journal up to date with the right one, then merges the left into the right.
 fn exchange(rt: &HostRuntime, left: &mut Journal, right: &mut Journal) -> Result<()> {
     tell(rt, "left", left)?;
     catch_up(rt, left, right, 7)?;
@@ -62,7 +64,7 @@ fn exchange(rt: &HostRuntime, left: &mut Journal, right: &mut Journal) -> Result
     tell(rt, "right", right)
 }
 
-/// Shows that a journal with a different record of a number is not merged.
+/// Shows that a journal with a different record of section 2 is not merged.
 fn refuse_forged(rt: &HostRuntime, journal: &mut Journal) -> Result<()> {
     let mut forged = Journal::new(rt.alloc());
     forged.put(record(2, 99))?;

@@ -8,7 +8,8 @@ use Rattle.mx_io.specs.Outputs.{Held}
 use Rattle.mx_cli.specs.FaultLines.{fault_line}
 use Rattle.mx_cli.specs.Reports.{MayReport}
 
--- memory ran out, or an output refused, which one that takes all bytes never does
+-- memory ran out, with status 5; or an output refused, with status 1. Outputs that take all bytes
+-- never refuse
 abbrev pub FallsShort : Bool → Held → Held → ℕ → Type 0
 FallsShort takes_all old new status =
     ((status ≡ 5) × MayReport old new) ⊎ ((status ≡ 1) × (takes_all ≡ false) × Keeps old new)
@@ -18,13 +19,15 @@ FallsShort takes_all old new status =
 abbrev pub IsRunStatus : ℕ → Type 0
 IsRunStatus status = (status ≡ 0) ⊎ (status ≡ 1) ⊎ (status ≡ 5)
 
--- An output passes on what it kept back, if the command succeeds or reports its fault. It may not,
--- if an output refuses, so that nothing is reported (status 1), or if memory runs out (status 5).
+-- An output keeps nothing back if the command succeeds or reports its fault. It may keep something
+-- back if an output refuses, so that nothing is reported (status 1), or if memory runs out (status
+-- 5).
 abbrev pub PassesOn : Held → Held → Bool → ℕ → Type 0
 PassesOn old new kept_back status =
     (kept_back ≡ false) ⊎ ((status ≡ 1) × Keeps old new) ⊎ (status ≡ 5)
 
--- a run that ended so is closed: by its own end, unless it falls short
+-- the run is closed as it ended: with its own status, or with status 1 and the line of its fault on
+-- standard error; unless memory ran out or an output refused
 abbrev pub Closes : Bool → Text × Text → Result ℕ CommandError → Held → Held → ℕ → Type 0
 Closes takes_all names (Ok own) old new status =
     ((status ≡ own) × Keeps old new) ⊎ FallsShort takes_all old new status

@@ -8,14 +8,14 @@ use Rattle.mx_cli.specs.declared.faults.Named.{Named}
 use Rattle.mx_cli.specs.declared.faults.Named.TheVariants as named
 use Rattle.mx_cli.specs.Reading.{is_dash}
 
--- where a text stands: its name, or its part of standard input, where that has both
+-- the place of a text: its name, or its part of standard input, if both names are `-`
 abbrev pub part_text : Text × Text → Named → Text
 part_text names named.Plan =
     if is_dash names.0 && is_dash names.1 then codes "the first line of standard input" else names.0
 part_text names named.Events =
     if is_dash names.0 && is_dash names.1 then codes "the rest of standard input" else names.1
 
--- the line of a fault, where the plan and the events have these names
+-- the line of a fault, if the plan and the events have these names
 abbrev pub fault_line : Text × Text → Fault → Text
 fault_line names (CannotRead named.Plan) = codes "mx: cannot read " ++ names.0 ++ line_feed
 fault_line names (CannotRead named.Events) = codes "mx: cannot read " ++ names.1 ++ line_feed

@@ -6,13 +6,13 @@ use Rattle.mx_cli.specs.declared.table.CommandId.TheVariants as id
 use Rattle.mx_cli.specs.Table.{line_of}
 use Rattle.mx_cli.specs.Words.{asked_of, by_name, is_given, number_at}
 
--- the whole command line
+-- the command line of `mx` with `live` alone
 unfoldable pub live_line : App
 live_line = line_of (id.Live ∷ [])
 
 -- the name of the plan, how many sections each node is to have, the seed, how many turns each may
 -- take, after how many of its sections it settles its journal (0 for never), and whether progress
--- is to be told
+-- is to be reported
 pub record LiveRequest : Type 0 where
   pub plan : Text
   pub sections : ℕ
@@ -32,11 +32,11 @@ request_of run =
       progress = run.progress;
     }
 
--- the number that was given for an option, or another
+-- the number that was given for an option, or `other` if none was
 abbrev pub number_or : Text → ℕ → List Row → ℕ
 number_or id other rows = unwrap_or (number_at id rows) other
 
--- what was given for the arguments: without a seed 1, without turns 10,000,000
+-- what was given for the arguments. If an option was not given: seed 1, turns 10,000,000, settle 0
 abbrev pub live_of : List Row → Text → ℕ → LiveRequest
 live_of rows plan sections =
     record {
@@ -56,6 +56,6 @@ live_in rows =
 abbrev pub request_in : Option (Text × List Row) → Option LiveRequest
 request_in met = by_name (codes "live") live_in met
 
--- what the words ask for, where they are `live` with its arguments
+-- what the words ask for, if they are `live` with its arguments
 unfoldable pub request_asked : List Text → Option LiveRequest
 request_asked words = asked_of live_line request_in words

@@ -1,4 +1,4 @@
--- What a run leaves in its output, and whether that has refused.
+-- What a run writes to its output, and whether that output has refused.
 use Rattle.std.specs.Prelude.{◌≡◌, ℕ, List, Bool, true, false, Result, Ok, Err, take, ⊤}
 use Rattle.std.specs.Io.KnownBytes.{Appends}
 use Rattle.std.specs.List.{concat}
@@ -9,7 +9,7 @@ use Rattle.mx_io.specs.Outputs.{Held}
 use Rattle.mx_io.specs.declared.output.OutputFault.{OutputFault}
 use Rattle.mx_io.specs.declared.output.OutputFault.TheVariants as output_fault
 
--- the first few of these texts were appended, each whole
+-- the first n of these texts, for some n, were appended, each whole
 abbrev pub AppendsSome : Held → Held → List Text → Type 0
 AppendsSome old new texts = (n : ℕ) × Appends old new (concat (take n texts))
 
@@ -25,7 +25,7 @@ abbrev pub error_of : OutputFault → CommandError
 error_of output_fault.Refused = command_error.Writer
 error_of output_fault.Memory = command_error.Memory
 
--- a run that is not cut short leaves nothing kept back
+-- the output keeps nothing back, unless the run ended because the output refused or memory ran out
 abbrev pub IsPassedOn : {T : Type 0} → Result T CommandError → Bool → Type 0
 IsPassedOn (Ok t) kept_back = kept_back ≡ false
 IsPassedOn (Err (command_error.Fault fault)) kept_back = kept_back ≡ false

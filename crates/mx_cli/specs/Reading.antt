@@ -1,4 +1,5 @@
--- What is read of a source, and why it is refused.
+-- What is read from a source: a plan, and the text that comes with it (events, a script or a
+-- trace); and why it is refused.
 use Rattle.std.specs.Prelude.{◌≡◌, ◌⊎◌, ◌&&◌, ◌==◌, ℕ, Bool, List, Option, Some, None, Result, Ok, Err, Vec, IfOk, IfSome, codes, if◌then◌else◌, option_map}
 use Rattle.std.specs.List.{after_first, before_first}
 use Rattle.std.specs.Option.{option_map_or}
@@ -18,51 +19,53 @@ use Rattle.mx_cli.specs.declared.faults.CommandError.TheVariants as command_erro
 use Rattle.mx_cli.specs.declared.planning.PlanAndText.{PlanAndText}
 use Rattle.mx_io.specs.Told.{Telling}
 
--- the name of standard input
+-- the name is that of standard input
 abbrev pub is_dash : Text → Bool
 is_dash name = bytes_eq name (codes "-")
 
--- where one text is both, the plan is what comes before its first line feed
+-- the plan in a text that also has what comes with the plan: the bytes before its first line feed
 abbrev pub line_of : Telling → Telling
 line_of = option_map (λ bytes. before_first (λ b. b == 10) bytes)
 
--- and what comes with it is what follows
+-- what comes with the plan in such a text: the bytes after its first line feed
 abbrev pub rest_of : Telling → Telling
 rest_of = option_map (λ bytes. after_first (λ b. b == 10) bytes)
 
--- what is told of the plan of two names
+-- what the source states about the plan, the first of two names. If both are standard input, the
+-- plan is its first line
 abbrev pub plan_told : (Text → Option Telling) → Text × Text → Option Telling
 plan_told told names =
     if is_dash names.0 && is_dash names.1 then option_map line_of (told names.0) else told names.0
 
--- what is told of the text that comes with it
+-- what the source states about the text that comes with the plan, the second of two names
 abbrev pub text_told : (Text → Option Telling) → Text × Text → Option Telling
 text_told told names =
     if is_dash names.0 && is_dash names.1 then option_map rest_of (told names.0) else told names.1
 
--- the bytes that a source tells of a name
+-- the bytes of a name were fetched, as the source states them; or the name can't be read, or memory
+-- ran out
 abbrev pub Fetches : Named → Telling → Result (Vec ℕ Global) CommandError → Type 0
 Fetches named (Some bytes) (Ok v) = v.items ≡ bytes
 Fetches named None (Ok v) = ⊥
 Fetches named (Some bytes) (Err fault) = fault ≡ command_error.Memory
 Fetches named None (Err fault) = (fault ≡ command_error.Fault (CannotRead named)) ⊎ (fault ≡ command_error.Memory)
 
--- why a text is refused. That memory ran out is no reason: nothing is refused for it
+-- why a text is refused; `None` if memory ran out, since the text is not refused then
 abbrev pub fault_of : PlanFault → Option Fault
 fault_of plan_fault.Memory = None
 fault_of fault = Some (BadText fault)
 
--- an outcome of the bytes of a plan by the rules of plans; where it is a plan, that keeps what
--- every plan keeps
+-- what the bytes of a plan give by the rules of plans: a plan, with the properties of every plan,
+-- or a fault
 pub record IsRead (bytes : List ℕ) (planned : Result Fields PlanFault) : Type 0 where
   pub outcome : IsOutcome (draft_at bytes) planned
   pub valid : IfOk planned IsPlan
 
--- why a run stops at a text that is refused
+-- why a run stops at a text that has this fault
 abbrev pub refusal_of : PlanFault → CommandError
 refusal_of fault = option_map_or command_error.Fault (fault_of fault) command_error.Memory
 
--- a plan was read, or why it was not
+-- a plan was read from what the source holds, or this is why it was not
 abbrev pub Reads : Telling → Result Fields CommandError → Type 0
 Reads None (Ok p) = ⊥
 Reads None (Err end) = (end ≡ command_error.Fault (CannotRead Plan)) ⊎ (end ≡ command_error.Memory)
@@ -71,12 +74,12 @@ Reads (Some bytes) (Err end) =
     (end ≡ command_error.Memory) ⊎ ((fault : PlanFault) × IsRead bytes (Err fault)
     × (end ≡ refusal_of fault))
 
--- the plan was read, where the source tells of it
+-- the plan was read, if the source states what it holds
 abbrev pub IsPlanOf : Option Telling → Fields → Type 0
 IsPlanOf told p = IfSome told (λ telling. Reads telling (Ok p))
 
--- a plan was read and the text that comes with it was fetched; or the plan was not read; or it was,
--- and the text was not fetched
+-- a plan was read, and the text that comes with it was fetched; or the plan was not read; or the
+-- plan was, and the text was not fetched
 abbrev pub ReadsBoth : Option Telling → Option Telling → Result PlanAndText CommandError → Type 0
 ReadsBoth plan text (Ok both) =
     IsPlanOf plan both.plan × IfSome text (λ telling. telling ≡ Some both.text.items)

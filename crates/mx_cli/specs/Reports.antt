@@ -1,4 +1,4 @@
--- What the two outputs get of help, of refused words, of a fault, and where memory ran out.
+-- What the two outputs get for help, for wrong words, for a fault, and if memory ran out.
 use Rattle.std.specs.Prelude.{◌≡◌, ◌⊎◌, ℕ, Bool, List, false}
 use Rattle.std.specs.Io.KnownBytes.{Appends, Keeps}
 use Rattle.clap.specs.Words.{App}
@@ -16,7 +16,7 @@ pub record Seen : Type 0 where
   pub refused : Bool
   pub kept_back : Bool
 
--- what is seen of two outputs, by what the type of each tells of it
+-- what is seen of the outputs `out` and `err`, as their types define it
 abbrev pub seen : {A B : Type 0} → OutputOf A → OutputOf B → A → B → Seen
 seen o e out err =
     record {
@@ -26,37 +26,39 @@ seen o e out err =
       kept_back = o.keeps_back out;
     }
 
--- memory ran out: standard error got that line, or nothing
+-- standard error got the line that memory ran out, or nothing
 abbrev pub MayReport : Held → Held → Type 0
 MayReport old new = Keeps old new ⊎ Appends old new memory_line
 
--- memory ran out before anything was shown
+-- memory ran out before anything was written to standard output: status 5
 abbrev pub RunsOut : Seen → Seen → ℕ → Type 0
 RunsOut old new status =
     (status ≡ 5) × Keeps old.out new.out × MayReport old.err new.err × (new.refused ≡ old.refused)
 
 -- ---- help, and words that are no command
 
--- what is shown goes to standard output, and is passed on; to standard error goes nothing, or that
--- memory ran out
+-- how a request for help ends: standard output has passed on all that it got (status 0), or it
+-- refused (status 1), or memory ran out (status 5). Standard error got at most the line that memory
+-- ran out
 abbrev pub Helps : Bool → Seen → Seen → ℕ → Type 0
 Helps takes_all old new status =
     ((status ≡ 0) × Keeps old.err new.err × (new.kept_back ≡ false))
     ⊎ ((status ≡ 1) × (takes_all ≡ false) × Keeps old.err new.err)
     ⊎ ((status ≡ 5) × MayReport old.err new.err × (new.refused ≡ old.refused))
 
--- a fault of the command line goes to standard error, and nothing to standard output
+-- how wrong words end: with status 2, or with 5 if memory ran out; standard output got nothing
 abbrev pub ReportsUsage : Seen → Seen → ℕ → Type 0
 ReportsUsage old new status =
     Keeps old.out new.out × ((status ≡ 2) ⊎ ((status ≡ 5) × MayReport old.err new.err))
 
--- words that ask a command line for help are shown it, and words that are not its own are told so
+-- if the words ask a command line for help, the run ends as `Helps` says; if the words are wrong,
+-- as `ReportsUsage` says
 abbrev pub Answers : App → List Text → Bool → Seen → Seen → ℕ → Type 0
 Answers line words takes_all old new status =
     (AskHelp line words → Helps takes_all old new status)
     × (AreWrong line words → ReportsUsage old new status)
 
--- nothing is written, status 2; or memory ran out, status 5
+-- nothing was written, and the status is 2; or memory ran out, and the status is 5
 abbrev pub Declines : Seen → Seen → ℕ → Type 0
 Declines old new status =
     Keeps old.out new.out × (((status ≡ 2) × Keeps old.err new.err)

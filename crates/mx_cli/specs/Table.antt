@@ -15,7 +15,7 @@ use Rattle.mx_cli.specs.declared.table.CommandRow.{CommandRow}
 
 -- ---- what a row of the table says
 
--- an argument of this name, read by its kind
+-- the rule of an argument of this kind and name, made from a plain rule
 abbrev pub rule_of_kind : ArgumentKind → Text → Rule → Rule
 rule_of_kind File name rule = rule
 rule_of_kind Flag name rule = record rule { long = Some name; action = Some SetTrue }
@@ -52,7 +52,7 @@ flag_rule id = record (new_rule id) { long = Some id; action = Some SetTrue }
 abbrev pub text_rule : Text → Rule
 text_rule id = record (new_rule id) { long = Some id }
 
--- `--ID N`, a number up to the most
+-- `--ID N`, a number of at most `most`
 abbrev pub number_rule : Text → ℕ → Rule
 number_rule id most = record (new_rule id) { long = Some id; parser = Some (Unsigned 0 most) }
 
@@ -70,11 +70,11 @@ events_rule = file_rule (codes "EVENTS")
 abbrev pub seed_rule : Rule
 seed_rule = needed (wide_rule (codes "seed"))
 
--- `--steps K`, a number up to that of the most events
+-- `--steps K`, which has to be given: a number up to the greatest number of events
 abbrev pub steps_rule : Rule
 steps_rule = needed (number_rule (codes "steps") MAX_EVENTS)
 
--- `--loss P`, `--repeat P` and `--in-order`: what becomes of parcels in a walk
+-- `--loss P`, `--repeat P` and `--in-order`: the conditions of a walk
 abbrev pub condition_rules : List Rule
 condition_rules =
     number_rule (codes "loss") 256 ∷ number_rule (codes "repeat") 256
@@ -196,7 +196,7 @@ mx_start =
       };
     }
 
--- a command line with commands added, each made in this way
+-- a command line with these commands added, each by what `made` returns for it
 abbrev pub with_commands : (CommandId → App) → App → List CommandId → App
 with_commands made line [] = line
 with_commands made line (i ∷ ids) = with_commands made (with_subcommand line (made i).top) ids
@@ -205,11 +205,12 @@ with_commands made line (i ∷ ids) = with_commands made (with_subcommand line (
 abbrev pub line_of : List CommandId → App
 line_of = with_commands command_app mx_start
 
--- a command that is listed: no argument of it is read
+-- a command without its arguments: only its name is read
 abbrev pub listed_app : CommandId → App
 listed_app i = new_app (command_app i).top.name
 
--- the command line of `command`: it reads three commands, and lists those with calls of their own
+-- the command line of the function `command`: three commands with their arguments, and only the
+-- names of the others, which other functions run
 unfoldable pub mx_app : App
 mx_app =
     with_commands listed_app (line_of (id.Check ∷ id.Replay ∷ id.Explore ∷ []))

@@ -21,16 +21,17 @@ use Rattle.clap.specs.declared.error.Error.{Error}
 use Rattle.clap.specs.declared.error.kind.ErrorKind.{ErrorKind}
 use Rattle.clap.specs.declared.error.kind.ErrorKind.TheVariants.{DisplayHelp, DisplayVersion}
 
--- the argument is read by this rule, and is not one of subcommands too
+-- the argument is read by this rule, and is not an argument of subcommands too
 pub record IsArgument (read_by : Rule) (argument : Arg) : Type 0 where
   pub rule : rule_of argument ≡ read_by
   pub local : argument.global ≡ false
 
--- no argument of the command is one of its subcommands too
+-- no argument of the command is an argument of its subcommands too
 abbrev pub HasNoGlobals : Command → Type 0
 HasNoGlobals command = (out-Command command).has_globals ≡ false
 
--- the command is read as this application, and none of its arguments is one of its subcommands too
+-- the command is read as this application, and none of its arguments is an argument of its
+-- subcommands too
 pub record IsCommand (read_as : App) (command : Command) : Type 0 where
   pub app : app_of command ≡ read_as
   pub local : HasNoGlobals command
@@ -41,7 +42,7 @@ pub record IsReadable (line : App) : Type 0 where
   pub plain : is_simple line ≡ true
   pub free : is_simple_and_free line ≡ true
 
--- the command line is read as this application, and can be read
+-- the command line is read as this application, and is readable
 pub record IsLine (read_as : App) (line : Command) : Type 0 where
   pub app : app_of line ≡ read_as
   pub readable : IsReadable (app_of line)
@@ -74,7 +75,7 @@ request_of (given.Replay names) = replay (names_of names)
 request_of (given.Explore exploration) =
     explore exploration.plan.now exploration.seed exploration.steps
 
--- the number that a text writes, where it is one of 64 bits
+-- the number that a text writes, if it fits in 64 bits
 abbrev pub number_of : Text → Option ℕ
 number_of text =
     if is_unsigned_in 0 18446744073709551615 text
@@ -87,8 +88,7 @@ number_at id rows = option_and_then number_of (one_of id rows)
 abbrev pub is_given : Text → List Row → Bool
 is_given id rows = option_map_or (λ text. bytes_eq text (codes "true")) (first_of id rows) false
 
--- a replay is to be shown otherwise: by its closing lines, by the lines of one node, as JSON, or
--- with what each node knows
+-- `--quiet`, `--node`, `--json` or `--state` was given
 abbrev pub is_view : List Row → Bool
 is_view rows =
     is_given (codes "quiet") rows
@@ -108,27 +108,27 @@ exploration_at rows =
     (number_at (codes "steps") rows)) (number_at (codes "seed") rows))
     (first_of (codes "PLAN") rows)
 
--- what a plan says, and perhaps whom each of its nodes asks
+-- a check of a plan, with or without `--asks`
 abbrev pub checking : Bool → Text → Request
 checking with_asks plan = if with_asks then asks plan else check plan
 
--- what was given for the arguments of each command; a check, but not one with `--json`
+-- what `check` asks for, by what was given for its arguments; `None` with `--json`
 abbrev pub check_in : List Row → Option Request
 check_in rows =
     if is_given (codes "json") rows then None
     else option_map (checking (is_given (codes "asks") rows)) (first_of (codes "PLAN") rows)
 
--- a replay, but not one with `--quiet`, `--node`, `--json` or `--state`
+-- what `replay` asks for; `None` with `--quiet`, `--node`, `--json` or `--state`
 abbrev pub replay_in : List Row → Option Request
 replay_in rows = if is_view rows then None else option_map replay (names_at rows)
 
--- an exploration, but not one with `--count` or `--json`
+-- what `explore` asks for; `None` with `--count` or `--json`
 abbrev pub explore_in : List Row → Option Request
 explore_in rows =
     if is_given (codes "count") rows || is_given (codes "json") rows then None
     else option_map (λ e. explore e.0 e.1.0 e.1.1) (exploration_at rows)
 
--- the command that was met, and what was given for it
+-- what the command that was met asks for, by what was given for its arguments
 abbrev pub request_in : Option (Text × List Row) → Option Request
 request_in None = None
 request_in (Some p) =
@@ -137,49 +137,50 @@ request_in (Some p) =
     else if bytes_eq p.0 (codes "explore") then explore_in p.1
     else None
 
--- what is read of the subcommand of this name, where it was met
+-- what is read from the arguments of the subcommand of this name, if it was met
 abbrev pub by_name : {X : Type 0} → Text → (List Row → Option X) → Option (Text × List Row)
     → Option X
 by_name name read None = None
 by_name name read (Some p) = if bytes_eq p.0 name then read p.1 else None
 
+-- the value, if there are no faults; else `None`
 abbrev pub where_none : {X : Type 0} → Kinds → Option X → Option X
 where_none [] o = o
 where_none (k ∷ ks) o = None
 
--- what the words ask of a command line, by the subcommand that they name, where nothing is wrong
--- with them
+-- what the words ask of a command line, by the subcommand that they name, if nothing is wrong with
+-- them
 abbrev pub asked_of : {X : Type 0} → App → (Option (Text × List Row) → Option X) → List Text
     → Option X
 asked_of line read words = where_none (fault_of line words) (read (subcommand_of line words))
 
--- the words have no fault, and this is found in them; or they have a fault of this kind, or memory
--- ran out
+-- the words have no fault, and the matches are those of the subcommand that they name; or the error
+-- has the kind of a fault of the words, or says that memory ran out
 abbrev pub Finds : App → List Text → Result ArgMatches Error → Type 0
 Finds line words result =
     MatchResult result (λ matches. (fault_of line words ≡ [])
     × (subcommand_rows_of matches ≡ subcommand_of line words))
     (HasKind (fault_of line words))
 
--- the words have no fault, and ask for what is wanted; or they have a fault of this kind, or memory
--- ran out
+-- the words have no fault, and the request is the one that is wanted; or the error has the kind of
+-- a fault of the words, or says that memory ran out
 abbrev pub Asks : {T X : Type 0} → (T → X) → App → List Text → Option X → Result (Option T) Error
     → Type 0
 Asks value line words wanted result =
     MatchResult result (λ request. (fault_of line words ≡ []) × (option_map value request ≡ wanted))
     (HasKind (fault_of line words))
 
--- what the words ask for, where they are a command
+-- what the words ask for, if they have no fault and ask for a command of `Request`
 unfoldable pub request_asked : List Text → Option Request
 request_asked words = asked_of mx_app request_in words
 
--- the words have no fault, and ask for nothing that the command line reads
+-- the words have no fault, and ask for no command of `Request`
 abbrev pub AskNothing : List Text → Type 0
 AskNothing words = (fault_of mx_app words ≡ []) × (request_asked words ≡ None)
 
 -- ---- words that are no command
 
--- a text is shown: help, or the version
+-- the error is a request to show a text: help, or the version
 abbrev pub IsShown : ErrorKind → Type 0
 IsShown k = (k ≡ DisplayHelp) ⊎ (k ≡ DisplayVersion)
 
@@ -188,7 +189,7 @@ pub record AskHelp (line : App) (words : List Text) : Type 0 where
   pub some : fault_of line words ≢ []
   pub each : (k : ErrorKind) → IsAmong k (fault_of line words) → IsShown k
 
--- the words are not those of a command line
+-- the words are wrong: they have faults, and no fault is a request for help or for the version
 pub record AreWrong (line : App) (words : List Text) : Type 0 where
   pub some : fault_of line words ≢ []
   pub each : (k : ErrorKind) → IsAmong k (fault_of line words) → ¬ (IsShown k)

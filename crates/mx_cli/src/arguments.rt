@@ -11,13 +11,13 @@ use std::alloc::Global;
 /// What an argument takes.
 #[derive(Clone, Copy)]
 pub enum ArgumentKind {
-    /// A file, which has a place among the words.
+    /// A file, which is known by its place among the words.
     File,
     /// `--NAME`, which is given or not.
     Flag,
     /// `--NAME TEXT`
     Text,
-    /// `--NAME N`, a whole number up to this one.
+    /// `--NAME N`, a whole number from 0 up to this one.
     Number(u64),
 }
 
@@ -27,17 +27,17 @@ pub struct Argument {
     pub name: &'static str,
     pub kind: ArgumentKind,
     pub is_required: bool,
-    /// What help says of it.
+    /// What help says of the argument.
     pub help: &'static str,
 }
 
 impl Argument {
-    /// Whether it is an option, with a name that begins with two dashes.
+    /// Whether the argument is an option, which is given as `--NAME`.
     pub(crate) fn is_option(&self) -> bool {
         !matches!(self.kind, ArgumentKind::File)
     }
 
-    /// Whether it is an option with a value after it.
+    /// Whether the argument is an option that takes a value.
     pub(crate) fn has_value(&self) -> bool {
         matches!(self.kind, ArgumentKind::Text | ArgumentKind::Number(_))
     }
@@ -46,7 +46,7 @@ impl Argument {
 /// The greatest number of steps of an exploration.
 const MAX_STEPS: u64 = MAX_EVENTS as u64;
 
-/// The most parcels of 256 that are lost or repeated: all.
+/// The greatest value of `--loss` and `--repeat`, which count out of 256.
 const MAX_SHARE: u64 = 256;
 
 /// A plan.
@@ -173,7 +173,7 @@ pub(crate) const WALK: Argument = Argument {
     help: "Draws with purpose: parcels arrive, and nodes enter and leave",
 };
 
-/// `--walk` of a walk, which has no other form.
+/// `--walk` of `explore` in its form `ExploreWalk`, which requires it.
 pub(crate) const WALK_WANTED: Argument = Argument {
     name: "walk",
     kind: ArgumentKind::Flag,
@@ -209,7 +209,7 @@ pub(crate) const SECTIONS: Argument = Argument {
     help: "How many sections each node is to have, 0 to 1000000",
 };
 
-/// The seed of the links of `live`.
+/// `--seed` of `live`, by which the links lose and repeat parcels.
 pub(crate) const LINK_SEED: Argument = Argument {
     name: "seed",
     kind: ArgumentKind::Number(u64::MAX),
@@ -275,7 +275,7 @@ pub(crate) const IS_SCRIPT: Argument = Argument {
     help: "Reads a script, as `mx script` does, in place of events",
 };
 
-/// The argument as `clap` takes it.
+/// Returns an argument of the table as one of `clap`.
 pub(crate) fn clap_argument<'a>(alloc: Global, argument: &Argument) -> Arg<'a>
     ensures { IsArgument (rule_of_argument argument.now) result }
 {

@@ -1,4 +1,4 @@
-//! The ends of help: an example of each command, and what it prints.
+//! The texts that end the help of commands: an example of each, and what the command prints.
 
 pub(crate) const WALK: &str =
     "Example: a walk of a thousand steps from the seed 1, in which a quarter of the parcels are lost.

@@ -37,7 +37,8 @@ impl fmt::Display for FaultLine<'_> {
     }
 }
 
-/// Where a text stands: its name, or its part of standard input, where that has both.
+/// Returns where the text of `part` stands: its name, or the part of standard input if both names
+/// are `-`.
 fn part_in<'a>(names: &Names<'a>, part: Named) -> &'a str
     ensures { result.now ≡ part_text (names_of names.now) part }
 {

@@ -8,10 +8,11 @@ use std::alloc::AllocError;
 #[derive(Clone, Copy, Debug, PartialEq, Eq)]
 pub enum Named {
     Plan,
+    /// The events, or the script or trace in place of events.
     Events,
 }
 
-/// What is wrong with a plan, with events or with their files. Each has its own message.
+/// What is wrong with a plan, with events or with their files. `FaultLine` prints the message.
 #[derive(Clone, Copy, Debug, PartialEq, Eq)]
 pub enum Fault {
     CannotRead(Named),

@@ -6,14 +6,15 @@ ghost use Rattle.mx_cli.specs.Reading.{is_dash};
 
 use crate::words::Names;
 
-/// Whether both names are standard input.
+/// Whether both names are `-`, which is standard input.
 pub fn are_dashes(names: &Names<'_>) -> bool
     ensures { result ≡ (is_dash names.now.plan.now && is_dash names.now.events.now) }
 {
     names.plan == "-" && names.events == "-"
 }
 
-/// The bytes before the first line feed, and those behind it.
+/// Returns the bytes before the first line feed, and those after it. Without a line feed, all bytes
+/// are in the first part.
 pub fn split_line(bytes: &[u8]) -> (&[u8], &[u8])
     ensures line { result.0.now ≡ before_first (λ b. b == 10) bytes.now }
     ensures rest { result.1.now ≡ after_first (λ b. b == 10) bytes.now }
@@ -26,7 +27,7 @@ pub fn split_line(bytes: &[u8]) -> (&[u8], &[u8])
     }
 }
 
-/// The place of the first line feed, or the length where there is none.
+/// Returns the index of the first line feed, or the length if there is none.
 fn first_feed(bytes: &[u8]) -> usize
     ensures value { result ≡ position_or_len (λ b. b == 10) bytes.now }
     ensures within { result ≤ length bytes.now }

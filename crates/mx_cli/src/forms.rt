@@ -1,17 +1,17 @@
-//! Which command words name, and which form of it one of their options chooses.
+//! The command that the words of a command line name, and the form of it that their options choose.
 
 use crate::table::{CommandId, LISTED, READ, row_of};
 
-/// A form of a command, which words ask for by one of its options.
+/// A form of a command. The words of a command line choose it by one of its options.
 struct Form {
     id: CommandId,
-    /// The options without a value that choose it.
+    /// The options without a value, each of which chooses the form.
     flags: &'static [&'static str],
-    /// The options with a value that choose it.
+    /// The options with a value, each of which chooses the form.
     options: &'static [&'static str],
 }
 
-/// The forms, of which an earlier one goes before a later one of the same command.
+/// All forms. If words choose two forms of a command, the earlier one in this list counts.
 static FORMS: [Form; 5] = [
     Form {
         id: CommandId::CheckJson,
@@ -51,13 +51,14 @@ fn is_among(word: &str, names: &[&str]) -> bool {
     names.iter().any(|name| *name == word)
 }
 
-/// Whether a word begins with one of these options, since its value may follow it after `=`.
+/// Whether a word begins with one of these names of options. The value may stand in the same word,
+/// after `=`.
 fn begins_with_one(word: &str, names: &[&str]) -> bool {
     names.iter().any(|name| word.starts_with(*name))
 }
 
-/// Returns the command that the first of these words names, in the form that their options choose.
-/// Returns `None` if the first word is no command.
+/// Returns the command that the first of these words names, in the form that the options among them
+/// choose. Returns `None` if the first word is no command.
 pub fn command_in(words: &[&str]) -> Option<CommandId> {
     let Some(name) = words.first() else {
         return None;
@@ -68,7 +69,7 @@ pub fn command_in(words: &[&str]) -> Option<CommandId> {
     }
 }
 
-/// The form of the command of this name that these words choose.
+/// Returns the form that these words choose for the command of this name, if they choose one.
 fn form_in(name: &str, words: &[&str]) -> Option<CommandId> {
     for form in &FORMS {
         if row_of(form.id).name == name && form.is_chosen_by(words) {
@@ -87,7 +88,7 @@ fn command_named(name: &str) -> Option<CommandId> {
     None
 }
 
-/// Whether this word is an option with a value after it.
+/// Whether this word is an option, of any command, whose value is the next word.
 pub fn takes_value(word: &str) -> bool {
     match word.strip_prefix("--") {
         Some(name) => {
@@ -98,7 +99,7 @@ pub fn takes_value(word: &str) -> bool {
     }
 }
 
-/// Whether a command has an option of this name with a value after it.
+/// Whether a command has an option of this name, without the dashes, that takes a value.
 fn has_valued(id: CommandId, name: &str) -> bool {
     row_of(id)
         .arguments

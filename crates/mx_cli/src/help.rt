@@ -1,13 +1,13 @@
 //! The texts of help, and the version.
 
-/// What `mx --version` prints after the name: the version, and the logic that it is proved by,
-/// which several kits have.
+/// What `mx --version` prints after the name: the version, and the checksum of the prover's logic,
+/// which several releases of the Rattle kit share.
 pub(crate) const VERSION: &str = "0.1.0, proved by Rattle's logic dac8208d650f15bf";
 
 pub(crate) const MX: &str =
     "Nodes that guard shared registers by distributed mutual exclusion: Ricart and Agrawala, Maekawa, Raymond";
 
-/// What help says of a command that another program has.
+/// The text that ends the help of a command that `mx_commands::command` lists but does not run.
 pub(crate) const LISTED: &str = "It is one of the commands of the whole program.";
 
 pub(crate) const MX_EXAMPLE: &str =

@@ -1,4 +1,4 @@
-//! Command lines, made from the table, and what is found in their words.
+//! The command lines by which `clap` parses words, made from the table of commands.
 
 ghost use Rattle.std.specs.Prelude.{◌≡◌, IfOk};
 ghost use Rattle.clap.specs.Words.{App, app_of, new_app};
@@ -11,7 +11,7 @@ use crate::table::{CommandId, CommandRow, LISTED, READ, row_of};
 use clap::{ArgMatches, Command, Error};
 use std::alloc::{AllocError, Global};
 
-/// The command line of `mx`, without a command yet.
+/// Returns the command line of `mx`, without commands and without an example in its help.
 fn bare_line<'a>(alloc: Global) -> Result<Command<'a>, AllocError>
     ensures { IfOk result (λ command. app_of command ≡ mx_start) }
 {
@@ -25,14 +25,14 @@ fn bare_line<'a>(alloc: Global) -> Result<Command<'a>, AllocError>
     Ok(begun)
 }
 
-/// The same, with its example.
+/// Returns the command line of `mx`, without commands, with the example that ends its help.
 fn start_line<'a>(alloc: Global) -> Result<Command<'a>, AllocError>
     ensures { IfOk result (λ line. app_of line ≡ mx_start) }
 {
     Ok(bare_line(alloc)?.after_help(help::MX_EXAMPLE))
 }
 
-/// The command of a row, with its arguments.
+/// Returns the command of a row of the table, with its arguments.
 fn command_of_row<'a>(alloc: Global, row: &CommandRow) -> Result<Command<'a>, AllocError>
     ensures { IfOk result (IsCommand (app_of_row row.now)) }
 {
@@ -43,7 +43,7 @@ fn command_of_row<'a>(alloc: Global, row: &CommandRow) -> Result<Command<'a>, Al
     Ok(command)
 }
 
-/// The command of a row, without its arguments.
+/// Returns the command of a row, without its arguments. Its help ends with `example`.
 fn listed_row<'a>(alloc: Global, row: &CommandRow, example: &'static str) -> Command<'a>
     ensures { IsCommand (new_app row.now.name.now) result }
 {
@@ -52,21 +52,21 @@ fn listed_row<'a>(alloc: Global, row: &CommandRow, example: &'static str) -> Com
         .after_help(example)
 }
 
-/// A command with its arguments.
+/// Returns the command of this id, with its arguments.
 fn full_command<'a>(alloc: Global, id: CommandId) -> Result<Command<'a>, AllocError>
     ensures { IfOk result (IsCommand (command_app id)) }
 {
     command_of_row(alloc, row_of(id))
 }
 
-/// A command none of whose arguments is read.
+/// Returns the command of this id without arguments, for a command line that only lists it.
 fn listed_command<'a>(alloc: Global, id: CommandId) -> Command<'a>
     ensures { IsCommand (listed_app id) result }
 {
     listed_row(alloc, row_of(id), help::LISTED)
 }
 
-/// The command line with these commands too.
+/// Adds these commands, with their arguments, to a command line.
 fn with_commands<'a>(
     alloc: Global,
     line: Command<'a>,
@@ -82,7 +82,7 @@ fn with_commands<'a>(
     Ok(line)
 }
 
-/// The command line with these commands too, of which no argument is read.
+/// Adds these commands, without their arguments, to a command line.
 fn with_listed<'a>(
     alloc: Global,
     line: Command<'a>,
@@ -105,14 +105,15 @@ fn line_of<'a>(alloc: Global, ids: &[CommandId]) -> Result<Command<'a>, AllocErr
     with_commands(alloc, start_line(alloc)?, ids)
 }
 
-/// The command line of `command`, which lists all commands.
+/// Returns the command line of `mx_commands::command`, which reads the commands of `READ` and only
+/// lists those of `LISTED`.
 pub(crate) fn whole_line<'a>(alloc: Global) -> Result<Command<'a>, AllocError>
     ensures { IfOk result (IsLine mx_app) }
 {
     with_listed(alloc, line_of(alloc, &READ)?, &LISTED)
 }
 
-/// Finds what the words of a command line give.
+/// Parses words by a command line.
 pub(crate) fn matches_of<'a>(
     line: Command<'a>,
     words: &'a [&'a str],
@@ -123,12 +124,12 @@ pub(crate) fn matches_of<'a>(
     line.try_get_matches_from(words)
 }
 
-/// Finds what the words give in the command line of `mx` with these commands alone.
+/// Parses words by the command line of `mx` with these commands alone.
 ///
 /// # Errors
 ///
-/// Returns the error of `clap` for wrong arguments, and also, with the text to show, if help is
-/// requested.
+/// Returns the error of `clap` for wrong arguments. A request for help is such an error too, with
+/// the text to show.
 pub fn matches_in<'a>(
     alloc: Global,
     ids: &[CommandId],

@@ -11,15 +11,15 @@ use crate::words::{is_given, number_at, text_at};
 use clap::{ArgMatches, Error};
 use std::alloc::Global;
 
-/// The seed, if none is given.
+/// The seed of the links, if `--seed` is not given.
 const SEED: u64 = 1;
 
-/// How many turns each node may take, if nothing is said of that.
+/// How many turns each node may take, if `--turns` is not given.
 const TURNS: u64 = 10_000_000;
 
-/// What is to be run: the name of a plan, how many sections each node is to have, the seed of the
-/// first node's links, how many turns each node may take, after how many of its sections it
-/// settles its journal (0 for never), and whether progress is to be told.
+/// What `live` is to run: the name of a plan, how many sections each node is to have, the seed of
+/// the first node's links, how many turns each node may take, after how many of its sections each
+/// node settles its journal (0 for never), and whether progress is reported on standard error.
 #[derive(Clone, Copy)]
 pub struct LiveRequest<'a> {
     pub plan: &'a str,
@@ -34,8 +34,8 @@ pub struct LiveRequest<'a> {
 ///
 /// # Errors
 ///
-/// Returns the error of `clap` for wrong arguments, and also, with the text to show, if help is
-/// requested.
+/// Returns the error of `clap` for wrong arguments. A request for help is such an error too, with
+/// the text to show.
 pub fn parse_live<'a>(alloc: Global, words: &'a [&'a str]) -> Result<Option<LiveRequest<'a>>, Error>
     ensures { Asks request_of live_line (texts_of words.entry.now)
         (request_asked (texts_of words.entry.now)) result }
@@ -44,7 +44,7 @@ pub fn parse_live<'a>(alloc: Global, words: &'a [&'a str]) -> Result<Option<Live
     Ok(from_matches(&matches))
 }
 
-/// Returns the request of `live`; `None` if the words name another command, or lack an argument.
+/// Returns the request of `live`, or `None` if the words name another command or lack an argument.
 fn from_matches<'a>(matches: &ArgMatches<'a>) -> Option<LiveRequest<'a>>
     ensures { option_map request_of result ≡ request_in (subcommand_rows_of matches.now) }
 {
@@ -73,7 +73,7 @@ fn live_in<'a>(matches: &ArgMatches<'a>) -> Option<LiveRequest<'a>>
     })
 }
 
-/// The number that was given for an option, or another.
+/// Returns the number that was given for the option `id`, or `other` if none was.
 fn number_or(matches: &ArgMatches<'_>, id: &str, other: u64) -> u64
     ensures { result ≡ number_or id.now other (rows_of (found_of matches.now)) }
 {

@@ -1,4 +1,4 @@
-//! Which of two texts is not JSON.
+//! Faults that name the input that is not JSON: the plan, or the text that comes with it.
 
 ghost use Rattle.std.specs.Prelude.{◌≡◌, Bool, Ok, IfErr, IfOk};
 ghost use Rattle.mx_cli.specs.Asked.{AsksBoth};
@@ -14,8 +14,8 @@ use mx_io::Source;
 use mx_plan::PlanFault;
 use std::alloc::Global;
 
-/// The plan and the bytes of two names, as `fetch_both` reads them. A fault "not JSON" says that it
-/// is about the plan.
+/// Reads a plan, and the bytes that come with it, as `fetch_both` does. If the plan is not JSON,
+/// the fault names the plan.
 pub fn fetch_named<S: Source>(
     alloc: Global,
     source: &mut S,
@@ -33,7 +33,7 @@ pub fn fetch_named<S: Source>(
     }
 }
 
-/// Returns `ended`, but a fault "not JSON" says which input it is about.
+/// Returns `ended`. If it is the fault that a text is not JSON, the fault names the input `part`.
 pub fn naming(ended: Result<u8, CommandError>, part: Named) -> Result<u8, CommandError>
     ensures { result ≡ naming part ended }
 {
@@ -43,7 +43,7 @@ pub fn naming(ended: Result<u8, CommandError>, part: Named) -> Result<u8, Comman
     }
 }
 
-/// Returns the error, but a fault "not JSON" says which input it is about.
+/// Returns `error`. If it is the fault that a text is not JSON, the fault names the input `part`.
 pub fn error_named(error: CommandError, part: Named) -> CommandError
     ensures { result ≡ error_named part error }
 {
@@ -54,7 +54,7 @@ pub fn error_named(error: CommandError, part: Named) -> CommandError
     }
 }
 
-/// Returns the fault, with the input that it is about if that is not JSON.
+/// Returns `fault`. If it is the fault that a text is not JSON, the fault names the input `part`.
 fn fault_named(fault: Fault, part: Named) -> Fault
     ensures { result ≡ fault_named part fault }
 {
@@ -66,6 +66,7 @@ fn fault_named(fault: Fault, part: Named) -> Fault
     }
 }
 
+/// Returns the fault of a text. If the text is not JSON, the fault names the input `part`.
 fn text_named(fault: PlanFault, part: Named) -> Fault
     ensures { result ≡ text_named part fault }
 {

@@ -1,4 +1,4 @@
-//! Fetching what a command is about, and reading its plan.
+//! Fetches the bytes that a command names, and reads its plan.
 
 ghost use Rattle.std.specs.Prelude.{◌≡◌, [], ◌∷◌, Bool, Some, IfSome, option_map};
 ghost use Rattle.mx_io.specs.Told.{Asks};
@@ -21,7 +21,7 @@ pub struct PlanAndText {
     pub text: Vec<u8>,
 }
 
-/// The bytes of a name.
+/// Returns the bytes that the source has under a name. A fault names the input `named`.
 pub fn fetch<S: Source>(
     alloc: Global,
     source: &mut S,
@@ -40,7 +40,8 @@ pub fn fetch<S: Source>(
     }
 }
 
-/// The plan of a name, or why there is none. The source's other names stay as they are.
+/// Reads the plan that the source has under a name. What the source has under its names does not
+/// change.
 pub fn fetch_plan<S: Source>(
     alloc: Global,
     source: &mut S,
@@ -55,7 +56,7 @@ pub fn fetch_plan<S: Source>(
     plan_in(alloc, bytes.as_slice())
 }
 
-/// The plan that a text is.
+/// Reads a plan from its text.
 pub fn plan_in(alloc: Global, text: &[u8]) -> Result<Plan, CommandError>
     ensures read { Reads (Some text.now) result }
     ensures taken { (before : Bool) → refused_after result before ≡ before }
@@ -66,10 +67,10 @@ pub fn plan_in(alloc: Global, text: &[u8]) -> Result<Plan, CommandError>
     }
 }
 
-/// The plan of the first of two names, and the bytes of the second. Where both are standard input,
-/// its first line is the plan, and the rest is what comes with it. A plan that is refused comes
-/// before a second name that can't be read. Each name is asked for once, the plan's first, and
-/// standard input once where it is both.
+/// Reads the plan of the first name, and returns it with the bytes of the second. If both names are
+/// `-`, the first line of standard input is the plan, and the rest is what comes with it. A fault
+/// of the plan is returned rather than that the second name can't be read. Each name is read once,
+/// the plan's first. If both are `-`, standard input is read once.
 pub fn fetch_both<S: Source>(
     alloc: Global,
     source: &mut S,
@@ -87,7 +88,7 @@ pub fn fetch_both<S: Source>(
     }
 }
 
-/// The plan and the bytes of one name.
+/// Returns the plan in the first line of the bytes of a name, and the bytes after that line.
 fn fetch_one<S: Source>(
     alloc: Global,
     source: &mut S,
@@ -102,7 +103,7 @@ fn fetch_one<S: Source>(
     both_in(alloc, one.as_slice())
 }
 
-/// The plan in the first line of a text, and the bytes that follow it.
+/// Returns the plan in the first line of a text, and the bytes after that line.
 fn both_in(alloc: Global, bytes: &[u8]) -> Result<PlanAndText, CommandError>
     ensures read { ReadsBoth (Some (line_of (Some bytes.now)))
         (Some (rest_of (Some bytes.now))) result }
@@ -114,7 +115,7 @@ fn both_in(alloc: Global, bytes: &[u8]) -> Result<PlanAndText, CommandError>
     Ok(PlanAndText { plan, text })
 }
 
-/// The plan of one name, and the bytes of another.
+/// Returns the plan of the first name, and the bytes of the second.
 fn fetch_two<S: Source>(
     alloc: Global,
     source: &mut S,

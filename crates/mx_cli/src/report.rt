@@ -17,7 +17,8 @@ use mx_io::{Output, OutputFault};
 use std::alloc::Global;
 use std::fmt::Display;
 
-/// Writes the help that was requested, or what is wrong with the arguments, and returns the status.
+/// Writes the help that was requested to `out`, or what is wrong with the arguments to `err`.
+/// Returns the exit status.
 pub fn refuse<O: Output, E: Output>(alloc: Global, e: &clap::Error, out: &mut O, err: &mut E) -> u8
     ensures memory { kind_of e.now ≡ ErrorKind.OutOfMemory → RunsOut
         (seen O.Output E.Output out.old err.old) (seen O.Output E.Output out.new err.new) result }
@@ -32,7 +33,7 @@ pub fn refuse<O: Output, E: Output>(alloc: Global, e: &clap::Error, out: &mut O,
     }
 }
 
-/// Writes the message for a fault, and returns the status.
+/// Writes the line of a fault, and returns the exit status: 1, or 5 if memory ran out.
 pub fn report_fault<E: Output>(alloc: Global, fault: Fault, names: &Names<'_>, err: &mut E) -> u8
     ensures { ReportsFault (E.takes_all err.old) (fault_line (names_of names.now) fault)
         (E.written err.old) (E.written err.new) result }
@@ -44,7 +45,8 @@ pub fn report_fault<E: Output>(alloc: Global, fault: Fault, names: &Names<'_>, e
     report_line(alloc, line, err)
 }
 
-/// Writes the line that says why a command ended, and returns the status.
+/// Writes the line that says why a command ended, and returns the exit status: 1, or 5 if memory
+/// ran out.
 pub fn report_line<E: Output, D: Display + Drop>(alloc: Global, line: D, err: &mut E) -> u8
     ensures status { (result ≡ 1) ⊎ (result ≡ 5) }
     ensures told { IfSome (D.output line) (λ text. ReportsFault (E.takes_all err.old) text
@@ -57,7 +59,7 @@ pub fn report_line<E: Output, D: Display + Drop>(alloc: Global, line: D, err: &m
     }
 }
 
-/// Writes that memory ran out, if the output takes it, and returns the status.
+/// Writes that memory ran out, if the output takes the text, and returns the exit status 5.
 pub fn report_memory<E: Output>(err: &mut E) -> u8
     ensures status { result ≡ 5 }
     ensures told { MayReport (E.written err.old) (E.written err.new) }
@@ -66,7 +68,7 @@ pub fn report_memory<E: Output>(err: &mut E) -> u8
     5
 }
 
-/// Writes the help, or the version, that was asked for.
+/// Writes the help, or the version, that was requested to `out`, and returns the exit status.
 fn show<O: Output, E: Output>(alloc: Global, e: &clap::Error, out: &mut O, err: &mut E) -> u8
     ensures { Helps (O.takes_all out.old)
         (seen O.Output E.Output out.old err.old) (seen O.Output E.Output out.new err.new) result }
@@ -78,7 +80,7 @@ fn show<O: Output, E: Output>(alloc: Global, e: &clap::Error, out: &mut O, err: 
     }
 }
 
-/// Writes what is wrong with the words.
+/// Writes what is wrong with the arguments, and returns the exit status: 2, or 5 if memory ran out.
 fn report_usage<E: Output>(alloc: Global, e: &clap::Error, err: &mut E) -> u8
     ensures { (result ≡ 2) ⊎ ((result ≡ 5) × MayReport (E.written err.old) (E.written err.new)) }
 {
@@ -88,7 +90,7 @@ fn report_usage<E: Output>(alloc: Global, e: &clap::Error, err: &mut E) -> u8
     }
 }
 
-/// Writes what is wrong with the words, with a tip, or nothing of it.
+/// Writes what is wrong with the arguments, with a tip if there is one. Writes nothing on an error.
 fn write_usage<E: Output>(alloc: Global, e: &clap::Error, err: &mut E) -> Result<(), OutputFault>
     ensures { OnErr result (Keeps (E.written err.old) (E.written err.new)) }
 {
@@ -111,7 +113,7 @@ fn put_and_flush<O: Output, D: Display + Drop>(
     out.flush()
 }
 
-/// Writes a text whole, or nothing.
+/// Writes a text whole. Writes nothing on an error.
 pub fn write_line<O: Output, D: Display + Drop>(
     alloc: Global,
     out: &mut O,

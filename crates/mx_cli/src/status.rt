@@ -13,9 +13,9 @@ use mx_io::{Output, OutputFault};
 use std::alloc::Global;
 use std::fmt::Display;
 
-/// Flushes the output, reports why the command ended early if it did, and returns the status: its
-/// own, 1 after a fault or if an output refused, 5 if memory ran out. An output that has refused is
-/// not used any more.
+/// Flushes the output, reports why the command ended early if it did, and returns the exit status:
+/// that of the command, 1 after a fault or if an output refused, 5 if memory ran out. An output
+/// that has refused is not used any more.
 pub fn close<O: Output, E: Output>(
     alloc: Global,
     ended: Result<u8, CommandError>,
@@ -41,8 +41,8 @@ pub fn close<O: Output, E: Output>(
     }
 }
 
-/// Flushes the output, writes the line that says why the command ended, and returns the status: 1,
-/// or 5 if memory ran out.
+/// Flushes the output, writes the line that says why the command ended, and returns the exit
+/// status: 1, or 5 if memory ran out.
 pub fn close_with<O: Output, E: Output, D: Display + Drop>(
     alloc: Global,
     line: D,
@@ -64,7 +64,7 @@ pub fn close_with<O: Output, E: Output, D: Display + Drop>(
     }
 }
 
-/// Reports why a command ended early, if it did, and returns the status.
+/// Reports why a command ended early, if it did, and returns the exit status.
 fn report_end<E: Output>(
     alloc: Global,
     ended: Result<u8, CommandError>,
@@ -82,7 +82,7 @@ fn report_end<E: Output>(
     }
 }
 
-/// Whether an output has refused.
+/// Whether a command ended because an output refused a text.
 pub fn is_refused(ended: &Result<u8, CommandError>) -> bool
     ensures { IsTrue result ↔ (ended.now ≡ Err CommandError.Writer) }
 {

@@ -10,14 +10,14 @@ use crate::arguments::{
 };
 use crate::{examples, help};
 
-/// A command, or a form of one that has a call of its own.
+/// A command, or a form of a command that a function of its own runs.
 #[derive(Clone, Copy, Debug, PartialEq, Eq)]
 pub enum CommandId {
     Check,
     /// `check` with `--json`.
     CheckJson,
     Replay,
-    /// `replay` with an option that says what is shown.
+    /// `replay` with `--quiet`, `--node`, `--json` or `--state`.
     ReplayView,
     Explore,
     /// `explore` with `--count` or `--json`.
@@ -36,22 +36,22 @@ pub enum CommandId {
     Explain,
 }
 
-/// A row of the table.
+/// A row of the table of commands.
 #[derive(Clone, Copy)]
 pub struct CommandRow {
     pub name: &'static str,
-    /// What the command does.
+    /// What the command does, as help says it.
     pub about: &'static str,
     pub arguments: &'static [Argument],
-    /// What its help ends with.
+    /// The text that ends the help of the command.
     pub example: &'static str,
 }
 
-/// The commands that `command` reads.
+/// The commands that `mx_commands::command` runs.
 pub(crate) const READ: [CommandId; 3] = [CommandId::Check, CommandId::Replay, CommandId::Explore];
 
-/// The commands that have calls of their own. `command` lists them, so that help has them and a
-/// mistyped word finds them.
+/// The other commands, which functions of their own run. `mx_commands::command` only lists them,
+/// for its help and for its tips on mistyped words.
 pub(crate) const LISTED: [CommandId; 8] = [
     CommandId::Live,
     CommandId::Draw,

@@ -1,14 +1,16 @@
-//! Tips where words have an option that their command does not have.
+//! Tips for command lines with an option that their command does not have.
 
 use crate::arguments::Argument;
 use crate::table::{LISTED, READ, row_of};
 use std::alloc::{AllocError, Global};
 
-/// The command line without a command, as its usage names it, and its option beside `--help`.
+/// The word that stands in the usage for a command if none is given, and the option that `mx` has
+/// without a command, beside `--help`.
 const LINE: (&str, &str) = ("<COMMAND>", "version");
 
-/// What is told of refused words, with a tip of ours in place of the one that takes a mistyped
-/// option for a value. Where there is none of ours, it stays as it is.
+/// Returns `told`, the message of `clap` about wrong arguments. If it names an unexpected option
+/// and no similar one, a tip on that option replaces the tip of `clap`, which takes the option for
+/// a value.
 pub(crate) fn with_tip(alloc: Global, told: &str) -> Result<String, AllocError> {
     let mut text = String::new(alloc);
     let Some((fault, usage)) = told.split_once("\n\nUsage: mx ") else {
@@ -27,7 +29,7 @@ pub(crate) fn with_tip(alloc: Global, told: &str) -> Result<String, AllocError> 
     Ok(text)
 }
 
-/// The option that is told to be unexpected, where no similar one is named.
+/// Returns the option that the message calls unexpected, unless the message names a similar one.
 fn option_in(fault: &str) -> Option<&str> {
     if fault.contains("similar argument exists") {
         return None;
@@ -48,7 +50,7 @@ fn first_line(text: &str) -> &str {
     }
 }
 
-/// The command that a usage begins with.
+/// Returns the first word of a usage: the command, or `<COMMAND>` if none is given.
 fn usage_command(usage: &str) -> &str {
     match usage.split_whitespace().next() {
         Some(command) => command,
@@ -56,7 +58,7 @@ fn usage_command(usage: &str) -> &str {
     }
 }
 
-/// Appends what is to be told of an option that a command does not have.
+/// Appends the tip on `word`, an option that is refused after this command.
 fn add_tip(word: &str, command: &str, text: &mut String) -> Result<(), AllocError> {
     if is_number(word) {
         return text.push_str("numbers are written without a sign");
@@ -70,7 +72,7 @@ fn add_tip(word: &str, command: &str, text: &mut String) -> Result<(), AllocErro
     }
 }
 
-/// Whether a command has this option, in another form.
+/// Whether this command has the option `word` in its usual form, that of `READ` or `LISTED`.
 fn has_option(command: &str, word: &str) -> bool {
     for id in READ.iter().chain(&LISTED) {
         let row = row_of(*id);
@@ -85,7 +87,7 @@ fn is_among(word: &str, arguments: &[Argument]) -> bool {
     arguments.iter().any(|argument| argument.is_option() && is_whole(word, argument.name))
 }
 
-/// Whether it is a number behind a sign.
+/// Whether a word begins with a minus sign and a digit.
 fn is_number(word: &str) -> bool {
     match word.strip_prefix("-") {
         Some(digits) => matches!(digits.as_bytes(), [b'0'..=b'9', ..]),
@@ -93,7 +95,8 @@ fn is_number(word: &str) -> bool {
     }
 }
 
-/// The first option that begins with this word, or with its letter, and the command that has it.
+/// Returns the first option that begins with this word or character, dashes aside, and the command
+/// that has the option.
 fn owner_of(word: &str) -> Option<(&'static str, &'static str)> {
     let (line, option) = LINE;
     if begins(option, word) {
@@ -108,7 +111,7 @@ fn owner_of(word: &str) -> Option<(&'static str, &'static str)> {
     None
 }
 
-/// The first of these arguments that is an option and begins with this word.
+/// Returns the first option among these arguments that begins with this word, dashes aside.
 fn option_of(arguments: &[Argument], word: &str) -> Option<&'static str> {
     for argument in arguments {
         if argument.is_option() && begins(argument.name, word) {
@@ -118,13 +121,13 @@ fn option_of(arguments: &[Argument], word: &str) -> Option<&'static str> {
     None
 }
 
-/// Whether an option begins with this word, be it behind one dash.
+/// Whether an option begins with this word, dashes aside. False if the word has only dashes.
 fn begins(option: &str, word: &str) -> bool {
     let begun = word.trim_start_matches('-');
     !begun.is_empty() && option.starts_with(begun)
 }
 
-/// Whether this word is the option itself.
+/// Whether this word is two dashes and the whole name of the option.
 fn is_whole(word: &str, option: &str) -> bool {
     match word.strip_prefix("--") {
         Some(name) => name == option,
@@ -132,7 +135,7 @@ fn is_whole(word: &str, option: &str) -> bool {
     }
 }
 
-/// Appends which command has an option.
+/// Appends that the command `owner` has this option.
 fn add_owner(option: &str, owner: &str, text: &mut String) -> Result<(), AllocError> {
     text.push_str("'")?;
     text.push_str(owner)?;
@@ -141,7 +144,7 @@ fn add_owner(option: &str, owner: &str, text: &mut String) -> Result<(), AllocEr
     text.push_str("'")
 }
 
-/// Appends that a command has an option, but not in the form that the other options choose.
+/// Appends that a command has an option, but not together with the other options that are given.
 fn add_clash(option: &str, command: &str, text: &mut String) -> Result<(), AllocError> {
     text.push_str("'")?;
     text.push_str(command)?;

@@ -10,14 +10,15 @@ use crate::line::{matches_of, whole_line};
 use clap::{ArgMatches, Error};
 use std::alloc::Global;
 
-/// The names of a plan and of its events.
+/// The names of a plan and of its events, or of a script or a trace in place of events. The name
+/// `-` is standard input.
 #[derive(Clone, Copy, Debug, PartialEq, Eq)]
 pub struct Names<'a> {
     pub plan: &'a str,
     pub events: &'a str,
 }
 
-/// What is to be explored: the name of a plan, the seed of the schedule and its length.
+/// What `explore` is to run: the name of a plan, the seed of random events, and their number.
 #[derive(Clone, Copy, Debug, PartialEq, Eq)]
 pub struct Exploration<'a> {
     pub plan: &'a str,
@@ -28,20 +29,21 @@ pub struct Exploration<'a> {
 /// What a command line asks for.
 #[derive(Clone, Copy)]
 pub enum Request<'a> {
-    /// What a plan of this name says.
+    /// `check`: what the plan of this name says.
     Check(&'a str),
-    /// The same, and whom each of its nodes asks.
+    /// `check --asks`: what the plan of this name says, and whom each of its nodes asks.
     Asks(&'a str),
     Replay(Names<'a>),
     Explore(Exploration<'a>),
 }
 
-/// Parses the words of a command line that `command` runs.
+/// Parses the words of a command line for `mx_commands::command`. Returns `None` if they name a
+/// command, or a form of a command, that another function runs.
 ///
 /// # Errors
 ///
-/// Returns the error of `clap` for wrong arguments, and also, with the text to show, if help or the
-/// version is requested.
+/// Returns the error of `clap` for wrong arguments. A request for help or for the version is such
+/// an error too, with the text to show.
 pub fn parse<'a>(alloc: Global, words: &'a [&'a str]) -> Result<Option<Request<'a>>, Error>
     ensures { Asks request_of mx_app (texts_of words.entry.now)
         (request_asked (texts_of words.entry.now)) result }
@@ -59,7 +61,7 @@ fn from_matches<'a>(matches: &ArgMatches<'a>) -> Option<Request<'a>>
     }
 }
 
-/// What the command of this name asks for.
+/// Returns what the command of this name asks for, or `None` if another function runs it.
 fn request_in<'a>(name: &str, matches: &ArgMatches<'a>) -> Option<Request<'a>>
     ensures { option_map request_of result
         ≡ request_in (Some (name.now, rows_of (found_of matches.now))) }
@@ -72,7 +74,8 @@ fn request_in<'a>(name: &str, matches: &ArgMatches<'a>) -> Option<Request<'a>>
     }
 }
 
-/// Returns what `check` asks for, or `None` with `--json`, a form that has a call of its own.
+/// Returns what `check` asks for, or `None` for the form with `--json`, which another function
+/// runs.
 fn check_in<'a>(matches: &ArgMatches<'a>) -> Option<Request<'a>>
     ensures { option_map request_of result ≡ check_in (rows_of (found_of matches.now)) }
 {
@@ -89,7 +92,8 @@ fn check_in<'a>(matches: &ArgMatches<'a>) -> Option<Request<'a>>
     }
 }
 
-/// Returns what `replay` asks for, or `None` with an option, a form that has a call of its own.
+/// Returns what `replay` asks for, or `None` for the form with an option, which another function
+/// runs.
 fn replay_in<'a>(matches: &ArgMatches<'a>) -> Option<Request<'a>>
     ensures { option_map request_of result ≡ replay_in (rows_of (found_of matches.now)) }
 {
@@ -99,8 +103,8 @@ fn replay_in<'a>(matches: &ArgMatches<'a>) -> Option<Request<'a>>
     names_at(matches).map(Request::Replay)
 }
 
-/// Returns what `explore` asks for, or `None` with `--count` or `--json`, forms that have a call of
-/// their own.
+/// Returns what `explore` asks for, or `None` for the form with `--count` or `--json`, which
+/// another function runs.
 fn explore_in<'a>(matches: &ArgMatches<'a>) -> Option<Request<'a>>
     ensures { option_map request_of result ≡ explore_in (rows_of (found_of matches.now)) }
 {
@@ -110,8 +114,7 @@ fn explore_in<'a>(matches: &ArgMatches<'a>) -> Option<Request<'a>>
     exploration_at(matches).map(Request::Explore)
 }
 
-/// Whether a replay is to be shown by its closing lines, by the lines of one node, as JSON, or with
-/// what each node knows.
+/// Whether an option of `replay` is given: `--quiet`, `--node`, `--json` or `--state`.
 fn is_view(matches: &ArgMatches<'_>) -> bool
     ensures { result ≡ is_view (rows_of (found_of matches.now)) }
 {
@@ -134,7 +137,7 @@ pub fn names_at<'a>(matches: &ArgMatches<'a>) -> Option<Names<'a>>
     Some(Names { plan, events })
 }
 
-/// The plan, the seed and the number of steps that were given.
+/// Returns the plan, the seed and the number of steps, if all are given.
 pub fn exploration_at<'a>(matches: &ArgMatches<'a>) -> Option<Exploration<'a>>
     ensures { option_map explored result ≡ exploration_at (rows_of (found_of matches.now)) }
 {
@@ -150,21 +153,21 @@ pub fn exploration_at<'a>(matches: &ArgMatches<'a>) -> Option<Exploration<'a>>
     Some(Exploration { plan, seed, steps })
 }
 
-/// The text that was given for an argument.
+/// Returns the text that was given for the argument `id`.
 pub fn text_at<'a>(matches: &ArgMatches<'a>, id: &str) -> Option<&'a str>
     ensures { option_map (λ s. s.now) result ≡ first_of id.now (rows_of (found_of matches.now)) }
 {
     matches.get_str(id)
 }
 
-/// The number that was given for an argument.
+/// Returns the number that was given for the argument `id`.
 pub fn number_at(matches: &ArgMatches<'_>, id: &str) -> Option<u64>
     ensures { result ≡ number_at id.now (rows_of (found_of matches.now)) }
 {
     matches.get_one::<u64>(id)
 }
 
-/// Returns whether a flag was given.
+/// Returns whether the flag `id` was given.
 pub fn is_given(matches: &ArgMatches<'_>, id: &str) -> bool
     ensures { result ≡ is_given id.now (rows_of (found_of matches.now)) }
 {

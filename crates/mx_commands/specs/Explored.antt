@@ -1,4 +1,4 @@
--- What comes of a schedule that is drawn from a seed.
+-- What `explore` prints of a schedule that is drawn from a seed.
 use Rattle.std.specs.Prelude.{ℕ, Bool, true, false, List, [], ◌∷◌, ◌++◌, Option, Some, None, Result, Ok, Err, length}
 use Rattle.std.specs.List.{count_by}
 use Rattle.mx_nodelaws.specs.Core.{Core}
@@ -31,29 +31,29 @@ is_entered _ = false
 abbrev pub is_entry : Entry → Bool
 is_entry entry = is_entered entry.outcome
 
--- an event that can't happen changes nothing
+-- the state after an event; an event that can't happen changes nothing
 abbrev pub or_stay : {G : Type 0} → G → Result G StepFault → G
 or_stay g (Ok new) = new
 or_stay g (Err fault) = g
 
 module _ {H S M : Type 0} (core : Core H S M) where
-  -- a drawn event happens, by its place among the parcels sent; a delivery before any was sent is
-  -- passed over
+  -- the cluster after an event; `None` changes nothing, as for a delivery that was drawn before any
+  -- parcel was sent
   abbrev pub after_placed : ClusterState S M → Option Event → ClusterState S M
   after_placed g None = g
   after_placed g (Some e) = or_stay g (step_of core g e)
 
-  -- the drawn events happen in turn
+  -- the cluster after the drawn events, in turn; each delivery is of one of the newest 64 parcels
   unfoldable pub after_drawn : ClusterState S M → List Event → ClusterState S M
   after_drawn g [] = g
   after_drawn g (e ∷ es) = after_drawn (after_placed g (place_of e (length g.sent))) es
 
--- the counts and the verdict, which is sound
+-- the line of the counts, and that of the verdict, which is sound
 abbrev pub summary_text : {S M : Type 0} → ℕ → ClusterState S M → Text
 summary_text steps g =
     explored_line steps (count_by is_entry g.trace) (length g.sent) ++ verdict_line Sound
 
--- the text of a schedule that happens in the cluster of a plan, by its algorithm
+-- what is printed of a schedule that runs in the cluster of a plan, at rest
 abbrev pub summary_by : Fields → List Event → Shape → Text
 summary_by p es (Ricart count) =
     summary_text (length es) (after_drawn ricart_core (at_rest ricart_core p count) es)

@@ -1,4 +1,4 @@
--- What a command leaves in the two outputs, and with which status.
+-- What a command writes to the two outputs, and with which status it ends.
 use Rattle.std.specs.Prelude.{◌≡◌, ◌⊎◌, ℕ, [], Bool, false, Option, Some, None, ⊤, Result, Ok, Err, IfSome}
 use Rattle.std.specs.Io.KnownBytes.{Appends, Keeps}
 use Rattle.std.specs.List.{concat}
@@ -30,7 +30,7 @@ abbrev pub end_text : Text × Text → Option Fault → Text
 end_text names None = []
 end_text names (Some fault) = fault_line names fault
 
--- the report was printed whole, and passed on
+-- the report was printed whole, and passed on; its fault, if it has one, on standard error
 pub record PrintsWhole (names : Text × Text) (r : Report) (old new : Seen)
     (status : ℕ) : Type 0 where
   pub status_is : status ≡ status_of r.end
@@ -38,35 +38,37 @@ pub record PrintsWhole (names : Text × Text) (r : Report) (old new : Seen)
   pub fault : Appends old.err new.err (end_text names r.end)
   pub passed : new.kept_back ≡ false
 
--- memory ran out on the way, and standard output refused nothing
+-- memory ran out after some texts of the report were printed, and standard output refused nothing
 pub record RunsOut (r : Report) (old new : Seen) (status : ℕ) : Type 0 where
   pub status_is : status ≡ 5
   pub lines : AppendsSome old.out new.out r.texts
   pub told : MayReport old.err new.err
   pub taken : new.refused ≡ old.refused
 
--- an output refused on the way, which one that takes all bytes never does
+-- an output refused after some texts of the report were printed. Outputs that take all bytes never
+-- refuse
 pub record IsRefused (takes_all : Bool) (r : Report) (old new : Seen) (status : ℕ) : Type 0 where
   pub status_is : status ≡ 1
   pub refused : takes_all ≡ false
   pub lines : AppendsSome old.out new.out r.texts
   pub silent : Keeps old.err new.err
 
--- a run of this report, by outputs that both take all bytes or not
+-- a run printed this report: whole, or until memory ran out or an output refused. `takes_all` says
+-- whether both outputs take all bytes
 abbrev pub Prints : Bool → Text × Text → Report → Seen → Seen → ℕ → Type 0
 Prints takes_all names r old new status =
     PrintsWhole names r old new status ⊎ RunsOut r old new status
     ⊎ IsRefused takes_all r old new status
 
--- memory ran out before there was a report; and where standard output then refused too, that
--- decides
+-- memory ran out before there was a report (status 5); if standard output then refused too, the
+-- status is 1
 abbrev pub FailsAtOnce : Bool → Seen → Seen → ℕ → Type 0
 FailsAtOnce takes_all old new status = Keeps old.out new.out
     × (((status ≡ 5) × MayReport old.err new.err × (new.refused ≡ old.refused))
     ⊎ ((status ≡ 1) × (takes_all ≡ false) × Keeps old.err new.err))
 
--- what the words ask for, of what a source tells: a run of its report, or memory ran out before
--- there was one
+-- what the words ask for was run, if the source states what the name of the plan holds: the report
+-- was printed (`Prints`), or memory ran out before there was one
 abbrev pub Runs : Bool → (Text → Option Telling) → Request → Seen → Seen → ℕ → Type 0
 Runs takes_all told request old new status = IfSome (job_of told request) (λ job.
     FailsAtOnce takes_all old new status
@@ -77,7 +79,7 @@ abbrev pub verdict_status : Verdict → ℕ
 verdict_status Sound = 0
 verdict_status (Broken k clause) = 4
 
--- ---- on the way
+-- ---- before a run is closed
 
 -- the texts of a report were written, and the run ended as the report does, or earlier
 abbrev pub Ran : Bool → Held → Held → Report → Result ℕ CommandError → Type 0
@@ -104,13 +106,13 @@ abbrev pub RanOf : Bool → Held → Held → (Text → Option Telling) → Requ
 RanOf takes_all old new told request result =
     IfSome (job_of told request) (λ job. RanOn takes_all old new job result)
 
--- an event did not happen: there is no such parcel, or memory ran out
+-- event k did not happen: it delivers a parcel that was not sent, or memory ran out
 abbrev pub StopsAt : {G : Type 0} → ℕ → Result G StepFault → CommandError → Type 0
 StopsAt k wanted end =
     (end ≡ command_error.Memory) ⊎ ((end ≡ command_error.Fault (NoParcel k)) × (wanted ≡ Err step_fault.NoParcel))
 
--- why a run of this report stops while it prints nothing: by the report's fault, or because memory
--- ran out
+-- why a run of this report that prints nothing stops: for the report's fault, or because memory ran
+-- out
 abbrev pub StopsAs : Report → CommandError → Type 0
 StopsAs r (command_error.Fault fault) = r.end ≡ Some fault
 StopsAs r command_error.Writer = ⊥

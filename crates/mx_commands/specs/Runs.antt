@@ -1,4 +1,4 @@
--- The lines of a run of events, by the nodes of any algorithm.
+-- What is printed of a run of events, for any algorithm.
 use Rattle.std.specs.Prelude.{ℕ, ◌+◌, ◌<◌, ⊤, List, [], ◌∷◌, ◌++◌, Option, Some, None, Result, Ok, Err, length, drop}
 use Rattle.mx_stamps.specs.Lists.{each_below}
 use Rattle.mx_nodelaws.specs.Core.{Core}
@@ -34,7 +34,7 @@ whole text = record { texts = text ∷ []; end = None }
 abbrev pub after_texts : List Text → Report → Report
 after_texts texts r = record { texts = texts ++ r.texts; end = r.end }
 
--- an event of the first n nodes
+-- the event names only nodes below n
 abbrev pub NamesNodes : ℕ → Event → Type 0
 NamesNodes n (Ask node) = node < n
 NamesNodes n (Enter node) = node < n
@@ -52,7 +52,7 @@ abbrev pub AllNameNodes : ℕ → List Event → Type 0
 AllNameNodes n [] = ⊤
 AllNameNodes n (e ∷ es) = NamesNodes n e × AllNameNodes n es
 
--- the lines of these items of the trace, the first of which is the k-th
+-- the lines of these entries of a trace, numbered from k on
 abbrev pub event_lines : Fields → ℕ → List Entry → Text
 event_lines p = texts_from (λ k e. event_line p k e.event e.outcome)
 
@@ -67,9 +67,9 @@ at_rest core p shape = record {
 
 -- what is printed of a run
 pub record Texts (S M : Type 0) : Type 0 where
-  -- of the event of an index, by the clusters before and after it
+  -- of an event, by its index and the clusters before and after it
   pub event : ℕ → ClusterState S M → ClusterState S M → Text
-  -- at the end
+  -- of the last cluster, at the end
   pub closing : ClusterState S M → Text
 
 -- nothing is printed
@@ -77,15 +77,15 @@ abbrev pub silent : {S M : Type 0} → Texts S M
 silent = record { event = λ _ _ _. []; closing = λ _. [] }
 
 module _ {S M : Type 0} (texts : Texts S M) where
-  -- the text of one event, and then the rest; or there is no such parcel, since the events that are
-  -- read name nodes of the plan
+  -- the text of event k, and then the rest; or the fault that event k delivers a parcel that was
+  -- not sent. An event has no other fault, since events that are read name nodes of the plan
   abbrev pub stepped : ℕ → ClusterState S M → Result (ClusterState S M) StepFault
       → (ClusterState S M → Report) → Report
   stepped k old (Ok new) rest = after_texts (texts.event k old new ∷ []) (rest new)
   stepped k old (Err fault) rest = ends_with (Some (NoParcel k))
 
 module _ {H S M : Type 0} (core : Core H S M) (texts : Texts S M) where
-  -- the events from the k-th on, from a state, and then the closing text
+  -- the texts of these events, numbered from k on, from this cluster on, and then the closing text
   unfoldable pub report_from : ℕ → ClusterState S M → List Event → Report
   report_from k g [] = whole (texts.closing g)
   report_from k g (e ∷ es) =
@@ -94,19 +94,19 @@ module _ {H S M : Type 0} (core : Core H S M) (texts : Texts S M) where
 -- ---- the lines of a replay
 
 module _ {H S M : Type 0} (core : Core H S M) (letter_text : Fields → M → Text) (p : Fields) where
-  -- what is new in the trace, and then the parcels that are new
+  -- the lines of the new entries of the trace, and then those of the new parcels
   abbrev pub text_of : ℕ → ClusterState S M → ClusterState S M → Text
   text_of k old new =
       event_lines p k (drop (length old.trace) new.trace)
       ++ parcel_lines letter_text p (length old.sent) (drop (length old.sent) new.sent)
 
-  -- a line for each node, and the verdict, which is sound: no cluster's trace is anything else
+  -- a line for each node, and the verdict, which is sound for the trace of every cluster
   abbrev pub closing_text : ClusterState S M → Text
   closing_text g = node_lines core p g.members ++ verdict_line Sound
 
   abbrev pub lines : Texts S M
   lines = record { event = text_of; closing = closing_text }
 
-  -- the events from the k-th on, from a state, and then the closing lines
+  -- the lines of these events, numbered from k on, from this cluster on, and then the closing lines
   abbrev pub run_from : ℕ → ClusterState S M → List Event → Report
   run_from = report_from core lines

@@ -1,4 +1,4 @@
--- What a sink prints of the run of a plan, by the nodes of each algorithm.
+-- What a sink prints of a run in the cluster of a plan, for each algorithm.
 use Rattle.std.specs.Prelude.{List}
 use Rattle.mx_letters.specs.declared.ricart.RicartMsg.{RicartMsg}
 use Rattle.mx_letters.specs.declared.maekawa.MaekawaMsg.{MaekawaMsg}
@@ -16,13 +16,13 @@ use Rattle.mx_plan.specs.declared.shape.Shape.TheVariants.{Ricart, Maekawa, Raym
 use Rattle.mx_format.specs.LetterTexts.{maekawa_text, raymond_text, ricart_text}
 use Rattle.mx_commands.specs.Runs.{Report, Texts, at_rest, lines, report_from}
 
--- what is printed of a run, by the nodes of each algorithm
+-- what is printed of a run, for each algorithm
 pub record TextsBy : Type 0 where
   pub ricart : Texts RicartNode RicartMsg
   pub maekawa : Texts MaekawaNode MaekawaMsg
   pub raymond : Texts RaymondNode RaymondMsg
 
--- the report of events that lead from the cluster of a plan, at rest, by its algorithm
+-- the report of a run of these events from the cluster of a plan, at rest
 abbrev pub report_by : TextsBy → Fields → Shape → List Event → Report
 report_by texts p (Ricart count) =
     report_from ricart_core texts.ricart 0 (at_rest ricart_core p count)

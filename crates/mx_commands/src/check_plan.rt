@@ -48,6 +48,7 @@ pub(crate) fn check_asks<S: Source, O: Output>(
     print_asks(alloc, &plan, out)
 }
 
+/// Prints what a plan says. Returns the status.
 fn check_plan<O: Output>(alloc: Global, plan: &Plan, out: &mut O) -> Result<u8, CommandError>
     ensures ran { Ran (O.takes_all out.old) (O.written out.old) (O.written out.new)
         (whole (plan_text plan.now)) result }
@@ -60,6 +61,7 @@ fn check_plan<O: Output>(alloc: Global, plan: &Plan, out: &mut O) -> Result<u8, 
     print(text.as_bytes(), out)
 }
 
+/// Prints what a plan says and whom its nodes ask. Returns the status.
 fn print_asks<O: Output>(alloc: Global, plan: &Plan, out: &mut O) -> Result<u8, CommandError>
     ensures ran { Ran (O.takes_all out.old) (O.written out.old) (O.written out.new)
         (whole (plan_asks_text plan.now)) result }
@@ -73,7 +75,7 @@ fn print_asks<O: Output>(alloc: Global, plan: &Plan, out: &mut O) -> Result<u8, 
     print(text.as_bytes(), out)
 }
 
-/// Prints a text whole, which is all that there is to print.
+/// Prints a text, the only one of a command, and returns the status 0.
 pub fn print<O: Output>(text: &[u8], out: &mut O) -> Result<u8, CommandError>
     ensures ran { Ran (O.takes_all out.old) (O.written out.old) (O.written out.new)
         (whole text.now) result }

@@ -51,7 +51,7 @@ fn add_member<C: Exclusion>(
     }
 }
 
-/// Appends the lines of the parcels from `before` on.
+/// Appends the lines of the parcels from the number `before` on.
 pub fn add_parcels<C: Exclusion>(
     plan: &Plan,
     cluster: &Cluster<C>,

@@ -1,4 +1,4 @@
-//! The command: from words, named bytes and two outputs to a status.
+//! Runs the words of a command line over named bytes and two outputs, and returns the exit status.
 
 ghost use Rattle.std.specs.Prelude.{◌≡◌, ◌&&◌, Err, IsSome, IfSome, IfOk};
 ghost use Rattle.mx_cli.specs.Table.{mx_app};
@@ -20,7 +20,8 @@ use std::alloc::Global;
 
 /// Runs the arguments of a command line, without the program's name, and returns the exit status: 0
 /// if all went well, or for help and the version; 1 for an error in a plan, its events, a file or
-/// an output; 2 for arguments that are no command; 4 if the trace is broken; 5 if memory ran out.
+/// an output; 2 for wrong arguments, and for commands and forms of commands that other functions
+/// run; 4 if the trace is broken; 5 if memory ran out.
 pub fn command<S: Source, O: Output, E: Output>(
     alloc: Global,
     words: &[&str],
@@ -44,6 +45,7 @@ pub fn command<S: Source, O: Output, E: Output>(
     }
 }
 
+/// Carries out a request, reports its fault if there is one, and returns the exit status.
 fn run_request<S: Source, O: Output, E: Output>(
     alloc: Global,
     request: &Request<'_>,
@@ -64,7 +66,8 @@ fn run_request<S: Source, O: Output, E: Output>(
     }
 }
 
-/// Returns the names for messages about faults.
+/// Returns the names of a plan and its events for messages about faults. If a request has no
+/// events, both are the name of the plan.
 pub fn names_in<'a>(request: &Request<'a>) -> Names<'a>
     ensures { names_of result ≡ names_in (request_of request.now) }
 {
@@ -79,8 +82,8 @@ pub fn names_in<'a>(request: &Request<'a>) -> Names<'a>
     }
 }
 
-/// Carries out what was asked for, and passes on what the output kept back; one that has refused is
-/// asked for nothing more. An output that refuses decides, also where memory ran out before.
+/// Carries out a request, and flushes the output, unless that has refused. An error of flushing is
+/// returned in place of an earlier error.
 fn carry_out_and_flush<S: Source, O: Output>(
     alloc: Global,
     request: &Request<'_>,
@@ -101,8 +104,7 @@ fn carry_out_and_flush<S: Source, O: Output>(
     ended
 }
 
-/// Carries out what was asked for, and returns the status. What the output keeps back is not passed
-/// on.
+/// Carries out a request, and returns the status. The output is not flushed.
 pub fn carry_out<S: Source, O: Output>(
     alloc: Global,
     request: &Request<'_>,

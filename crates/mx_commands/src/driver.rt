@@ -20,8 +20,8 @@ use mx_raymond::Raymond;
 use mx_ricart::Ricart;
 use std::alloc::Global;
 
-/// Applies the events of a plan in order, by its algorithm. Prints what the sink appends for each
-/// event, and for the end, each in one write. Returns the status.
+/// Applies events in order to the cluster of a plan. Prints what the sink appends for each event,
+/// and at the end, each in one write. Returns the status that the sink returns at the end.
 ///
 /// # Errors
 ///
@@ -54,7 +54,8 @@ where
     )
 }
 
-/// Applies events to a cluster.
+/// Applies events in order to a cluster, and prints what the sink appends. Returns the sink's
+/// status.
 fn drive_from<C: Exclusion, K: Sink<Cluster<C>>, O: Output>(
     alloc: Global,
     plan: &Plan,
@@ -74,7 +75,8 @@ fn drive_from<C: Exclusion, K: Sink<Cluster<C>>, O: Output>(
     drive_events(alloc, plan, &mut cluster, events, sink, out)
 }
 
-/// Applies each event in turn, and then prints the closing text.
+/// Applies each event in turn and prints its text, and then the closing text. Returns the sink's
+/// status.
 fn drive_events<C: Exclusion, K: Sink<Cluster<C>>, O: Output>(
     alloc: Global,
     plan: &Plan,
@@ -103,7 +105,7 @@ fn drive_events<C: Exclusion, K: Sink<Cluster<C>>, O: Output>(
     Ok(status)
 }
 
-/// Applies an event, and appends what the sink prints of it.
+/// Applies the event of this index, and lets the sink append the text of the event.
 fn drive_event<C: Exclusion, K: Sink<Cluster<C>>>(
     plan: &Plan,
     index: u64,

@@ -22,8 +22,8 @@ use mx_nodelaws::Exclusion;
 use mx_plan::Plan;
 use std::alloc::{AllocError, Global};
 
-/// Reads a plan, draws and runs a schedule, and prints the counts and the verdict. Returns the
-/// status.
+/// Reads a plan, draws a schedule of events and runs it, and prints the counts and the verdict.
+/// Returns the status.
 pub(crate) fn explore<S: Source, O: Output>(
     alloc: Global,
     exploration: &Exploration<'_>,
@@ -62,7 +62,8 @@ fn explore_plan<O: Output>(
     }
 }
 
-/// Runs the events by the plan's algorithm, then appends the summary.
+/// Runs drawn events in the cluster of a plan, and appends the counts and the verdict. Returns the
+/// verdict.
 fn add_summary_of(
     alloc: Global,
     plan: &Plan,
@@ -80,7 +81,7 @@ fn add_summary_of(
     )
 }
 
-/// Runs the events, then appends the summary.
+/// Runs drawn events in a cluster, and appends the counts and the verdict. Returns the verdict.
 fn add_summary_after<C: Exclusion>(
     mut cluster: Cluster<C>,
     events: &[Event],
@@ -94,7 +95,7 @@ fn add_summary_after<C: Exclusion>(
     add_summary(&cluster, events, text)
 }
 
-/// Runs the events in order.
+/// Runs drawn events in order. An event that can't happen is passed over.
 pub fn happen<C: Exclusion>(cluster: &mut Cluster<C>, events: &[Event]) -> Result<(), AllocError>
     ensures { OnOk result (after_drawn C.core cluster.old events.now ≡ cluster.new) }
 {
@@ -105,7 +106,7 @@ pub fn happen<C: Exclusion>(cluster: &mut Cluster<C>, events: &[Event]) -> Resul
     Ok(())
 }
 
-/// One drawn event. A delivery without any parcel to deliver is passed over.
+/// Runs a drawn event. A delivery is passed over if no parcel was sent yet.
 fn step<C: Exclusion>(cluster: &mut Cluster<C>, event: &Event) -> Result<(), AllocError>
     ensures { OnOk result (after_placed C.core cluster.old
         (place_of event.now (length cluster.old.sent))
@@ -117,7 +118,7 @@ fn step<C: Exclusion>(cluster: &mut Cluster<C>, event: &Event) -> Result<(), All
     advance_or_stay(cluster, placed)
 }
 
-/// One event. One that can't happen is passed over.
+/// Runs an event, or leaves the cluster as it is if the event can't happen.
 fn advance_or_stay<C: Exclusion>(cluster: &mut Cluster<C>, event: Event) -> Result<(), AllocError>
     ensures { OnOk result (or_stay cluster.old (step_of C.core cluster.old event) ≡ cluster.new) }
 {
@@ -127,7 +128,7 @@ fn advance_or_stay<C: Exclusion>(cluster: &mut Cluster<C>, event: Event) -> Resu
     }
 }
 
-/// Appends the counts and the verdict.
+/// Appends the counts of a run of `events` and the verdict, and returns the verdict.
 fn add_summary<C: Exclusion>(
     cluster: &Cluster<C>,
     events: &[Event],
@@ -148,14 +149,14 @@ fn add_summary<C: Exclusion>(
     Ok(verdict)
 }
 
-/// Returns how often a node entered.
+/// Returns how often a node entered a section in a trace.
 pub fn entries_in(trace: &[Entry]) -> u64
     ensures { result ≡ count_by is_entry trace.now }
 {
     trace.iter().filter(|entry| is_entry(entry)).count() as u64
 }
 
-/// Whether a node entered.
+/// Whether a node entered a section at this item of a trace.
 pub fn is_entry(entry: &Entry) -> bool
     ensures { result ≡ is_entry entry.now }
 {

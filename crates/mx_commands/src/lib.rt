@@ -1,4 +1,5 @@
-//! The commands of `mx`, over any source of named bytes and any two outputs.
+//! The commands `check`, `replay` and `explore` of `mx`, over any source of named bytes and any two
+//! outputs.
 #![tactic(auto)]
 
 mod check_plan;

@@ -17,8 +17,8 @@ use mx_nodelaws::Exclusion;
 use mx_plan::Plan;
 use std::alloc::{AllocError, Global};
 
-/// Prints a line for each event and each parcel that it sent; at the end a line for each node, and
-/// the verdict.
+/// The sink that prints a line for each event and for each parcel that the event sent, and at the
+/// end a line for each node and one for the verdict.
 #[derive(Clone, Copy)]
 pub struct Lines;
 
@@ -64,8 +64,8 @@ where
     }
 }
 
-/// Appends the line of the newest event of a cluster, and those of the parcels from `before` on,
-/// which it sent.
+/// Appends the line of the newest event of a cluster, which has this index, and the lines of the
+/// parcels that this event sent, which are those from the number `before` on.
 pub(crate) fn add_event<C: Exclusion>(
     plan: &Plan,
     index: u64,
@@ -92,7 +92,8 @@ where
     add_parcels(plan, cluster, before, text)
 }
 
-/// Appends the closing lines, and returns the verdict.
+/// Appends the closing lines of a run, one for each node and one for the verdict. Returns the
+/// verdict.
 pub fn add_closing<C: Exclusion>(
     plan: &Plan,
     cluster: &Cluster<C>,

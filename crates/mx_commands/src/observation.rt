@@ -34,8 +34,8 @@ impl Output for NullOutput {
     }
 }
 
-/// Applies the events of a plan in order, by its algorithm. The sink sees each event, and the end
-/// of a run without fault. What it appends is dropped.
+/// Applies events in order to the cluster of a plan. The sink is told of each event, and of the end
+/// of a run without fault. The text that the sink appends is dropped.
 ///
 /// # Errors
 ///

@@ -1,4 +1,4 @@
-//! `replay`: the plan is read, then the events, and they happen one after another.
+//! `replay`: the plan is read, then the events, and the events happen one after another.
 
 ghost use Rattle.std.specs.Prelude.{◌≡◌, IfOk};
 ghost use Rattle.mx_cli.specs.Words.{names_of};
@@ -14,7 +14,7 @@ use mx_io::{Output, Source};
 use mx_plan::{Plan, read_events};
 use std::alloc::Global;
 
-/// Reads the plan, then the events, and replays them. Returns the status.
+/// Reads the plan, then the events, replays the events, and prints their lines. Returns the status.
 pub(crate) fn replay<S: Source, O: Output>(
     alloc: Global,
     names: &Names<'_>,
@@ -31,7 +31,7 @@ pub(crate) fn replay<S: Source, O: Output>(
     replay_events(alloc, &both.plan, both.text.as_slice(), out)
 }
 
-/// Reads the events and replays them, by the plan's algorithm.
+/// Reads the events in `text`, and replays them in the cluster of the plan. Returns the status.
 fn replay_events<O: Output>(
     alloc: Global,
     plan: &Plan,

@@ -1,4 +1,4 @@
-//! The cluster of a plan, and one event of it.
+//! The start of the cluster of a plan, and the step by one event.
 
 ghost use Rattle.std.specs.Prelude.{◌≡◌, ◌<◌, List, [], ◌∷◌, ◌++◌, length, string_bytes, OnOk, IfOk, IfErr};
 ghost use Rattle.mx_network.specs.Step.{step_of};
@@ -14,7 +14,7 @@ use mx_nodelaws::Exclusion;
 use mx_plan::Plan;
 use std::alloc::{AllocError, Global};
 
-/// Creates the cluster of a plan, at rest.
+/// Creates the cluster of a plan, at rest. `shape` is that of the plan, for the algorithm `C`.
 pub fn start<C: Exclusion>(
     alloc: Global,
     plan: &Plan,
@@ -31,7 +31,7 @@ pub fn start<C: Exclusion>(
     )
 }
 
-/// Applies one event, and appends its text.
+/// Applies the event of this index, and appends its line and those of the parcels that it sends.
 pub fn step<C: Exclusion>(
     plan: &Plan,
     index: u64,

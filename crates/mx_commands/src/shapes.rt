@@ -1,9 +1,9 @@
 //! What is done with the cluster of a plan, whatever its algorithm.
 
-/// Starts the cluster of a plan, by the plan's algorithm, and hands it on under this name, as in
-/// `by_shape!(alloc, plan, |cluster| run(alloc, plan, cluster, events, out))`. What is done with it
-/// is written out for each algorithm, so that it may call what is generic over them. Where memory
-/// is refused, the function that calls this returns with that.
+/// Starts the cluster of a plan, by the plan's algorithm, and evaluates an expression on it, as in
+/// `by_shape!(alloc, plan, |cluster| run(alloc, plan, cluster, events, out))`. The expression is
+/// written out for each algorithm, and can call functions that are generic over the algorithm. If
+/// memory runs out, the calling function returns the error.
 #[macro_export]
 macro_rules! by_shape {
     ($alloc:expr, $plan:expr, |$cluster:ident| $done:expr) => {

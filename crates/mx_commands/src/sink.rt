@@ -11,7 +11,7 @@ use mx_nodelaws::Exclusion;
 use mx_plan::Plan;
 use std::alloc::{AllocError, Global};
 
-/// A cluster, as a contract of a sink sees it.
+/// A cluster as the contracts of `Sink` see it: the algorithm of its nodes, and its state.
 pub trait Running {
     /// The algorithm of its nodes.
     type Core: Exclusion;
@@ -25,14 +25,14 @@ impl<C: Exclusion> Running for Cluster<C> {
     ghost state = { λ cluster. cluster };
 }
 
-/// A sink of the events of a run, by a cluster `R`. It appends what is printed of each event, and
-/// of the end.
+/// A sink is told of each event of a run of a cluster `R`, and of the end. It appends what is to be
+/// printed of them.
 pub trait Sink<R: Running> {
-    // what it prints of a run of a plan; this does not change during the run
+    // what the sink prints of a run of a plan; this does not change during the run
     ghost texts: { Self → Fields → Texts R.Core R.Core.Msg };
 
     /// Appends the text of the newest event of a run. The event has this index, and sent the
-    /// parcels from `before` on.
+    /// parcels from the number `before` on.
     ///
     /// # Errors
     ///

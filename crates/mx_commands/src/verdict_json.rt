@@ -1,4 +1,4 @@
-//! The object of a verdict, as JSON.
+//! A verdict as an object of JSON.
 
 ghost use Rattle.std.specs.Prelude.{◌≡◌, Some};
 ghost use Rattle.mx_commands.specs.VerdictLines.{broken_json, clause_text, verdict_json};
@@ -7,7 +7,7 @@ use mx_explorer::{Clause, Verdict};
 use mx_format::json::{Number, Word};
 use std::fmt;
 
-/// The object of a verdict.
+/// A verdict as an object of JSON.
 #[derive(Clone, Copy)]
 pub struct VerdictJson(pub Verdict);
 
@@ -26,7 +26,8 @@ impl fmt::Display for VerdictJson {
     }
 }
 
-/// The object of a broken verdict: the index of the event that breaks the trace, and the clause.
+/// The verdict that a trace is broken, as an object of JSON: the index of the event that breaks the
+/// trace, and the word for the clause.
 #[derive(Clone, Copy)]
 struct BrokenJson<'a> {
     index: u64,
@@ -43,7 +44,7 @@ impl fmt::Display for BrokenJson<'_> {
     }
 }
 
-/// What is broken.
+/// Returns the word for the clause that a trace breaks.
 fn clause_name(clause: Clause) -> &'static str
     ensures { result.now ≡ clause_text clause }
 {

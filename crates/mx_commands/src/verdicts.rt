@@ -9,7 +9,7 @@ use mx_explorer::{Clause, Verdict};
 use std::alloc::AllocError;
 use std::fmt;
 
-/// What is broken.
+/// The word for the clause that a trace breaks.
 #[derive(Clone, Copy)]
 pub struct ClauseText(pub Clause);
 
@@ -42,7 +42,7 @@ impl fmt::Display for VerdictLine {
     }
 }
 
-/// Appends a verdict: its object of JSON, or its line.
+/// Appends the line of a verdict, or its object of JSON if `is_json`.
 pub fn add_verdict(is_json: bool, verdict: Verdict, text: &mut String) -> Result<(), AllocError>
     ensures { OnOk result (string_bytes text.new
         ≡ string_bytes text.old ++ verdict_text is_json verdict) }
@@ -53,7 +53,7 @@ pub fn add_verdict(is_json: bool, verdict: Verdict, text: &mut String) -> Result
     text.write(VerdictLine(verdict))
 }
 
-/// Returns the status for a verdict.
+/// Returns the exit status for a verdict: 0 if the trace is sound, 4 if it is broken.
 pub fn verdict_status(verdict: Verdict) -> u8
     ensures { result ≡ verdict_status verdict }
 {

@@ -1,4 +1,4 @@
--- What the words of `count`, and of `explore` with `--count`, ask for, as `clap` reads them.
+-- The arguments of `count`, and of `explore` with `--count` or `--json`, as `clap` parses them.
 use Rattle.std.specs.Prelude.{ℕ, Bool, not, List, [], ◌∷◌, Option, Some, None, codes, if◌then◌else◌, option_map}
 use Rattle.std.specs.Str.{bytes_eq}
 use Rattle.clap.specs.Words.{App, Row, Text}
@@ -8,12 +8,13 @@ use Rattle.mx_cli.specs.declared.table.CommandId.TheVariants as id
 use Rattle.mx_count.specs.declared.words.Request.{Request as Told}
 use Rattle.mx_count.specs.declared.words.Request.TheVariants.{Given, Drawn}
 
--- the whole command line
+-- the command line of `mx` with `count` and `explore` as its only commands
 unfoldable pub count_line : App
 count_line = line_of (id.Count ∷ id.ExploreCount ∷ [])
 
--- what is to be counted: what comes of the events of these names, or of those of a seed and a
--- number of steps; and whether as JSON, and the first counts alone
+-- what is counted: events in a file, by the names of the plan and of the events; or drawn events,
+-- by the name of the plan, a seed and a number of steps. The first flag is whether JSON is printed,
+-- the second whether only the first counts are
 pub data Request : Type 0 where
   given : Text × Text → Bool → Request
   drawn : Text → ℕ → ℕ → Bool → Bool → Request
@@ -23,7 +24,7 @@ request_of (Given names is_json) = given (names_of names) is_json
 request_of (Drawn exploration is_json is_brief) =
     drawn exploration.plan.now exploration.seed exploration.steps is_json is_brief
 
--- what was given for the arguments of each command
+-- the request of the given arguments of `count` and (below) of `explore`
 abbrev pub given_in : List Row → Option Request
 given_in rows =
     option_map (λ names. given names (is_given (codes "json") rows)) (names_at rows)
@@ -40,6 +41,6 @@ request_in (Some p) =
     else if bytes_eq p.0 (codes "explore") then drawn_in p.1
     else None
 
--- what the words ask to count, where they ask for that
+-- the request of these words, if they are `count` or `explore` with its arguments
 unfoldable pub request_asked : List Text → Option Request
 request_asked words = asked_of count_line request_in words

@@ -1,4 +1,4 @@
--- What is counted of the events of a run.
+-- The counts of a run of events.
 use Rattle.std.specs.Prelude.{◌≡◌, ℕ, ◌++◌, Bool, List, [], codes, length, if◌then◌else◌}
 use Rattle.std.specs.List.{count_by}
 use Rattle.mx_nodelaws.specs.Core.{Core}
@@ -25,7 +25,7 @@ use Rattle.mx_count.specs.declared.counted_run.EventSource.{EventSource}
 use Rattle.mx_count.specs.declared.counted_run.Options.{Options}
 use Rattle.mx_count.specs.declared.counted_run.EventSource.TheVariants.{Given, Drawn}
 
--- how many events, sections and parcels there are, as `count` and as `explore` has them
+-- the numbers of events, sections and parcels, as `count` and (below) as `explore` prints them
 abbrev pub head_text : Bool → ℕ → ℕ → ℕ → Text
 head_text is_json events sections parcels =
     first_tally_text is_json (codes "events") events
@@ -45,7 +45,7 @@ abbrev pub first_text : EventSource → Bool → ℕ → ℕ → ℕ → Text
 first_text Given is_json events sections parcels = head_text is_json events sections parcels
 first_text Drawn is_json events sections parcels = explored_head is_json events sections parcels
 
--- the counts after the first ones, and those of the nodes, unless the counts are brief
+-- the counts after the first ones, and (below) those of the nodes; nothing, if the counts are brief
 abbrev pub details_text : {S M : Type 0} → (M → Text) → List Text → Options → ClusterState S M → ℕ
     → Text
 details_text kind_text words options g sections =
@@ -54,7 +54,7 @@ details_text kind_text words options g sections =
 abbrev pub all_nodes_text : {S M : Type 0} → Options → Fields → ClusterState S M → Text
 all_nodes_text options p g = if options.is_brief then [] else nodes_text options.is_json p g
 
--- the counts of a cluster after this many events; if they are brief, its first counts alone
+-- the counts of a cluster after this many events; if the counts are brief, only the first ones
 abbrev pub cluster_text : {S M : Type 0} → (M → Text) → List Text → Options → ℕ → ClusterState S M
     → Text
 cluster_text kind_text words options events g =
@@ -62,29 +62,29 @@ cluster_text kind_text words options events g =
     first_text options.source options.is_json events sections (length g.sent)
     ++ details_text kind_text words options g sections ++ counts_end options.is_json
 
--- the counts of a cluster, those of its nodes, unless they are brief, and the verdict, which is
--- sound
+-- the counts of a cluster and, unless the counts are brief, those of its nodes; then the verdict,
+-- which is sound
 abbrev pub counts_text : {S M : Type 0} → (M → Text) → List Text → Options → Fields → ℕ
     → ClusterState S M → Text
 counts_text kind_text words options p events g =
     cluster_text kind_text words options events g ++ all_nodes_text options p g
     ++ verdict_text options.is_json Sound
 
--- events lead from one cluster to another: those that were given all happen, and of those that were
--- drawn the ones that can
+-- the events lead from one cluster to another. Given events all happen; a drawn event that cannot
+-- happen changes nothing
 abbrev pub Leads : {H S M : Type 0} → EventSource → Core H S M → ClusterState S M → List Event
     → ClusterState S M → Type 0
 Leads Given core g es new = RunsTo core g es new
 Leads Drawn core g es new = after_drawn core g es ≡ new
 
--- the counts of a cluster to which these events lead were appended to a text
+-- the events lead to a cluster, and its counts and the verdict were appended to a text
 abbrev pub AddsCounts : {H S M : Type 0} → Core H S M → (M → Text) → List Text → Options → Fields
     → List Event → ClusterState S M → Text → Text → Type 0
 AddsCounts {H} {S} {M} core kind_text words options p es start old new =
     (g : ClusterState S M) × Leads options.source core start es g
     × (new ≡ old ++ counts_text kind_text words options p (length es) g)
 
--- the same of events that lead from the cluster of a plan, at rest, by its algorithm
+-- the same for events that start in the cluster of a plan, at rest, by the plan's algorithm
 abbrev pub AddsCountsBy : Options → Fields → List Event → Text → Text → Shape → Type 0
 AddsCountsBy options p es old new (Ricart count) =
     AddsCounts ricart_core (word_by ricart_parts) ricart_words options p es

@@ -1,4 +1,4 @@
--- What is counted of a cluster after its events, and the texts of that.
+-- The counts of a cluster after its events, and the texts of these counts.
 use Rattle.std.specs.Prelude.{ℕ, ◌++◌, Bool, List, [], codes}
 use Rattle.std.specs.List.{count_by}
 use Rattle.mx_member.specs.declared.parcel.Parcel.{Parcel}
@@ -20,7 +20,8 @@ abbrev pub parcels_text : {M : Type 0} → (M → Text) → Bool → Text → Li
 parcels_text kind_text is_json indent sent =
     each_text (λ name. tally_text is_json indent name (count_by (is_under kind_text name) sent))
 
--- the letters and their kinds, the letters of nodes to themselves, and gossip and its kinds
+-- the counts of letters and their kinds, of letters from nodes to themselves, and of gossip and its
+-- kinds
 abbrev pub all_parcels_text : {M : Type 0} → (M → Text) → List Text → Bool
     → List (ℕ × ℕ × Parcel M) → Text
 all_parcels_text kind_text words is_json sent =
@@ -37,13 +38,13 @@ abbrev pub refusals_text : Bool → Text → List Entry → List Text → Text
 refusals_text is_json indent trace =
     each_text (λ name. tally_text is_json indent name (count_by (is_entry_under name) trace))
 
--- all refusals, and those of each cause
+-- the counts of all refusals, and of those for each cause
 abbrev pub all_refusals_text : Bool → List Entry → Text
 all_refusals_text is_json trace =
     refusals_text is_json [] trace refused_names
     ++ refusals_text is_json part_indent trace cause_names
 
--- ---- all of them
+-- ---- all counts
 
 -- the longest wait, the response time and the synchronization delay
 abbrev pub times_text : {M : Type 0} → Bool → List (ℕ × ℕ × Parcel M) → List Entry → Text
@@ -51,8 +52,8 @@ times_text is_json sent trace =
     tally_text is_json [] (codes "longest wait") (longest_wait trace)
     ++ measure_text is_json sent trace Response ++ measure_text is_json sent trace Delay
 
--- the counts of a cluster in which this many sections were entered, for each word of the
--- algorithm's letters
+-- the counts after the first ones, of a cluster in which this many sections were entered. `words`
+-- are the words of the algorithm's letters
 abbrev pub tallies_text : {S M : Type 0} → (M → Text) → List Text → Bool → ClusterState S M → ℕ
     → Text
 tallies_text kind_text words is_json g sections =

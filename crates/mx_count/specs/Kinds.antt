@@ -10,8 +10,8 @@ use Rattle.mx_plan.specs.Text.{Text}
 use Rattle.mx_count.specs.declared.kinds.Group.{Group}
 use Rattle.mx_count.specs.declared.kinds.Group.TheVariants.{Named, SentBy}
 
--- a letter counts under `letters` and under its kind, unless a node sent it to itself; a parcel of
--- gossip counts under `gossip` and under its kind
+-- a letter counts under `letters` and under its kind, but only under `own` if a node sent it to
+-- itself; a parcel of gossip counts under `gossip` and under its kind
 module _ {M : Type 0} (kind_text : M → Text) (name : Text) where
   abbrev pub is_kind : ℕ → ℕ → Parcel M → Bool
   is_kind from to (parcel.Guard letter) =
@@ -33,19 +33,19 @@ is_refused_under name (Refused cause) =
     bytes_eq name (codes "refused") || bytes_eq name (cause_words cause)
 is_refused_under name _ = false
 
--- the names of the parts of all parcels, in the order of their lines; the parts of the letters are
--- the words of the algorithm's letters
+-- the name under which all letters are counted, and (below) those for the other parcels, in the
+-- order of their lines. The names for the kinds of letters are the words of the algorithm's letters
 abbrev pub letter_names : List Text
 letter_names = codes "letters" ∷ []
 
 abbrev pub other_names : List Text
 other_names = codes "own" ∷ codes "gossip" ∷ []
 
--- the names of the parts of gossip
+-- the names of the kinds of gossip
 abbrev pub gossip_names : List Text
 gossip_names = codes "want" ∷ codes "base" ∷ codes "records" ∷ []
 
--- the name of all refusals, and those of its parts
+-- the name under which all refusals are counted, and (below) those for each cause
 abbrev pub refused_names : List Text
 refused_names = codes "refused" ∷ []
 
@@ -55,7 +55,7 @@ cause_names =
     ∷ codes "numbers spent" ∷ codes "not inside" ∷ codes "no register" ∷ codes "gap"
     ∷ codes "full" ∷ codes "below" ∷ []
 
--- parcels that are counted together: those under a name, or those that a node sent
+-- a parcel is in a group: it counts under the group's name, or the group's node sent it
 abbrev pub is_in : {M : Type 0} → (M → Text) → Group → ℕ × ℕ × Parcel M → Bool
 is_in kind_text (Named name) = is_under kind_text name.now
 is_in kind_text (SentBy node) = λ x. nat_eq x.0 node

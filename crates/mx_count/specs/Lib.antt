@@ -1,8 +1,8 @@
 -- Kinds: under which names parcels and refusals are counted. Tallies: the texts of counts. Waits:
 -- how long nodes waited. NodeCounts: the counts of each node. Measures: response times and
--- synchronization delays. Counts: the counts of a cluster. Counted: what is counted of the events
--- of a run. Listed: what is printed of events that a text lists, or that were drawn. CountWords:
--- what the words ask to count. Printed: what is printed of a plan and its events.
+-- synchronization delays. Counts: the counts of a cluster. Counted: the counts of a run of events.
+-- Listed: what is printed of events that a text lists, or that were drawn. CountWords: the
+-- arguments of `count` and `explore`. Printed: what is printed for a request.
 pub mod Kinds
 pub mod Tallies
 pub mod Waits

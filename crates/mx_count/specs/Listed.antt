@@ -12,27 +12,27 @@ use Rattle.mx_count.specs.declared.counted_run.EventSource.{EventSource}
 use Rattle.mx_count.specs.declared.counted_run.Options.{Options}
 use Rattle.mx_count.specs.declared.counted_run.EventSource.TheVariants.{Given}
 
--- where the events come from, and whether their counts are printed as JSON, and only the first
+-- where the events come from, whether JSON is printed, and whether only the first counts are
 abbrev pub options_of : EventSource → Bool → Bool → Options
 options_of source is_json is_brief =
     record { source = source; is_json = is_json; is_brief = is_brief }
 
--- the counts of a cluster to which the events lead were printed, by the plan's algorithm, and
--- nothing else
+-- the events lead to a cluster, by the plan's algorithm. Its counts and the verdict were printed,
+-- and nothing else
 abbrev pub PrintsCountsOf : Options → Fields → List Event → Held → Held → Type 0
 PrintsCountsOf options p es old new =
     (text : Text) × AddsCountsBy options p es [] text p.shape × Appends old new text
 
--- these events of the plan were read
+-- the file of events can be read, and lists these events, with names from the plan
 abbrev pub Lists : Fields → Telling → List Event → Type 0
 Lists p None es = ⊥
 Lists p (Some bytes) es = events_at p bytes ≡ Ok es
 
--- the same, where something is told of them
+-- the same, if the source states what the file holds
 abbrev pub AreEventsOf : Option Telling → Fields → List Event → Type 0
 AreEventsOf told p es = IfSome told (λ telling. Lists p telling es)
 
--- the counts of the events that a text lists were printed
+-- the text lists events. Their counts and the verdict were printed, and nothing else
 abbrev pub PrintsListed : Bool → Fields → Text → Held → Held → Type 0
 PrintsListed is_json p bytes old new =
     (es : List Event) × (events_at p bytes ≡ Ok es)

@@ -19,8 +19,7 @@ use Rattle.mx_count.specs.declared.measures.Measure.TheVariants.{Response, Delay
 
 -- ---- letters
 
--- a letter from one node to another, among the parcels of gossip and the letters of nodes to
--- themselves
+-- the parcel is a letter from one node to another, neither gossip nor a letter to its own sender
 abbrev pub is_between : {M : Type 0} → ℕ → ℕ → Parcel M → Bool
 is_between from to (Guard letter) = not (nat_eq from to)
 is_between from to _ = false
@@ -34,26 +33,27 @@ abbrev pub delivers_letter : {M : Type 0} → List (ℕ × ℕ × Parcel M) → 
 delivers_letter sent (Deliver k) = is_letter (slice_get sent k)
 delivers_letter sent _ = false
 
--- the letters delivered, repeated ones too
+-- the number of letters that are delivered in these items of the trace, repeated ones too
 abbrev pub letters_in : {M : Type 0} → List (ℕ × ℕ × Parcel M) → List Entry → ℕ
 letters_in sent es = count_by (λ entry. delivers_letter sent entry.event) es
 
--- ---- where they end
+-- ---- where response times and delays end
 
--- the place, if what is there is of this kind
+-- this index, if the item there satisfies `p`
 abbrev pub place_if : (Entry → Bool) → List Entry → Option ℕ → Option ℕ
 place_if p es None = None
 place_if p es (Some k) = if option_map_or p (slice_get es k) false then Some k else None
 
--- a response time ends where the node that asked enters, unless it gives up before
+-- the end of a response time: the next entry of the node that asked, unless the node cancels before
 abbrev pub response_end : ℕ → List Entry → Option ℕ
 response_end node es = place_if is_entry es (position (ends_wait node) es)
 
--- a synchronization delay ends at the next section, unless it is of the node that left
+-- the end of a synchronization delay: the next entry, if it is not of the node that left
 abbrev pub delay_end : ℕ → List Entry → Option ℕ
 delay_end node es = place_if (λ entry. not (is_entry_of node entry)) es (position is_entry es)
 
--- a response time begins where a node asks, a synchronization delay where it leaves
+-- the end of the response time that starts with this outcome, if it is `asked`; and (below) of the
+-- synchronization delay that starts with this event, if it is a `leave` that is not refused
 abbrev pub response_from : Outcome → List Entry → Option ℕ
 response_from (Asked stamp) es = response_end stamp.node es
 response_from _ es = None
@@ -68,20 +68,20 @@ end_from Delay entry es = delay_from entry.event entry.outcome es
 
 -- ---- the measures of a trace
 
--- the letters that are delivered up to a place
+-- how many letters are delivered before this index, if there is one
 abbrev pub letters_until : {M : Type 0} → List (ℕ × ℕ × Parcel M) → List Entry → Option ℕ → List ℕ
 letters_until sent es None = []
 letters_until sent es (Some k) = letters_in sent (take k es) ∷ []
 
--- the letters of each of them, in the order in which they begin
+-- how many letters are delivered in each response time, or each delay, in the order of their starts
 unfoldable pub measured : {M : Type 0} → Measure → List (ℕ × ℕ × Parcel M) → List Entry → List ℕ
 measured measure sent [] = []
 measured measure sent (e ∷ es) =
     letters_until sent es (end_from measure e es) ++ measured measure sent es
 
--- ---- their text
+-- ---- the text of a measure
 
--- the least, the sum and the greatest of numbers, from those of others on
+-- the least of a number and a list of numbers, and (below) their sum and the greatest
 unfoldable pub least_from : ℕ → List ℕ → ℕ
 least_from least [] = least
 least_from least (x ∷ xs) = least_from (min least x) xs

@@ -1,4 +1,4 @@
--- What is printed of the plan and the events that the words ask to count.
+-- What is printed for a request to count.
 use Rattle.std.specs.Prelude.{◌≡◌, false, List, Option}
 use Rattle.mx_events.specs.declared.event.Event.{Event}
 use Rattle.mx_plan.specs.Text.{Text}
@@ -12,8 +12,8 @@ use Rattle.mx_count.specs.declared.counted_run.Options.{Options}
 use Rattle.mx_count.specs.declared.counted_run.EventSource.TheVariants.{Given, Drawn}
 use Rattle.mx_count.specs.CountWords.{Request, given, drawn}
 
--- the plan and the events that the words ask for: those that the source tells of, or the schedule
--- of the seed
+-- the request is for this plan and these events: those in its files, if the source states what the
+-- files hold; or the plan in its file, and the events drawn from its seed
 abbrev pub IsRunOf : (Text → Option Telling) → Request → Fields → List Event → Type 0
 IsRunOf told (given names is_json) p es =
     IsPlanOf (plan_told told names) p × AreEventsOf (text_told told names) p es
@@ -24,7 +24,8 @@ abbrev pub options_in : Request → Options
 options_in (given names is_json) = options_of Given is_json false
 options_in (drawn name seed steps is_json is_brief) = options_of Drawn is_json is_brief
 
--- the plan and the events were read, or drawn, and their counts were printed
+-- the plan was read, and the events were read or drawn. Their counts and the verdict were printed,
+-- and nothing else
 abbrev pub PrintsCounts : (Text → Option Telling) → Request → Held → Held → Type 0
 PrintsCounts told request old new =
     (p : Fields) × (es : List Event) × IsRunOf told request p es

@@ -3,22 +3,22 @@ use Rattle.std.specs.Prelude.{ℕ, ◌*◌, ◌/◌, ◌%◌, ◌++◌, Bool, []
 use Rattle.mx_plan.specs.Text.{Text, line_feed}
 use Rattle.mx_format.specs.Members.{number_member, number_start}
 
--- how far a part is indented below its sum, and a part of a part
+-- the indent of a part below its sum, and (below) of a part of a part
 abbrev pub part_indent : Text
 part_indent = codes "  "
 
 abbrev pub kind_indent : Text
 kind_indent = codes "    "
 
--- a name and its count, after what comes before them
+-- a name and its count, after the text `before`
 abbrev pub named_count : Text → Text → ℕ → Text
 named_count before name count = before ++ name ++ codes " " ++ decimal count
 
--- a number after what it is of
+-- a number after its label
 abbrev pub labelled : Text → ℕ → Text
 labelled label number = label ++ decimal number
 
--- a count: a member, or a part of a line
+-- a count: a member of an object of JSON, or a part of a line
 abbrev pub tally : Bool → Text → Text → ℕ → Text
 tally is_json before name count =
     if is_json then number_member name count else named_count before name count
@@ -27,7 +27,7 @@ tally is_json before name count =
 abbrev pub value_end : Bool → Text
 value_end is_json = if is_json then [] else line_feed
 
--- a count: a member, or a line
+-- a count: a member of an object of JSON, or a whole line
 abbrev pub tally_text : Bool → Text → Text → ℕ → Text
 tally_text is_json indent name count = tally is_json indent name count ++ value_end is_json
 
@@ -46,7 +46,7 @@ key_text name = codes ",\"" ++ name ++ codes "\":"
 abbrev pub value_start : Bool → Text → Text
 value_start is_json name = if is_json then key_text name else name ++ codes " "
 
--- a value that there is none of
+-- the text of a value that is missing
 abbrev pub absent_text : Bool → Text
 absent_text is_json = if is_json then codes "null" else codes "none"
 
@@ -57,7 +57,7 @@ tenths_text whole tenths = decimal whole ++ codes "." ++ decimal tenths
 abbrev pub quotient_text : ℕ → ℕ → Text
 quotient_text sum number = tenths_text (sum / number) ((sum % number) * 10 / number)
 
--- the letters for each section
+-- the letters divided by the sections; `none` or, in JSON, `null` if no section was entered
 abbrev pub share_of : Bool → ℕ → ℕ → Text
 share_of is_json letters sections =
     if sections == 0 then absent_text is_json else quotient_text letters sections

@@ -1,4 +1,4 @@
-//! `count`: from words, named bytes and two outputs to a status.
+//! The command `count`, with its files read from a source and its texts printed to two outputs.
 
 ghost use Rattle.std.specs.Prelude.{◌≡◌, IsSome, IfSome, IfOk};
 ghost use Rattle.mx_cli.specs.Words.{names_of, texts_of};
@@ -17,8 +17,8 @@ use mx_cli::{
 use mx_io::{Output, Source};
 use std::alloc::Global;
 
-/// Runs a command line, without the program's name, that begins with `count`, or with `explore` and
-/// has `--count` or `--json`. Prints the counts of a run. Returns the exit status:
+/// Runs `count`, or `explore` with `--count` or `--json`, and prints the counts of a run. `words`
+/// is the command line without the program's name. Returns the exit status:
 ///
 /// - 0 on success, or if help was requested;
 /// - 1 for an error in the plan, its events, a file or an output;
@@ -47,7 +47,8 @@ pub fn count<S: Source, O: Output, E: Output>(
     }
 }
 
-/// Counts what is asked for, and closes the run. Returns the status.
+/// Prints the counts that `request` asks for, flushes `out`, and writes to `err` why the command
+/// ended early, if it did. Returns the exit status.
 fn count_and_close<S: Source, O: Output, E: Output>(
     alloc: Global,
     request: &Request<'_>,
@@ -65,7 +66,7 @@ fn count_and_close<S: Source, O: Output, E: Output>(
     close(alloc, ended, &request.names(), out, err)
 }
 
-/// Counts what is asked for. Returns the status.
+/// Prints the counts that `request` asks for. Returns the exit status.
 fn count_request<S: Source, O: Output>(
     alloc: Global,
     request: &Request<'_>,
@@ -86,7 +87,7 @@ fn count_request<S: Source, O: Output>(
     }
 }
 
-/// Reads a plan and its events, as `replay` does, and prints what is counted of them.
+/// Reads a plan and its events, as `replay` does, and prints the counts of their run.
 fn count_given<S: Source, O: Output>(
     alloc: Global,
     names: &Names<'_>,
@@ -104,7 +105,7 @@ fn count_given<S: Source, O: Output>(
     naming(ended, Named::Events)
 }
 
-/// Reads a plan, draws a schedule of this many steps, and prints what is counted of it.
+/// Reads the plan of an exploration, draws its events, and prints the counts of their run.
 fn count_drawn<S: Source, O: Output>(
     alloc: Global,
     exploration: &Exploration<'_>,

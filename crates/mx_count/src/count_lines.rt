@@ -5,7 +5,7 @@ ghost use Rattle.mx_count.specs.Tallies.{labelled, named_count, tenths_text};
 
 use std::fmt;
 
-/// A name and its count, after their indentation, or what separates them from the count before.
+/// A name and its count, after an indentation, or after what separates them from an earlier count.
 #[derive(Clone, Copy)]
 pub(crate) struct NamedCount<'a> {
     pub(crate) before: &'a str,
@@ -36,7 +36,7 @@ impl fmt::Display for TenthsText {
     }
 }
 
-/// A number after what it is of.
+/// A number, directly after a text that says what it is.
 #[derive(Clone, Copy)]
 pub(crate) struct Labelled<'a>(pub(crate) &'a str, pub(crate) u64);
 

@@ -27,9 +27,10 @@ use std::alloc::{AllocError, Global};
 /// Where the events of a run come from.
 #[derive(Clone, Copy)]
 pub enum EventSource {
-    /// They were given, and each has to happen.
+    /// A file lists them. The delivery of a parcel that was not sent is a fault.
     Given,
-    /// They were drawn: a delivery takes its place among the parcels sent.
+    /// They were drawn from a seed. The random number in a delivery chooses one of the newest
+    /// parcels sent; if there is none, nothing happens.
     Drawn,
 }
 
@@ -37,14 +38,14 @@ pub enum EventSource {
 #[derive(Clone, Copy)]
 pub struct Options {
     pub source: EventSource,
-    /// Whether as JSON.
+    /// Whether JSON is printed, in place of lines.
     pub is_json: bool,
-    /// Whether without what `explore` prints with `--count` alone.
+    /// Whether only the numbers of events, sections and parcels are printed, and the verdict.
     pub is_brief: bool,
 }
 
-/// The events happen, by the plan's algorithm; then what is counted of them, and the verdict.
-/// Returns the status.
+/// Runs the events by the plan's algorithm, and appends their counts and the verdict. Returns the
+/// exit status.
 pub(crate) fn add_counts_of(
     alloc: Global,
     plan: &Plan,
@@ -63,7 +64,8 @@ pub(crate) fn add_counts_of(
     )
 }
 
-/// The events happen; then what is counted of them, and the verdict. Returns the status.
+/// Runs the events in this cluster, and appends their counts and the verdict. Returns the exit
+/// status.
 fn add_counts_after<C: Exclusion>(
     alloc: Global,
     plan: &Plan,
@@ -82,7 +84,8 @@ where
     add_counts(alloc, plan, &cluster, events.len() as u64, options, text)
 }
 
-/// Each event in turn.
+/// Applies the events in order. A given event that is not possible is a fault; a drawn one is
+/// passed over.
 fn apply_events<C: Exclusion>(
     cluster: &mut Cluster<C>,
     events: &[Event],
@@ -96,7 +99,7 @@ fn apply_events<C: Exclusion>(
     }
 }
 
-/// Runs the events of a file in order; each names nodes of the plan.
+/// Applies the events of a file in order. Fails at the first whose node or parcel does not exist.
 fn run_given<C: Exclusion>(cluster: &mut Cluster<C>, events: &[Event]) -> Result<(), CommandError>
     ensures { OnOk result (RunsTo C.core cluster.old events.now cluster.new) }
 {
@@ -107,7 +110,7 @@ fn run_given<C: Exclusion>(cluster: &mut Cluster<C>, events: &[Event]) -> Result
     }
 }
 
-/// Why the events of a file end at one of them.
+/// Returns the error of the command for a run that stopped at an event.
 fn stop_at(stopped: RunFault) -> CommandError {
     match stopped.fault {
         StepFault::Memory => CommandError::Memory,
@@ -117,7 +120,8 @@ fn stop_at(stopped: RunFault) -> CommandError {
     }
 }
 
-/// Appends the counts of a cluster and of its nodes, and the verdict. Returns the status.
+/// Appends the counts of a cluster after `steps` events, those of its nodes, and the verdict.
+/// Returns the exit status.
 fn add_counts<C: Exclusion>(
     alloc: Global,
     plan: &Plan,
@@ -139,7 +143,7 @@ where
     Ok(verdict_status(verdict))
 }
 
-/// Appends the counts of a cluster.
+/// Appends the counts of a whole cluster after `steps` events.
 fn add_cluster<C: Exclusion>(
     alloc: Global,
     cluster: &Cluster<C>,
@@ -158,7 +162,8 @@ where
     add_counts_end(options.is_json, text)
 }
 
-/// Appends how many events, sections and parcels there are, as the commands of these events do.
+/// Appends the numbers of events, sections and parcels: for given events in the form of `count`,
+/// for drawn ones in that of `explore`.
 fn add_first(
     options: Options,
     events: u64,
@@ -175,7 +180,7 @@ fn add_first(
     }
 }
 
-/// Appends how many events, sections and parcels there are.
+/// Appends the numbers of events, sections and parcels, in the form of `count`.
 fn add_head(
     is_json: bool,
     events: u64,
@@ -191,7 +196,7 @@ fn add_head(
     add_tally_line(is_json, "", "parcels", parcels, text)
 }
 
-/// Appends how many steps, sections and parcels an exploration has.
+/// Appends the numbers of steps, sections entered and parcels sent, in the form of `explore`.
 fn add_explored(
     is_json: bool,
     steps: u64,
@@ -212,7 +217,7 @@ fn add_explored(
     })
 }
 
-/// Begins an object with how many steps, sections and parcels an exploration has.
+/// Begins a JSON object with the numbers of steps, sections entered and parcels sent.
 fn add_explored_members(
     steps: u64,
     entered: u64,
@@ -227,7 +232,8 @@ fn add_explored_members(
     add_number("sent", sent, text)
 }
 
-/// Appends the other counts of a cluster, unless they are brief.
+/// Appends the counts after those of events, sections and parcels, unless the options are brief.
+/// `entered` is the number of sections entered.
 fn add_details<C: Exclusion>(
     alloc: Global,
     cluster: &Cluster<C>,
@@ -246,7 +252,8 @@ where
     add_tallies(alloc, cluster, options.is_json, entered, text)
 }
 
-/// Appends what is counted of the parcels and of the refusals, and how long requests took.
+/// Appends the counts of parcels and of refusals, and how long requests took. `entered` is the
+/// number of sections entered.
 fn add_tallies<C: Exclusion>(
     alloc: Global,
     cluster: &Cluster<C>,

@@ -1,4 +1,4 @@
-//! Under which names parcels and refusals are counted.
+//! The names under which parcels and refusals are counted.
 
 ghost use Rattle.std.specs.Prelude.{◌≡◌, ◌||◌, map};
 ghost use Rattle.std.specs.Str.{bytes_eq};
@@ -19,14 +19,14 @@ pub(crate) enum Group<'a> {
     SentBy(NodeId),
 }
 
-/// The name of all letters from one node to another.
+/// Returns the one name under which all letters from one node to another are counted.
 pub(crate) fn letter_names() -> &'static [&'static str]
     ensures { map (λ name. name.now) result.now ≡ letter_names }
 {
     &["letters"]
 }
 
-/// The names of the other parcels.
+/// Returns the names of the other parcels: letters of nodes to themselves, and gossip.
 pub(crate) fn other_names() -> &'static [&'static str]
     ensures { map (λ name. name.now) result.now ≡ other_names }
 {
@@ -40,7 +40,7 @@ pub(crate) fn gossip_names() -> &'static [&'static str]
     &["want", "base", "records"]
 }
 
-/// The name of all refusals.
+/// Returns the one name under which all refusals are counted.
 pub(crate) fn refused_names() -> &'static [&'static str]
     ensures { map (λ name. name.now) result.now ≡ refused_names }
 {
@@ -76,8 +76,8 @@ pub(crate) fn is_in<M: Letter>(group: &Group<'_>, sent: &SentParcel<'_, M>) -> b
     }
 }
 
-/// Whether a parcel is counted under a name. A letter that a node sends to itself is one of its
-/// own, and counts under that alone.
+/// Whether a parcel is counted under a name. A letter that a node sends to itself is counted under
+/// `own` alone.
 fn is_under<M: Letter>(name: &str, sent: &SentParcel<'_, M>) -> bool
     ensures { result ≡ is_under (word_by M.parts) name.now
         (sent.now.from, sent.now.to, sent.now.parcel.now) }

@@ -15,17 +15,17 @@ use mx_nodelaws::Exclusion;
 use mx_stamps::NodeId;
 use std::alloc::{AllocError, Global};
 
-/// What is measured in letters.
+/// A time that is measured by the letters delivered in it.
 #[derive(Clone, Copy)]
 pub(crate) enum Measure {
     /// From an ask to the enter of the same node.
     Response,
-    /// From a leave to the next enter, of another node.
+    /// From a leave to the next enter, if that is another node's.
     Delay,
 }
 
-/// Returns the letters delivered in each response time, or in each synchronization delay, in the
-/// order in which they begin.
+/// Returns how many letters were delivered in each response time, or in each synchronization delay,
+/// in the order in which these times begin.
 pub(crate) fn measured<C: Exclusion>(
     alloc: Global,
     cluster: &Cluster<C>,
@@ -37,7 +37,7 @@ pub(crate) fn measured<C: Exclusion>(
     measured_in(alloc, cluster, measure, cluster.trace())
 }
 
-/// Returns the same of a trace.
+/// Returns, for each time of this measure in `trace`, how many letters were delivered in it.
 fn measured_in<C: Exclusion>(
     alloc: Global,
     cluster: &Cluster<C>,
@@ -54,7 +54,8 @@ fn measured_in<C: Exclusion>(
     Ok(numbers)
 }
 
-/// Appends the letters of what begins at an item of the trace and ends after it, if there is such.
+/// Appends the number of letters delivered in the time that begins at `entry` and ends in `rest`,
+/// the items of the trace after it. Appends nothing if there is no such time.
 fn add_measured<C: Exclusion>(
     cluster: &Cluster<C>,
     measure: Measure,
@@ -113,7 +114,8 @@ fn is_between<M>(sent: &SentParcel<'_, M>) -> bool
     }
 }
 
-/// Returns the place after an item of the trace at which what begins there ends.
+/// Returns the index in `rest`, the items of the trace after `entry`, at which the time that begins
+/// at `entry` ends. Returns `None` if no time begins there, or if it does not end.
 fn end_from(measure: Measure, entry: &Entry, rest: &[Entry]) -> Option<usize>
     ensures value { result ≡ end_from measure entry.now rest.now }
     ensures within { IfSome result (λ end. end < length rest.now) }
@@ -124,6 +126,7 @@ fn end_from(measure: Measure, entry: &Entry, rest: &[Entry]) -> Option<usize>
     }
 }
 
+/// Returns the index at which a response time that begins with this outcome ends, if there is one.
 fn response_from(outcome: &Outcome, rest: &[Entry]) -> Option<usize>
     ensures value { result ≡ response_from outcome.now rest.now }
     ensures within { IfSome result (λ end. end < length rest.now) }
@@ -134,6 +137,8 @@ fn response_from(outcome: &Outcome, rest: &[Entry]) -> Option<usize>
     }
 }
 
+/// Returns the index at which a synchronization delay that begins with this event and outcome ends,
+/// if there is one.
 fn delay_from(event: &Event, outcome: &Outcome, rest: &[Entry]) -> Option<usize>
     ensures value { result ≡ delay_from event.now outcome.now rest.now }
     ensures within { IfSome result (λ end. end < length rest.now) }
@@ -144,7 +149,7 @@ fn delay_from(event: &Event, outcome: &Outcome, rest: &[Entry]) -> Option<usize>
     }
 }
 
-/// Returns the place at which a node enters that asked before, if it does not give up.
+/// Returns the index at which a waiting node enters, or `None` if it cancels first or never enters.
 fn response_end(node: NodeId, rest: &[Entry]) -> Option<usize>
     ensures value { result ≡ response_end node rest.now }
     ensures within { IfSome result (λ end. end < length rest.now) }
@@ -159,7 +164,7 @@ fn response_end(node: NodeId, rest: &[Entry]) -> Option<usize>
     }
 }
 
-/// Returns the place of the next section, if another node enters it.
+/// Returns the index at which the next section is entered, unless `node` enters it.
 fn delay_end(node: NodeId, rest: &[Entry]) -> Option<usize>
     ensures value { result ≡ delay_end node rest.now }
     ensures within { IfSome result (λ end. end < length rest.now) }
@@ -174,7 +179,7 @@ fn delay_end(node: NodeId, rest: &[Entry]) -> Option<usize>
     }
 }
 
-/// Returns the place of the next section.
+/// Returns the index at which the next section is entered.
 fn next_entry(rest: &[Entry]) -> Option<usize>
     ensures value { result ≡ position is_entry rest.now }
     ensures within { IfSome result (λ index. index < length rest.now) }

@@ -55,7 +55,8 @@ where
     add_node_end(is_json, text)
 }
 
-/// Appends how often a node entered, how many parcels it sent and got, and its refusals.
+/// Appends how often a node entered, how many parcels it sent and received, and how many of its
+/// events were refused.
 fn add_node_tallies<C: Exclusion>(
     cluster: &Cluster<C>,
     is_json: bool,
@@ -142,21 +143,21 @@ fn refused_of(trace: &[Entry], node: NodeId) -> u64
         .count() as u64
 }
 
-/// Whether a node enters here.
+/// Whether a node enters at this item of the trace.
 pub(crate) fn is_entry_of(node: NodeId, entry: &Entry) -> bool
     ensures { result ≡ is_entry_of node entry.now }
 {
     is_node(node, entry.event.node()) && is_entry(entry)
 }
 
-/// Whether an event of a node is refused here.
+/// Whether this item of the trace is a refused event of a node.
 fn is_refusal_of(node: NodeId, entry: &Entry) -> bool
     ensures { result ≡ is_refusal_of node entry.now }
 {
     is_node(node, entry.event.node()) && is_refusal(&entry.outcome)
 }
 
-/// Whether this node is that of an event.
+/// Whether `owner`, the node of an event if it has one, is this node.
 fn is_node(node: NodeId, owner: Option<NodeId>) -> bool
     ensures { result ≡ is_node node owner }
 {

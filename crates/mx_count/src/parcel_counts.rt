@@ -31,7 +31,7 @@ where
     add_counts_under(cluster, is_json, KIND_INDENT, gossip_names(), text)
 }
 
-/// Appends a count for each of these names.
+/// Appends, for each of these names, how many parcels are counted under it.
 fn add_counts_under<C: Exclusion>(
     cluster: &Cluster<C>,
     is_json: bool,

@@ -1,4 +1,4 @@
-//! What is counted of a plan's events is printed.
+//! Prints the counts of a run of a plan's events.
 
 ghost use Rattle.std.specs.Prelude.{◌≡◌, IfOk};
 ghost use Rattle.mx_commands.specs.Explored.{schedule_of};
@@ -13,7 +13,7 @@ use mx_network::Event;
 use mx_plan::{Plan, read_events};
 use std::alloc::Global;
 
-/// Prints what is counted of the events that a text lists.
+/// Prints the counts of a run of the events that `text` lists. Returns the exit status.
 pub(crate) fn count_listed<O: Output>(
     alloc: Global,
     plan: &Plan,
@@ -34,7 +34,7 @@ pub(crate) fn count_listed<O: Output>(
     print_counts(alloc, plan, events.as_slice(), options, out)
 }
 
-/// Draws a schedule of this many steps, and prints what is counted of it.
+/// Draws the events of an exploration, and prints the counts of their run. Returns the exit status.
 pub(crate) fn count_schedule<O: Output>(
     alloc: Global,
     plan: &Plan,
@@ -51,7 +51,7 @@ pub(crate) fn count_schedule<O: Output>(
     print_counts(alloc, plan, events.as_slice(), options, out)
 }
 
-/// Prints what is counted of these events.
+/// Prints the counts of a run of these events. Returns the exit status.
 fn print_counts<O: Output>(
     alloc: Global,
     plan: &Plan,

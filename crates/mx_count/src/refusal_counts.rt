@@ -22,7 +22,7 @@ pub(crate) fn add_refusal_counts(
     add_refusals_under(trace, is_json, PART_INDENT, cause_names(), text)
 }
 
-/// Appends a count for each of these names.
+/// Appends, for each of these names, how many refusals are counted under it.
 fn add_refusals_under(
     trace: &[Entry],
     is_json: bool,
@@ -39,7 +39,7 @@ fn add_refusals_under(
     Ok(())
 }
 
-/// How many refusals count under a name.
+/// Returns how many refusals are counted under a name.
 fn count_refusals(trace: &[Entry], name: &str) -> u64
     ensures { result ≡ count_by (is_entry_under name.now) trace.now }
 {
@@ -49,7 +49,7 @@ fn count_refusals(trace: &[Entry], name: &str) -> u64
         .count() as u64
 }
 
-/// Whether an item of the trace is a refusal that counts under a name.
+/// Whether an item of the trace is a refusal that is counted under a name.
 fn is_entry_under(name: &str, entry: &Entry) -> bool
     ensures { result ≡ is_entry_under name.now entry.now }
 {

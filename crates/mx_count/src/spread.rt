@@ -11,7 +11,7 @@ use mx_network::Cluster;
 use mx_nodelaws::Exclusion;
 use std::alloc::{AllocError, Global};
 
-/// Appends the least, the mean and the greatest of what is measured.
+/// Appends the name of a measure, and the least, the mean and the greatest of its times in letters.
 pub(crate) fn add_measure<C: Exclusion>(
     alloc: Global,
     cluster: &Cluster<C>,
@@ -60,6 +60,7 @@ fn add_spread(is_json: bool, first: u64, rest: &[u64], text: &mut String) -> Res
     add_measure_end(is_json, text)
 }
 
+/// Returns the text before the least number.
 fn least_start(is_json: bool) -> &'static str
     ensures { result.now ≡ least_start is_json }
 {
@@ -75,12 +76,14 @@ fn add_mean(is_json: bool, first: u64, rest: &[u64], text: &mut String) -> Resul
     add_quotient(sum_of(first, rest), rest.len() as u64 + 1, text)
 }
 
+/// Returns the text before the mean.
 fn mean_start(is_json: bool) -> &'static str
     ensures { result.now ≡ mean_start is_json }
 {
     if is_json { ",\"mean\":" } else { ", mean " }
 }
 
+/// Returns the text before the greatest number.
 fn greatest_start(is_json: bool) -> &'static str
     ensures { result.now ≡ greatest_start is_json }
 {

@@ -13,7 +13,7 @@ pub(crate) const PART_INDENT: &str = "  ";
 /// How far a part of a part is indented.
 pub(crate) const KIND_INDENT: &str = "    ";
 
-/// Appends the first count of an object, or of lines.
+/// Appends the first count: the beginning of a JSON object, or the first line.
 pub(crate) fn add_first_tally(
     is_json: bool,
     name: &str,
@@ -44,7 +44,7 @@ pub(crate) fn add_tally_line(
     add_value_end(is_json, text)
 }
 
-/// Appends a count: a member of an object, or a part of a line, after what comes before it there.
+/// Appends a count: a member of an object, or, after the text `before`, a part of a line.
 pub(crate) fn add_tally(
     is_json: bool,
     before: &str,
@@ -80,7 +80,7 @@ pub(crate) fn add_share(
     add_value_end(is_json, text)
 }
 
-/// Appends the quotient of letters and sections, if there are sections.
+/// Appends `letters` divided by `sections`, or that there is no such value without sections.
 fn add_share_value(
     is_json: bool,
     letters: u64,
@@ -109,7 +109,7 @@ pub(crate) fn add_quotient(sum: u128, number: u64, text: &mut String) -> Result<
     })
 }
 
-/// Appends that there is no such value.
+/// Appends what stands for a value that does not exist: `none`, or `null` in JSON.
 pub(crate) fn add_absent(is_json: bool, text: &mut String) -> Result<(), AllocError>
     ensures { OnOk result (string_bytes text.new
         ≡ string_bytes text.old ++ absent_text is_json) }
@@ -145,7 +145,7 @@ fn add_key(name: &str, text: &mut String) -> Result<(), AllocError>
     text.push_str("\":")
 }
 
-/// Appends what comes after a value.
+/// Appends what comes after a value: the end of its line, or nothing in JSON.
 pub(crate) fn add_value_end(is_json: bool, text: &mut String) -> Result<(), AllocError>
     ensures { OnOk result (string_bytes text.new
         ≡ string_bytes text.old ++ value_end is_json) }

@@ -9,25 +9,26 @@ use clap::{ArgMatches, Error};
 use mx_cli::{CommandId, Exploration, Names, exploration_at, is_given, matches_in, names_at};
 use std::alloc::Global;
 
-/// What is to be counted.
+/// What a command line asks to count.
 #[derive(Clone, Copy)]
 pub(crate) enum Request<'a> {
-    /// What comes of the events that a file has.
+    /// A run of the events that a file lists.
     Given {
         names: Names<'a>,
         is_json: bool,
     },
-    /// What comes of events drawn from a seed.
+    /// A run of events drawn from a seed.
     Drawn {
         exploration: Exploration<'a>,
         is_json: bool,
-        /// Whether the first counts alone.
+        /// Whether only the numbers of events, sections and parcels are printed, and the verdict.
         is_brief: bool,
     },
 }
 
 impl<'a> Request<'a> {
-    /// The names that the lines of faults have.
+    /// Returns the file names for messages about faults. Drawn events have no file: the plan's name
+    /// stands in for it.
     pub(crate) fn names(&self) -> Names<'a> {
         match self {
             Request::Given { names, .. } => *names,
@@ -53,6 +54,7 @@ pub(crate) fn parse<'a>(alloc: Global, words: &'a [&'a str]) -> Result<Option<Re
     Ok(from_matches(&matches))
 }
 
+/// Returns what the command line asks to count, or `None` for another command.
 fn from_matches<'a>(matches: &ArgMatches<'a>) -> Option<Request<'a>>
     ensures { option_map request_of result ≡ request_in (subcommand_rows_of matches.now) }
 {
@@ -63,6 +65,7 @@ fn from_matches<'a>(matches: &ArgMatches<'a>) -> Option<Request<'a>>
     }
 }
 
+/// Returns what `count` asks for.
 fn given_in<'a>(matches: &ArgMatches<'a>) -> Option<Request<'a>>
     ensures { option_map request_of result ≡ given_in (rows_of (found_of matches.now)) }
 {
@@ -75,6 +78,7 @@ fn given_in<'a>(matches: &ArgMatches<'a>) -> Option<Request<'a>>
     })
 }
 
+/// Returns what `explore` with `--count` or `--json` asks for.
 fn drawn_in<'a>(matches: &ArgMatches<'a>) -> Option<Request<'a>>
     ensures { option_map request_of result ≡ drawn_in (rows_of (found_of matches.now)) }
 {

@@ -15,22 +15,23 @@ abbrev pub has_colon : Text → Bool
 has_colon [] = false
 has_colon (b ∷ bs) = (b == 58) || has_colon bs
 
--- printable text with a colon
+-- the text is printable, and has a colon
 pub record IsLine (text : Text) : Type 0 where
   pub printable : ArePrintable text
   pub colon : has_colon text ≡ true
 
--- each line is such a text
+-- the text of each line is printable, and has a colon
 abbrev pub AreLines : List Told → Type 0
 AreLines [] = Unit {0}
 AreLines (t ∷ ts) = IsLine t.text × AreLines ts
 
--- whether a line is of a fault
+-- whether one of the lines is a fault
 abbrev pub has_fault : List Told → Bool
 has_fault [] = false
 has_fault (t ∷ ts) = t.is_fault || has_fault ts
 
--- the line of a file, of a message whose text is known or not
+-- the line is a fault or a warning about this file; its text is the file, a colon and the message,
+-- if the message is known
 pub record IsLineOf (is_fault : Bool) (file : Text) (message : Option Text) (t : Told) : Type 0 where
   pub kind : t.is_fault ≡ is_fault
   pub text : IfSome message (λ said. t.text ≡ shown file ++ codes ":" ++ shown said)
@@ -42,7 +43,8 @@ pub record Reported : Type 0 where
   pub is_well : Bool
   pub lines : List Told
 
--- the lines of a report: none is a fault if the command found none
+-- `lines` are those of a report, and `has` says whether one is a fault; none is if the command
+-- found none
 pub record IsReport (is_well has : Bool) (lines : List Told) : Type 0 where
   pub each : AreLines lines
   pub fault : has ≡ has_fault lines
@@ -55,7 +57,7 @@ pub record IsLonger (old new : Reported) : Type 0 where
   pub lines : new.lines ≡ old.lines ++ added
   pub is_well : new.is_well ≡ old.is_well
 
--- the lines that a report takes: no fault if the command found none
+-- the lines that a report takes: all, but no fault if the command found none
 abbrev pub taken : Bool → List Told → List Told
 taken is_well [] = []
 taken is_well (t ∷ ts) = if is_well && t.is_fault then taken is_well ts else t ∷ taken is_well ts
@@ -94,7 +96,7 @@ pub record CountsWarnings (count : ℕ) (old new : FileLines) : Type 0 where
   pub some : 0 < count → 0 < new.more
   pub hides : new.hides_fault ≡ old.hides_fault
 
--- one line more: it is added, or counted if the file has the greatest number
+-- one line more: it is added, or only counted if the file has the greatest number of lines
 abbrev pub AddsLine : Bool → FileLines → FileLines → Type 0
 AddsLine is_fault old new =
     ((length old.lines < max_lines) × ShowsLine is_fault old new)
@@ -117,16 +119,17 @@ abbrev pub lines_text : List Told → Text
 lines_text [] = []
 lines_text (t ∷ ts) = t.text ++ 10 ∷ lines_text ts
 
--- a further line says that nothing is at fault, if no line is of a fault
+-- the text of all lines; if none is a fault, a further line says that nothing is at fault
 abbrev pub report_text : List Told → Text
 report_text lines = lines_text lines ++ (if has_fault lines then [] else nothing_at_fault ++ 10 ∷ [])
 
--- the last complete line of a text that follows this line and the start of another
+-- the last complete line of a text that goes on after the complete line `last` and the start
+-- `begun` of the next one
 abbrev pub line_after : Text → Text → Text → Text
 line_after last begun [] = last
 line_after last begun (b ∷ bs) = if b == 10 then line_after begun [] bs else line_after last (begun ++ b ∷ []) bs
 
--- the last line of a text, or nothing
+-- the last complete line of a text; nothing if there is none
 unfoldable pub last_line : Text → Text
 last_line text = line_after [] [] text
 

@@ -7,12 +7,12 @@ use crate::messages::Actual;
 use std::alloc::{AllocError, Global};
 use std::fmt;
 
-/// The nodes that earlier edges connect: those with the same number.
+/// For each node, the number of its part. Nodes that earlier edges connect are in the same part.
 #[derive(Drop)]
 struct Parts(Vec<usize>);
 
 impl Parts {
-    /// Creates the parts of a graph without edges: each node is one.
+    /// Creates the parts of a graph without edges: each node is a part of its own.
     fn new(alloc: Global, nodes: usize) -> Result<Self, AllocError> {
         let parts = (0..nodes).collect(alloc)?;
         Ok(Parts(parts))
@@ -36,7 +36,7 @@ impl Parts {
     }
 }
 
-/// Reports the edges between two nodes that earlier edges connect.
+/// Reports each edge between two nodes that earlier edges connect.
 pub(crate) fn report_cycles(
     report: &mut FileReport<'_>,
     edges: &[Node<'_>],
@@ -50,7 +50,8 @@ pub(crate) fn report_cycles(
     Ok(())
 }
 
-/// Reports the k-th edge if it makes a cycle.
+/// Joins the parts of the two `ends` of edge `k`, and reports the edge if earlier edges connect
+/// these ends.
 fn report_cycle(
     report: &mut FileReport<'_>,
     k: usize,

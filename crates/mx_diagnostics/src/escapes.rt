@@ -6,8 +6,8 @@ ghost use Rattle.mx_diagnostics.specs.Escapes.{escaped, shown, shown_char};
 
 use std::alloc::AllocError;
 
-/// Appends a text as it is, but for its control characters, which are escaped: as `\0`, `\t`, `\n`
-/// or `\r`, else by their number, as `\u{1b}`.
+/// Appends `raw` to a text, with its control characters escaped: as `\0`, `\t`, `\n` or `\r`, and
+/// others by their number, such as `\u{1b}`.
 pub(crate) fn add_escaped_text(raw: &str, text: &mut String) -> Result<(), AllocError>
     ensures { OnOk result (string_bytes text.new ≡ string_bytes text.old ++ shown raw.now) }
 {
@@ -17,6 +17,7 @@ pub(crate) fn add_escaped_text(raw: &str, text: &mut String) -> Result<(), Alloc
     Ok(())
 }
 
+/// Appends a character, escaped if it is a control character.
 fn add_character(character: char, text: &mut String) -> Result<(), AllocError>
     ensures { OnOk result (string_bytes text.new ≡ string_bytes text.old ++ shown_char character) }
 {
@@ -27,6 +28,7 @@ fn add_character(character: char, text: &mut String) -> Result<(), AllocError>
     }
 }
 
+/// Appends the escape of a control character.
 fn add_escaped(control: char, text: &mut String) -> Result<(), AllocError>
     ensures { OnOk result (string_bytes text.new ≡ string_bytes text.old ++ escaped control) }
 {
@@ -39,7 +41,7 @@ fn add_escaped(control: char, text: &mut String) -> Result<(), AllocError>
     }
 }
 
-/// Appends the number of a character.
+/// Appends the escape of a control character by its number, such as `\u{1b}`.
 fn add_number(number: u32, text: &mut String) -> Result<(), AllocError>
     ensures { OnOk result (string_bytes text.new
         ≡ string_bytes text.old ++ (codes "\\u{" ++ digits 16 false number ++ codes "}")) }

@@ -17,11 +17,11 @@ use mx_lines::NameLists;
 use mx_stamps::MAX_EVENTS;
 use std::alloc::{AllocError, Global};
 
-/// How many brackets a list of events nests.
+/// How many brackets may be open at once in a correct list of events.
 const NESTING: usize = 2;
 
-/// Adds what is wrong in events that begin below a number of lines of their file, by the names of
-/// the plan.
+/// Adds to the report what is wrong in the text of events. `names` are those of the plan. In the
+/// file, `above` lines come before the text.
 ///
 /// # Errors
 ///
@@ -40,6 +40,7 @@ pub fn explain_event_text<'a>(
     report.add(lines)
 }
 
+/// Adds what is wrong in events to the report on their file.
 fn explain_text<'a>(report: &mut FileReport<'a>, names: &PlanNames, part: Part<'a>) -> Explained {
     let nodes = as_slices(report.alloc(), names.nodes.as_slice())?;
     let registers = as_slices(report.alloc(), names.registers.as_slice())?;
@@ -56,7 +57,8 @@ fn explain_text<'a>(report: &mut FileReport<'a>, names: &PlanNames, part: Part<'
     }
 }
 
-/// Warns if a text that is not a list of events has a line that begins with a word of scripts.
+/// Warns if a text that is not a list of events looks like a script: its first line with words
+/// begins with a word of scripts.
 fn warn_of_script<'a>(report: &mut FileReport<'a>, part: Part<'a>) -> Explained {
     let Some(number) = first_script_line(report.alloc(), part.text)? else {
         return Ok(());
@@ -68,7 +70,7 @@ fn warn_of_script<'a>(report: &mut FileReport<'a>, part: Part<'a>) -> Explained 
     )
 }
 
-/// Explains each event.
+/// Reports what is wrong in a list of events, or in each event by itself.
 fn explain_events(
     report: &mut FileReport<'_>,
     events: Node<'_>,
@@ -95,7 +97,7 @@ fn explain_events(
     Ok(())
 }
 
-/// Explains an event, which has this place.
+/// Reports what is wrong in the event at this place.
 fn explain_event<'a>(
     report: &mut FileReport<'_>,
     place: &Place<'a>,
@@ -128,7 +130,8 @@ fn explain_event<'a>(
     Ok(())
 }
 
-/// Reports a word that no event has. Lists the words, unless lines are only counted.
+/// Reports a word that no event has, and lists the words of events. If the report is full, only
+/// counts the fault.
 fn explain_word(report: &mut FileReport<'_>, place: &Place<'_>, word: &str) -> Explained {
     if report.is_full() {
         return place.expect(report, "");
@@ -143,7 +146,8 @@ fn explain_word(report: &mut FileReport<'_>, place: &Place<'_>, word: &str) -> E
     place.expect_word(report, words.as_slice(), listed.as_str())
 }
 
-/// Explains an argument of a kind.
+/// Reports an argument that is not what its kind requires: a node or a register of the plan, or a
+/// `u64`.
 fn explain_argument(
     report: &mut FileReport<'_>,
     place: &Place<'_>,
@@ -174,7 +178,7 @@ pub struct EventOffsets {
 }
 
 impl EventOffsets {
-    /// Returns the offsets of the events of a text. It stops where the text is no list of events.
+    /// Finds where the events of a text begin. After a fault of JSON, no events are found.
     ///
     /// # Errors
     ///
@@ -190,7 +194,8 @@ impl EventOffsets {
         Ok(EventOffsets { offsets })
     }
 
-    /// Returns the byte at which an event begins, counted from 0.
+    /// Returns the byte at which event `k` begins, or 0 if there is no such event. Events are
+    /// counted from 0.
     pub fn event(&self, k: u64) -> usize {
         match self.offsets.get(k as usize) {
             Some((offset, _)) => *offset,
@@ -198,7 +203,8 @@ impl EventOffsets {
         }
     }
 
-    /// Returns the byte at which the first argument of an event begins.
+    /// Returns the byte at which the first argument of event `k` begins, or 0 if there is no such
+    /// event. Events are counted from 0.
     pub fn argument(&self, k: u64) -> usize {
         match self.offsets.get(k as usize) {
             Some((_, offset)) => *offset,

@@ -10,17 +10,18 @@ use crate::path::Path;
 use mx_lines::nearest;
 use std::alloc::AllocError;
 
-/// A place of a plan or of events: its value, if there is one, and what has to have it.
+/// A place in a plan or in events: its path, and the value there, if there is one.
 #[derive(Clone, Copy)]
 pub(crate) struct Place<'a> {
     pub(crate) path: Path<'a>,
     pub(crate) value: Option<Node<'a>>,
-    /// The byte that is named if there is no value.
+    /// The byte at which the object or array around the place begins. It is reported if there is no
+    /// value.
     pub(crate) parent: usize,
 }
 
 impl<'a> Place<'a> {
-    /// Returns the place of an item of the value.
+    /// Returns the place of item `i` of the array at this place. The item is `value`.
     pub(crate) fn item(&self, i: usize, value: Node<'a>) -> Place<'a> {
         Place {
             path: self.path.item(i),
@@ -29,7 +30,7 @@ impl<'a> Place<'a> {
         }
     }
 
-    /// Returns the byte at which the value begins, or its parent.
+    /// Returns the byte at which the value begins, or `parent` if there is no value.
     pub(crate) fn offset(&self) -> usize {
         match self.value {
             Some(node) => node.offset(),
@@ -37,12 +38,13 @@ impl<'a> Place<'a> {
         }
     }
 
-    /// Reports that something else is expected.
+    /// Reports that another value is expected at this place: `expected`, in words.
     pub(crate) fn expect(&self, report: &mut FileReport<'_>, expected: &str) -> Explained {
         self.report_expected(report, expected, None)
     }
 
-    /// Reports that something else is expected, and which word is the nearest.
+    /// Reports that another value is expected at this place, and the word nearest to the actual
+    /// one, if one is near.
     fn report_expected(
         &self,
         report: &mut FileReport<'_>,
@@ -59,7 +61,7 @@ impl<'a> Place<'a> {
     }
 
     /// Reports a value that is none of these words. If there are no words, as in a plan without
-    /// nodes, that is reported elsewhere.
+    /// nodes, reports nothing.
     pub(crate) fn expect_word(
         &self,
         report: &mut FileReport<'_>,
@@ -74,7 +76,7 @@ impl<'a> Place<'a> {
         self.report_expected(report, expected, nearest)
     }
 
-    /// Reports a value that is no whole number in a range.
+    /// Reports a value that is no whole number from `least` to `most`.
     pub(crate) fn expect_number(
         &self,
         report: &mut FileReport<'_>,
@@ -89,12 +91,13 @@ impl<'a> Place<'a> {
     }
 }
 
-/// Returns the whole number that a value is.
+/// Returns the value as a number, if it is a whole number of 64 bits without a sign.
 pub(crate) fn number_of(value: Option<Node<'_>>) -> Option<u64> {
     value?.number()
 }
 
-/// Returns the word of these that is nearest, which nobody asks for once lines are only counted.
+/// Returns the one of `words` that is nearest to `word`, if one is near. Returns `None` if the
+/// report is full, which shows no further messages.
 pub(crate) fn nearest_word<'a>(
     report: &FileReport<'_>,
     word: &str,
@@ -108,7 +111,7 @@ pub(crate) fn nearest_word<'a>(
     nearest(report.alloc(), word, words)
 }
 
-/// Returns the index of a text in these.
+/// Returns the index of a text among `texts`, or `None` if it is none of them.
 pub(crate) fn index_in(text: &str, texts: &[&str]) -> Option<usize> {
     for (i, known) in texts.iter().enumerate() {
         if *known == text {

@@ -15,10 +15,12 @@ use std::marker::Model;
 /// The result of a function that adds lines to a report: an error if memory runs out.
 pub(crate) type Explained = Result<(), AllocError>;
 
-/// The greatest number of lines of one file. More are counted.
+/// The greatest number of faults and warnings of one file that are shown. Further ones are only
+/// counted.
 pub const MAX_LINES: usize = 20;
 
-/// The lines of a file so far, and the text in which they have their places.
+/// The report on one file: its lines so far, each a fault or a warning, and the text in which
+/// further ones are located.
 #[derive(Drop)]
 pub struct FileReport<'a> {
     alloc: Global,
@@ -27,8 +29,9 @@ pub struct FileReport<'a> {
     /// How many lines of the file are above the text.
     above: usize,
     lines: Vec<ReportLine>,
-    /// How many lines are only counted, and whether one of them is a fault.
+    /// How many faults and warnings are only counted.
     more: u64,
+    /// Whether a fault is among those that are only counted.
     hides_fault: bool,
 }
 
@@ -41,7 +44,8 @@ impl<'a> Model for FileReport<'a> {
 }
 
 impl<'a> FileReport<'a> {
-    /// Creates a report without lines on an empty text.
+    /// Creates a report without lines on the file of this name. Its text is empty until `look_at`
+    /// sets one.
     pub fn new(alloc: Global, file: &'a str) -> Self
         ensures lines { result.lines ≡ [] }
         ensures more { result.more ≡ 0 }
@@ -58,8 +62,8 @@ impl<'a> FileReport<'a> {
         }
     }
 
-    /// Sets the text in which further lines have their places. It is the end of the file, after
-    /// this many lines.
+    /// Sets the text in which further faults and warnings are located. In the file, `above` lines
+    /// come before the text.
     pub fn look_at(&mut self, text: &'a [u8], above: usize)
         ensures { self.new ≡ self.old }
     {
@@ -67,12 +71,12 @@ impl<'a> FileReport<'a> {
         self.above = above;
     }
 
-    /// Returns the allocator of its lines.
+    /// Returns the allocator of the lines.
     pub fn alloc(&self) -> Global {
         self.alloc
     }
 
-    /// Adds a fault at a byte of the text. The message begins with a space.
+    /// Adds a fault at the byte `offset` of the text. The message begins with a space.
     ///
     /// # Errors
     ///
@@ -88,7 +92,7 @@ impl<'a> FileReport<'a> {
         self.add(true, offset, message)
     }
 
-    /// Adds a warning at a byte of the text. The message begins with a space.
+    /// Adds a warning at the byte `offset` of the text. The message begins with a space.
     ///
     /// # Errors
     ///
@@ -104,7 +108,8 @@ impl<'a> FileReport<'a> {
         self.add(false, offset, message)
     }
 
-    /// Adds a fault of a line of the text, counted from 1. The message begins with a space.
+    /// Adds a fault at the start of line `number` of the text, counted from 1. The message begins
+    /// with a space.
     ///
     /// # Errors
     ///
@@ -121,7 +126,8 @@ impl<'a> FileReport<'a> {
         self.add(true, offset, message)
     }
 
-    /// Adds a warning of a line of the text, counted from 1. The message begins with a space.
+    /// Adds a warning at the start of line `number` of the text, counted from 1. The message begins
+    /// with a space.
     ///
     /// # Errors
     ///
@@ -138,14 +144,14 @@ impl<'a> FileReport<'a> {
         self.add(false, offset, message)
     }
 
-    /// Counts warnings that are not shown.
+    /// Counts this many more warnings, which are not shown.
     pub fn count_warnings(&mut self, count: u64)
         ensures { CountsWarnings count self.old self.new }
     {
         self.more = self.more.saturating_add(count);
     }
 
-    /// Returns where a line begins, which nobody asks for once lines are only counted.
+    /// Returns the byte at which line `number` of the text begins, or 0 if the report is full.
     fn offset_of(&self, number: u64) -> usize {
         if self.is_full() {
             return 0;
@@ -153,6 +159,8 @@ impl<'a> FileReport<'a> {
         offset_of_line(self.text, number)
     }
 
+    /// Adds a fault or a warning at the byte `offset` of the text, or only counts it if the report
+    /// is full.
     fn add<D: Display + Drop>(
         &mut self,
         is_fault: bool,
@@ -177,7 +185,7 @@ impl<'a> FileReport<'a> {
         Ok(())
     }
 
-    /// Counts a line that is not shown.
+    /// Counts a fault or a warning that is not shown.
     fn count(&mut self, is_fault: bool)
         ensures { CountsLine is_fault self.old self.new }
     {
@@ -185,7 +193,7 @@ impl<'a> FileReport<'a> {
         self.hides_fault = either(self.hides_fault, is_fault);
     }
 
-    /// Returns whether further lines are only counted.
+    /// Returns whether the report has `MAX_LINES` lines, so that further ones are only counted.
     pub fn is_full(&self) -> bool
         ensures { MatchBool result (max_lines ≤ length self.now.lines)
             (length self.now.lines < max_lines) }
@@ -193,7 +201,8 @@ impl<'a> FileReport<'a> {
         self.lines.len() >= MAX_LINES
     }
 
-    /// Adds the lines of another report on the same file.
+    /// Adds the lines of another report on the same file. What that report only counted is counted
+    /// here too.
     pub(crate) fn append(&mut self, other: FileReport<'_>) -> Result<(), AllocError> {
         self.more = self.more.saturating_add(other.more);
         self.hides_fault |= other.hides_fault;
@@ -203,6 +212,7 @@ impl<'a> FileReport<'a> {
         Ok(())
     }
 
+    /// Adds a line, or only counts it if the report is full.
     fn push(&mut self, line: ReportLine) -> Result<(), AllocError> {
         if self.is_full() {
             self.count(line.is_fault());
@@ -212,7 +222,7 @@ impl<'a> FileReport<'a> {
         Ok(())
     }
 
-    /// Returns all lines. If more were counted, a last one says how many.
+    /// Returns the lines kept. If others were only counted, a last line says how many.
     pub(crate) fn into_lines(mut self) -> Result<Vec<ReportLine>, AllocError>
         ensures { IfOk result (λ lines. AreAll self.entry lines.items) }
     {
@@ -240,7 +250,7 @@ impl<D: Display + Drop> Display for Located<D> {
     }
 }
 
-/// The message that a file has more lines, which are not shown.
+/// The message that this many faults and warnings of a file are not shown.
 #[derive(Clone, Copy)]
 struct MoreLines(u64);
 

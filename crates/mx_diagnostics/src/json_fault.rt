@@ -1,21 +1,21 @@
-//! Where a text stops being JSON, and its messages.
+//! Where a text stops being JSON, and the messages that say so.
 
 use crate::location::Location;
 use std::alloc::{AllocError, AllocFailed};
 use std::fmt;
 use std::fmt::Display;
 
-/// The greatest number of characters that are shown of what does not fit.
+/// How many characters are shown at most of a text that does not fit.
 const MAX_SHOWN: usize = 24;
 
 /// The greatest number of brackets that may be open at once.
 pub(crate) const MAX_DEPTH: usize = 127;
 
-/// What is expected instead of a string that is none of JSON.
+/// What is expected where a malformed string stands, in words.
 pub(crate) const STRING: &str =
     "a text in one line without control characters, each \\ of which begins an escape of a whole character";
 
-/// Why a text is not JSON. Numbers are bytes of the text.
+/// Why a text is not JSON. A number is a byte offset in the text.
 #[derive(Clone, Copy)]
 pub(crate) enum JsonFault {
     /// Something else is expected at this byte.
@@ -27,11 +27,14 @@ pub(crate) enum JsonFault {
     Cut {
         /// The innermost bracket or string that is not closed.
         opened: Option<usize>,
-        /// The first bracket that is within more brackets than a correct text has.
+        /// The first bracket that is nested deeper than in a correct text.
         deep: Option<usize>,
     },
+    /// The bracket here is within 127 others.
     TooDeep(usize),
+    /// The number here is too large for an `f64`.
     TooLarge(usize),
+    /// Bytes that are not UTF-8 stand here.
     NotUtf8(usize),
     Memory,
 }
@@ -48,7 +51,7 @@ impl<T: Drop> From<AllocFailed<T>> for JsonFault {
     }
 }
 
-/// The message of a text that is not JSON, by what is at a place.
+/// The message that a text is not JSON, with this reason.
 #[derive(Clone, Copy)]
 pub(crate) struct NotJson(pub(crate) &'static str);
 
@@ -68,7 +71,7 @@ impl Display for TooDeep {
     }
 }
 
-/// The message of what does not fit: what is expected, and the rest of the line.
+/// The message that something else is expected at a place, with the rest of the line from there on.
 #[derive(Clone, Copy)]
 pub(crate) struct Misfit<'a> {
     pub(crate) expected: &'static str,
@@ -86,7 +89,7 @@ impl Display for Misfit<'_> {
     }
 }
 
-/// The start of a line, as far as it is shown.
+/// The rest of a line, as far as it is shown.
 #[derive(Clone, Copy)]
 struct Start<'a>(&'a str);
 
@@ -102,8 +105,8 @@ impl Display for Start<'_> {
     }
 }
 
-/// The message of a text that ends before what opens at a place is closed, with the place before
-/// which a closing bracket is missing if that is known.
+/// The message that a text ends before what opens at `opened` is closed. A closing bracket is
+/// missing before `deep`, if that is known.
 #[derive(Clone, Copy)]
 pub(crate) struct Cut {
     pub(crate) opened: Location,

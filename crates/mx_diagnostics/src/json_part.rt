@@ -11,22 +11,23 @@ use std::alloc::AllocError;
 /// The bytes of a byte order mark, with which some editors start a file.
 const BYTE_ORDER_MARK: [u8; 3] = [0xEF, 0xBB, 0xBF];
 
-/// The end of a file, after a number of lines.
+/// A text in a file. In the file, `above` lines come before the text.
 #[derive(Clone, Copy)]
 pub(crate) struct Part<'a> {
     pub(crate) text: &'a [u8],
     pub(crate) above: usize,
 }
 
-/// The values of a part, and whether they are all that a whole text has.
+/// The values of a part, and whether the part is JSON to its end.
 #[derive(Drop)]
 pub(crate) struct Content {
     pub(crate) tree: Tree,
     pub(crate) is_whole: bool,
 }
 
-/// Reads a part, in which a correct text nests this many brackets. Reports a byte order mark, and
-/// where the text stops being JSON. The report has its places in the part from now on.
+/// Reads a part as JSON, and reports a byte order mark, and where the text stops being JSON. In a
+/// correct text at most `nesting` brackets are open at once. Further faults and warnings are
+/// located in the part.
 pub(crate) fn read_part<'a>(
     report: &mut FileReport<'a>,
     part: Part<'a>,
@@ -67,6 +68,7 @@ fn valid_start(text: &[u8]) -> (&str, bool) {
     }
 }
 
+/// Reports why a text is not JSON. In the file, `above` lines come before the text.
 fn report_fault(
     report: &mut FileReport<'_>,
     text: &str,
@@ -90,7 +92,8 @@ fn report_fault(
     }
 }
 
-/// Reports that a text ends too early, and what is still open.
+/// Reports that a text ends too early. `opened` and `deep` are bytes of the text, as in
+/// `JsonFault::Cut`.
 fn report_cut(
     report: &mut FileReport<'_>,
     text: &str,

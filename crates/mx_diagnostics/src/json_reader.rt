@@ -8,7 +8,7 @@ use crate::json_words::{
 use json::{Reader, Scratch, Token};
 use std::alloc::{AllocError, Global};
 
-/// What may come next.
+/// What may come next in the text. `Square` and `Curly` are the closing brackets.
 #[derive(Clone, Copy, PartialEq, Eq)]
 enum Next {
     Value,
@@ -34,10 +34,12 @@ impl Next {
         }
     }
 
+    /// Returns whether a value may come next.
     fn is_value(self) -> bool {
         matches!(self, Next::Value | Next::ValueOrSquare)
     }
 
+    /// Returns whether a key may come next.
     fn is_key(self) -> bool {
         matches!(self, Next::Key | Next::KeyOrCurly)
     }
@@ -48,18 +50,21 @@ impl Next {
 struct TreeReader<'a> {
     text: &'a str,
     tree: Tree,
-    /// The entries of the brackets that are open.
+    /// The indices of the entries whose brackets are open, the outermost first.
     open: Vec<usize>,
     next: Next,
-    /// How many brackets a correct text nests, and the first one that is within as many.
+    /// How many brackets may be open at once in a correct text.
     nesting: usize,
+    /// The byte of the first bracket that is nested deeper than in a correct text.
     deep: Option<usize>,
-    /// How many entries come before the last comma between the items or members of the whole value.
+    /// How many entries are kept after a fault: that of the outermost bracket, and those before the
+    /// last comma between its items or members.
     whole: usize,
 }
 
-/// Reads a text, in which a correct one nests this many brackets. After a fault the tree has the
-/// items or members of the whole value that are before a comma.
+/// Reads a JSON text as a tree, and returns its fault if it has one. In a correct text at most
+/// `nesting` brackets are open at once. After a fault within the outermost bracket, the tree has
+/// only the items or members that a comma follows.
 pub(crate) fn read_tree(
     alloc: Global,
     text: &str,
@@ -85,7 +90,7 @@ pub(crate) fn read_tree(
 }
 
 impl TreeReader<'_> {
-    /// Reads all tokens. Each takes a byte or more.
+    /// Reads all tokens. Each has a byte or more, which bounds the loop.
     fn read(&mut self, alloc: Global) -> Result<(), JsonFault> {
         let mut scratch = Scratch::new(alloc);
         let mut tokens = Reader::new(self.text, &mut scratch)?;
@@ -99,7 +104,7 @@ impl TreeReader<'_> {
         Ok(())
     }
 
-    /// Takes the end of the text.
+    /// Returns a fault if the text may not end here.
     fn end(&self) -> Result<(), JsonFault> {
         match self.next {
             Next::End => Ok(()),
@@ -107,7 +112,8 @@ impl TreeReader<'_> {
         }
     }
 
-    /// Takes the token at a byte. The next one begins at `after`.
+    /// Takes the token at the byte `offset`, or returns a fault if it may not come here. The next
+    /// token begins at `after`.
     fn take(&mut self, offset: usize, token: Token<'_>, after: usize) -> Result<(), JsonFault> {
         match token {
             Token::BeginObject => self.take_opening(offset, Kind::Object, Next::KeyOrCurly),
@@ -141,6 +147,7 @@ impl TreeReader<'_> {
         }
     }
 
+    /// Takes an opening bracket, after which `next` may come.
     fn take_opening(&mut self, offset: usize, kind: Kind, next: Next) -> Result<(), JsonFault> {
         if !self.next.is_value() {
             return Err(self.misfit(offset));
@@ -161,7 +168,8 @@ impl TreeReader<'_> {
         Ok(())
     }
 
-    /// Takes a bracket that may come at one of two moments.
+    /// Takes a closing bracket. It may come if the field `next` is `empty`, right after the opening
+    /// bracket, or `filled`, after a value.
     fn take_closing(
         &mut self,
         offset: usize,
@@ -202,6 +210,7 @@ impl TreeReader<'_> {
         })
     }
 
+    /// Takes a value that is no array and no object.
     fn take_scalar(&mut self, offset: usize, kind: Kind, after: usize) -> Result<(), JsonFault> {
         if !self.next.is_value() {
             return Err(self.misfit(offset));
@@ -210,7 +219,7 @@ impl TreeReader<'_> {
         self.end_value(after)
     }
 
-    /// Adds a value.
+    /// Adds the entry of a value that begins at `offset`.
     fn push(&mut self, offset: usize, kind: Kind) -> Result<(), JsonFault> {
         let link = self.tree.entries.len().saturating_add(1);
         self.tree.entries.push(Entry {
@@ -222,7 +231,7 @@ impl TreeReader<'_> {
         Ok(())
     }
 
-    /// Ends a value, and takes the comma that may follow it.
+    /// Ends a value, and takes the comma that may follow it. The next token begins at `after`.
     fn end_value(&mut self, after: usize) -> Result<(), JsonFault> {
         let comma = mark_before(self.text, after, b',');
         self.next = self.after_value(comma.is_some());
@@ -236,7 +245,7 @@ impl TreeReader<'_> {
         }
     }
 
-    /// Returns what may follow a value, or the comma after it.
+    /// Returns what may come after a value, or after its comma if it has one.
     fn after_value(&self, has_comma: bool) -> Next {
         match (self.open_kind(), has_comma) {
             (Some(Kind::Object), true) => Next::Key,
@@ -247,21 +256,21 @@ impl TreeReader<'_> {
         }
     }
 
-    /// Returns what the innermost bracket opens.
+    /// Returns what the innermost open bracket begins: an array or an object.
     fn open_kind(&self) -> Option<Kind> {
         let index = self.open.last()?;
         let entry = self.tree.entries.get(*index)?;
         Some(entry.kind)
     }
 
-    /// Returns the byte of the innermost bracket that is open.
+    /// Returns the byte of the innermost open bracket.
     fn open_offset(&self) -> Option<usize> {
         let index = self.open.last()?;
         let entry = self.tree.entries.get(*index)?;
         Some(entry.offset)
     }
 
-    /// Counts an item or a member of the innermost bracket.
+    /// Counts an item or a member of the innermost open bracket.
     fn count_child(&mut self) {
         let Some(index) = self.open.last() else {
             return;
@@ -271,7 +280,8 @@ impl TreeReader<'_> {
         }
     }
 
-    /// Drops what is not before a comma between the items or members of a whole value that is open.
+    /// Drops what comes after the last comma between the items or members of the outermost bracket,
+    /// if that is open.
     fn drop_incomplete(&mut self) {
         if self.open.is_empty() {
             return;
@@ -286,6 +296,7 @@ impl TreeReader<'_> {
         }
     }
 
+    /// Returns the fault that what stands at `offset` may not come next.
     fn misfit(&self, offset: usize) -> JsonFault {
         JsonFault::Misfit {
             offset,
@@ -293,6 +304,7 @@ impl TreeReader<'_> {
         }
     }
 
+    /// Returns the fault that the text ends before what opens at the byte `opened` is closed.
     fn cut(&self, opened: Option<usize>) -> JsonFault {
         JsonFault::Cut {
             opened,
@@ -300,7 +312,8 @@ impl TreeReader<'_> {
         }
     }
 
-    /// Returns the fault of a string without a colon where a key is expected.
+    /// Returns the fault of a string without a colon where a key is expected. The next token begins
+    /// at `after`.
     fn lacks_colon(&self, after: usize) -> JsonFault {
         let offset = mark_before(self.text, after, b',').unwrap_or(after);
         if offset >= self.text.len() {
@@ -312,7 +325,8 @@ impl TreeReader<'_> {
         }
     }
 
-    /// Returns the fault of what is no token, or of none that may come next.
+    /// Returns the fault of a bad token at `offset`: the text ends there, or something stands there
+    /// that is no token or may not come next.
     fn fault_at(&self, offset: usize) -> JsonFault {
         let rest = rest_of(self.text, offset);
         match rest.as_bytes().first() {
@@ -325,7 +339,8 @@ impl TreeReader<'_> {
         }
     }
 
-    /// Returns the fault of a string that is not closed, or is none of JSON.
+    /// Returns the fault of a bad string at the start of `rest`: the string is not closed, or
+    /// malformed.
     fn string_fault(&self, offset: usize, rest: &str) -> JsonFault {
         if is_open_string(rest) {
             return self.cut(Some(offset));
@@ -336,7 +351,8 @@ impl TreeReader<'_> {
         }
     }
 
-    /// Returns the fault of a word that is no value, or that a string follows without a comma.
+    /// Returns the fault of a bad word: the text ends within the word, or the word is no value, or
+    /// a string follows it without a comma.
     fn word_fault(&self, offset: usize, word: &str) -> JsonFault {
         let end = offset.saturating_add(word.len());
         if is_value(word) {

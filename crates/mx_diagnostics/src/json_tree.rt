@@ -4,7 +4,7 @@ use json::Value;
 use std::alloc::{AllocError, Global};
 use std::collections::{BTreeMap, BTreeSet};
 
-/// A part of the texts of a tree, from a byte to another.
+/// A part of the string `texts` of a tree, from the byte `start` to the byte before `end`.
 #[derive(Clone, Copy)]
 pub(crate) struct Span {
     start: usize,
@@ -24,19 +24,20 @@ pub(crate) enum Kind {
     Key(Span),
 }
 
-/// A value, or a key before its value.
+/// An entry of a tree: a value, or the key of a member, whose value is the next entry.
 #[derive(Clone, Copy)]
 pub(crate) struct Entry {
-    /// The byte at which it begins.
+    /// The byte of the JSON text at which the value or the key begins.
     pub(crate) offset: usize,
     pub(crate) kind: Kind,
-    /// The index of the entry after a value, or of the object of a key.
+    /// For a value, the index of the next entry that is not within the value. For a key, the index
+    /// of its object.
     pub(crate) link: usize,
     /// How many items an array has, or members an object.
     pub(crate) count: usize,
 }
 
-/// The values of a text, each before the values in it.
+/// The values of a JSON text, in the order in which they begin.
 #[derive(Drop)]
 pub(crate) struct Tree {
     pub(crate) entries: Vec<Entry>,
@@ -44,14 +45,15 @@ pub(crate) struct Tree {
     texts: String,
 }
 
-/// A value of a tree.
+/// A value in a tree (not a node of a cluster).
 #[derive(Clone, Copy)]
 pub(crate) struct Node<'a> {
     tree: &'a Tree,
     index: usize,
 }
 
-/// A key that an earlier member of the same object has, and the byte at which it begins.
+/// A key that an earlier member of the same object has too, and the byte at which the repetition
+/// begins.
 #[derive(Clone, Copy)]
 pub(crate) struct RepeatedKey<'a> {
     pub(crate) offset: usize,
@@ -67,7 +69,7 @@ impl Tree {
         }
     }
 
-    /// Adds a text, and returns where it is.
+    /// Stores the text of a string, a key or a number, and returns its part of `texts`.
     pub(crate) fn add_text(&mut self, text: &str) -> Result<Span, AllocError> {
         let start = self.texts.len();
         self.texts.push_str(text)?;
@@ -77,7 +79,7 @@ impl Tree {
         })
     }
 
-    /// Returns the value of the whole text.
+    /// Returns the outermost value, or `None` if the tree has no values.
     pub(crate) fn root(&self) -> Option<Node<'_>> {
         if self.entries.is_empty() {
             return None;
@@ -88,11 +90,13 @@ impl Tree {
         })
     }
 
+    /// Returns the part of `texts` that is at a span.
     fn text(&self, span: Span) -> &str {
         self.texts.as_str().get(span.start..span.end).unwrap_or("")
     }
 
-    /// Returns the keys that come twice in one object, in the order of the text.
+    /// Returns each key that an earlier member of the same object has too, in the order of the
+    /// text.
     pub(crate) fn repeated_keys(&self, alloc: Global) -> Result<Vec<RepeatedKey<'_>>, AllocError> {
         let mut seen = BTreeSet::new(alloc);
         let mut repeated = Vec::new(alloc);
@@ -182,7 +186,7 @@ impl<'a> Node<'a> {
         Ok(items)
     }
 
-    /// Returns the value of a member. The last one counts if several have the key.
+    /// Returns the value of the member with this key: of the last one, if several have it.
     pub(crate) fn get(&self, key: &str) -> Option<Node<'a>> {
         if !self.is_object() {
             return None;
@@ -199,7 +203,8 @@ impl<'a> Node<'a> {
         found
     }
 
-    /// Returns the values of all members by their keys. The last one counts if several have a key.
+    /// Returns the values of an object's members by their keys. Of members with the same key, the
+    /// last counts.
     pub(crate) fn members(&self, alloc: Global) -> Result<BTreeMap<&'a str, Node<'a>>, AllocError> {
         let mut members = BTreeMap::new(alloc);
         if !self.is_object() {
@@ -214,7 +219,7 @@ impl<'a> Node<'a> {
         Ok(members)
     }
 
-    /// Returns the node at an index.
+    /// Returns the value whose entry has this index.
     fn at(&self, index: usize) -> Node<'a> {
         Node {
             tree: self.tree,
@@ -222,6 +227,7 @@ impl<'a> Node<'a> {
         }
     }
 
+    /// Returns what the entry at an index is.
     fn kind_of(&self, index: usize) -> Kind {
         match self.tree.entries.get(index) {
             Some(entry) => entry.kind,
@@ -229,7 +235,7 @@ impl<'a> Node<'a> {
         }
     }
 
-    /// Returns the key at an index.
+    /// Returns the key whose entry has this index.
     fn key(&self, index: usize) -> &'a str {
         match self.kind_of(index) {
             Kind::Key(span) => self.tree.text(span),
@@ -237,7 +243,7 @@ impl<'a> Node<'a> {
         }
     }
 
-    /// Returns the index after the value at an index.
+    /// Returns the index of the next entry that is not within the value at `index`.
     fn after(&self, index: usize) -> usize {
         match self.tree.entries.get(index) {
             Some(entry) => entry.link,
@@ -246,13 +252,13 @@ impl<'a> Node<'a> {
     }
 }
 
-/// Returns the whole number of 64 bits without a sign that a number is.
+/// Parses the text of a JSON number as a whole number of 64 bits without a sign, if it is one.
 fn as_whole(text: &str) -> Option<u64> {
     let number: Value<'_, Global> = Value::Number(text);
     number.as_u64()
 }
 
-/// Returns the items of a value, and none if there is no value or no array.
+/// Returns the items of an array. Returns no items if there is no value, or it is no array.
 pub(crate) fn items_of<'a>(
     alloc: Global,
     value: Option<Node<'a>>,
@@ -263,7 +269,7 @@ pub(crate) fn items_of<'a>(
     }
 }
 
-/// Returns the text of a string, and an empty one if there is no string.
+/// Returns the text of a string. Returns an empty text if there is no value, or it is no string.
 pub(crate) fn text_of<'a>(value: Option<Node<'a>>) -> &'a str {
     match value {
         Some(node) => node.text(),

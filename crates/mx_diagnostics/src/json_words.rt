@@ -8,7 +8,7 @@ pub(crate) fn rest_of(text: &str, offset: usize) -> &str {
     text.get(offset..).unwrap_or("")
 }
 
-/// Returns the byte of a mark that is the last one before a place, apart from blanks.
+/// Returns the byte at which `mark` stands, if it is the last before `place` apart from blanks.
 pub(crate) fn mark_before(text: &str, place: usize, mark: u8) -> Option<usize> {
     let mut offset = place;
     for byte in text.as_bytes().get(..place)?.iter().rev() {
@@ -24,7 +24,7 @@ fn is_blank(byte: u8) -> bool {
     matches!(byte, b' ' | b'\t' | b'\r' | b'\n')
 }
 
-/// Returns whether a byte may be in a number, or in a word as `true`.
+/// Returns whether a byte may be in a number, or in a word such as `true`.
 fn is_of_word(byte: u8) -> bool {
     !is_blank(byte) && !matches!(byte, b'"' | b'{' | b'}' | b'[' | b']' | b':' | b',')
 }
@@ -39,12 +39,12 @@ pub(crate) fn word_of(text: &str) -> &str {
     text
 }
 
-/// Returns whether a word is a value of JSON.
+/// Returns whether a word is a value of JSON: a number, `true`, `false` or `null`.
 pub(crate) fn is_value(word: &str) -> bool {
     matches!(word, "true" | "false" | "null") || is_number(word)
 }
 
-/// Returns whether a value of JSON begins with this word, and goes on after it.
+/// Returns whether a word may be the start of a value of JSON, such as `tr` or `1e`.
 pub(crate) fn is_value_start(word: &str) -> bool {
     ["true", "false", "null"]
         .iter()
@@ -52,7 +52,8 @@ pub(crate) fn is_value_start(word: &str) -> bool {
         || is_number_start(word)
 }
 
-/// Returns whether a digit makes a word a number.
+/// Returns whether a word may be the start of a number that goes on with a digit, such as `-` or
+/// `1e+`.
 fn is_number_start(word: &str) -> bool {
     match word.as_bytes().split_last() {
         Some((b'-', [])) => true,
@@ -62,11 +63,13 @@ fn is_number_start(word: &str) -> bool {
     }
 }
 
+/// Returns bytes as text, or an empty text if they are not UTF-8.
 fn as_text(bytes: &[u8]) -> &str {
     str::from_utf8(bytes).unwrap_or("")
 }
 
-/// Returns whether a text begins with a string that is not closed, without control characters.
+/// Returns whether the string with which a text begins is not closed, and has no control
+/// characters.
 pub(crate) fn is_open_string(text: &str) -> bool {
     let mut is_escaped = false;
     for byte in text.as_bytes().iter().skip(1) {
@@ -79,7 +82,7 @@ pub(crate) fn is_open_string(text: &str) -> bool {
     true
 }
 
-/// Returns whether a number is too large for a floating-point number.
+/// Returns whether a JSON number is too large for an `f64`.
 pub(crate) fn is_too_large(text: &str) -> bool {
     let number: Value<'_, Global> = Value::Number(text);
     match number.as_f64() {

@@ -10,7 +10,8 @@ pub(crate) struct Location {
 }
 
 impl Location {
-    /// Returns the location of a byte of a text that has this many lines of its file above it.
+    /// Returns the location of the byte `offset` of a text. In the file, `above` lines come before
+    /// the text.
     pub(crate) fn of(text: &[u8], offset: usize, above: usize) -> Location {
         let mut location = Location {
             line: above.saturating_add(1),
@@ -22,7 +23,7 @@ impl Location {
         location
     }
 
-    /// Returns the location after the byte that is here.
+    /// Returns the location after `byte`, which stands at this location.
     fn after(self, byte: u8) -> Location {
         match byte {
             b'\n' => Location {
@@ -45,8 +46,8 @@ impl fmt::Display for Location {
     }
 }
 
-/// Returns the byte at which a line begins, counted from 1, or the end of the text if there is no
-/// such line.
+/// Returns the byte at which line `number` begins, or the end of the text if there is no such line.
+/// Lines are counted from 1.
 pub(crate) fn offset_of_line(text: &[u8], number: u64) -> usize {
     let mut line = 1u64;
     for (offset, byte) in text.iter().enumerate() {

@@ -8,7 +8,7 @@ use std::fmt::Display;
 /// The greatest length of a text or a number that is shown, in bytes.
 const MAX_BYTES: usize = 40;
 
-/// What is at a place, in short.
+/// A value as a message shows it, in short.
 #[derive(Clone, Copy)]
 pub(crate) struct Actual<'a>(pub(crate) Node<'a>);
 
@@ -29,7 +29,7 @@ impl Display for Actual<'_> {
     }
 }
 
-/// A text in quotes, or how long it is.
+/// A text in quotes, or only its length if it is longer than 40 bytes.
 #[derive(Clone, Copy)]
 pub(crate) struct Quoted<'a>(pub(crate) &'a str);
 
@@ -43,7 +43,7 @@ impl Display for Quoted<'_> {
     }
 }
 
-/// A key in quotes, or how long it is.
+/// A key in quotes, or only its length if it is longer than 40 bytes.
 #[derive(Clone, Copy)]
 struct QuotedKey<'a>(&'a str);
 
@@ -57,7 +57,7 @@ impl Display for QuotedKey<'_> {
     }
 }
 
-/// The name that is nearest to what is at a place, if one is near.
+/// The end of a message about a wrong name: the nearest known one, if one is near.
 #[derive(Clone, Copy)]
 pub(crate) struct Nearest<'a>(pub(crate) Option<&'a str>);
 
@@ -70,7 +70,7 @@ impl Display for Nearest<'_> {
     }
 }
 
-/// What is expected at a place, and what is there.
+/// The message that the value at a path is missing, or is not what is expected.
 #[derive(Clone, Copy)]
 pub(crate) struct Expected<'a> {
     pub(crate) path: Path<'a>,
@@ -110,7 +110,7 @@ impl Display for DuplicateName<'_> {
     }
 }
 
-/// A warning of a key that no plan has, or no such member of one.
+/// A warning of a key that is unknown in a plan, or in its member `of`.
 #[derive(Clone, Copy)]
 pub(crate) struct UnknownKey<'a> {
     pub(crate) of: &'static str,
@@ -166,7 +166,7 @@ impl Display for DuplicateKey<'_> {
     }
 }
 
-/// The number of arguments of an event that takes another number of them.
+/// The message that an event has too few or too many arguments.
 #[derive(Clone, Copy)]
 pub(crate) struct ArgumentCount<'a> {
     pub(crate) path: Path<'a>,
@@ -193,7 +193,7 @@ impl Display for ArgumentCount<'_> {
     }
 }
 
-/// Why a file cannot be read.
+/// The message that a file cannot be read, with the reason.
 #[derive(Clone, Copy)]
 pub struct Unreadable(pub &'static str);
 

@@ -12,8 +12,8 @@ use mx_stamps::{MAX_NODES, MAX_REGISTERS};
 use std::alloc::{AllocError, Global};
 use std::fmt;
 
-/// The names that a plan has for nodes and for registers. A list that is no list of names, or has
-/// too many, counts as empty.
+/// The names that a plan has for nodes and for registers. A list counts as empty if it is no array,
+/// or has more items than a plan may have.
 #[derive(Drop)]
 pub struct PlanNames {
     pub(crate) nodes: Vec<String>,
@@ -37,7 +37,7 @@ impl PlanNames {
     }
 }
 
-/// Returns the names that a member lists, or none if there are more than a plan may have.
+/// Returns the names that the member `key` of a plan lists, or none if there are more than `most`.
 fn names_at(
     alloc: Global,
     plan: Node<'_>,
@@ -55,7 +55,7 @@ fn names_at(
     Ok(names)
 }
 
-/// Borrows names.
+/// Returns the names as slices.
 pub(crate) fn as_slices(alloc: Global, names: &[String]) -> Result<Vec<&str>, AllocError> {
     let mut slices = Vec::new(alloc);
     for name in names {
@@ -93,7 +93,7 @@ pub fn message_of_unknown_node(alloc: Global, plan: &Plan, name: &str) -> Result
     Ok(message)
 }
 
-/// A name that no node has, and the node that is meant.
+/// The message for a name that no node has, with the nearest name of a node.
 #[derive(Clone, Copy)]
 struct UnknownNode<'a> {
     name: &'a str,

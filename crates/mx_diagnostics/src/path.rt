@@ -1,17 +1,20 @@
-//! Places in a plan or in events, by keys and items.
+//! Paths to values in a plan or in events, such as `quorums.sets[0]`.
 
 use std::fmt;
 
-/// A member, perhaps of another member, or an item in it; items are counted from 0.
+/// The path to a member, perhaps of another member, or to an item in it. Items are counted from 0.
 #[derive(Clone, Copy)]
 pub(crate) struct Path<'a> {
-    /// The member of the plan that has the key, or nothing.
+    /// The member of the plan that has the key, or an empty text.
     of: &'static str,
     key: &'a str,
+    /// The indices of the items on the path, the outer one first.
     items: [Option<usize>; 2],
 }
 
 impl<'a> Path<'a> {
+    /// Creates the path to a member. `of` is the member of the plan that has the key, or an empty
+    /// text.
     pub(crate) fn new(of: &'static str, key: &'a str) -> Self {
         Path {
             of,
@@ -20,7 +23,7 @@ impl<'a> Path<'a> {
         }
     }
 
-    /// Returns the path of an item of the value that is here.
+    /// Returns the path to item `i` of the value at this path.
     pub(crate) fn item(&self, i: usize) -> Self {
         let items = match self.items[0] {
             None => [Some(i), None],

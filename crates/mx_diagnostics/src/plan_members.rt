@@ -6,7 +6,7 @@ pub(crate) const ALGORITHMS: [&str; 3] = ["ricart", "maekawa", "raymond"];
 
 const QUORUM_KINDS: [&str; 3] = ["plane", "grid", "listed"];
 
-/// What the value of a member is.
+/// What the value of a member has to be.
 #[derive(Clone, Copy)]
 pub(crate) enum MemberKind {
     /// One of these words.
@@ -19,31 +19,33 @@ pub(crate) enum MemberKind {
     Quorums,
     /// A list of edges, each of two nodes.
     Edges,
-    /// A list with a set of nodes for each node.
+    /// A list with an arbiter set for each node.
     Sets,
     /// The name of a node.
     Node,
 }
 
-/// A member of an object.
+/// A member that a plan or its quorums may have.
 #[derive(Clone, Copy)]
 pub(crate) struct Member {
     pub(crate) key: &'static str,
     pub(crate) kind: MemberKind,
-    /// The algorithm, or the kind of quorums, that alone has the member, or nothing.
+    /// The only algorithm, or the only kind of quorums, that has the member; empty if all have it.
     pub(crate) owner: &'static str,
     pub(crate) is_optional: bool,
+    /// What the value has to be, in words.
     pub(crate) expected: &'static str,
 }
 
 impl Member {
-    /// Returns whether an object for this algorithm, or of this kind of quorums, has the member.
+    /// Returns whether a plan for the algorithm `owner`, or quorums of the kind `owner`, have the
+    /// member.
     pub(crate) fn is_of(&self, owner: &str) -> bool {
         self.owner.is_empty() || self.owner == owner
     }
 }
 
-/// The members of a plan, in the order in which they are explained.
+/// The members of a plan, in the order in which they are checked.
 pub(crate) const PLAN_MEMBERS: [Member; 8] = [
     Member {
         key: "algorithm",
@@ -103,7 +105,7 @@ pub(crate) const PLAN_MEMBERS: [Member; 8] = [
     },
 ];
 
-/// The members of quorums.
+/// The members of quorums, their kind first.
 pub(crate) const QUORUM_MEMBERS: [Member; 4] = [
     Member {
         key: "kind",

@@ -14,10 +14,10 @@ use crate::report::Report;
 use crate::shapes::explain_shape;
 use std::alloc::AllocError;
 
-/// How many brackets a plan nests.
+/// How many brackets may be open at once in a correct plan.
 const NESTING: usize = 4;
 
-/// Adds what is wrong in the text of a plan, and returns the names in it.
+/// Adds to the report what is wrong in the text of a plan, and returns the names in the plan.
 ///
 /// # Errors
 ///
@@ -35,6 +35,7 @@ pub fn explain_plan_text<'a>(
     Ok(names)
 }
 
+/// Adds what is wrong in a plan to the report on its file, and returns the names in the plan.
 fn explain_text<'a>(report: &mut FileReport<'a>, text: &'a [u8]) -> Result<PlanNames, AllocError> {
     let content = read_part(report, Part { text, above: 0 }, NESTING)?;
     match content.tree.root() {
@@ -47,7 +48,8 @@ fn explain_text<'a>(report: &mut FileReport<'a>, text: &'a [u8]) -> Result<PlanN
     }
 }
 
-/// Explains the value of a plan. `is_whole` says whether it has all its members.
+/// Reports what is wrong in the value of a plan. `is_whole` says whether the text is JSON to its
+/// end, so that the plan has all its members.
 fn explain_plan(report: &mut FileReport<'_>, plan: Node<'_>, is_whole: bool) -> Explained {
     if !plan.is_object() {
         let place = Place {

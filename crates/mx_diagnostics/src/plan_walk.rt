@@ -10,21 +10,23 @@ use crate::plan_members::{ALGORITHMS, Member, MemberKind, PLAN_MEMBERS, QUORUM_M
 use mx_plan::is_name;
 use std::alloc::{AllocError, Global};
 
+/// What is expected where a malformed name stands, in words.
 const NAME: &str = "a name: 1 to 16 of letters, digits, _ and -";
 
-/// A plan that is explained.
+/// A plan whose members are checked one by one.
 #[derive(Clone, Copy)]
 pub(crate) struct PlanWalk<'a> {
     pub(crate) plan: Node<'a>,
     /// Whether the plan has all its members, so that one may be reported as missing.
     pub(crate) is_whole: bool,
+    /// The value of the key `algorithm`, or an empty text.
     pub(crate) algorithm: &'a str,
-    /// The names of its nodes, or none if there are more than a plan may have.
+    /// The names of the nodes, or none if there are more than a plan may have.
     pub(crate) nodes: &'a [&'a str],
 }
 
 impl PlanWalk<'_> {
-    /// Explains each member, and warns of those that are not used.
+    /// Reports what is wrong in each member, and warns of keys that are unknown or not used.
     pub(crate) fn explain(&self, report: &mut FileReport<'_>) -> Explained {
         for member in &PLAN_MEMBERS {
             if member.is_of(self.algorithm) {
@@ -35,7 +37,7 @@ impl PlanWalk<'_> {
         self.warn_of_unused(report)
     }
 
-    /// Explains a member of the plan.
+    /// Reports what is wrong in a member of the plan.
     fn explain_plan_member(&self, report: &mut FileReport<'_>, member: &Member) -> Explained {
         let place = place_of("", self.plan, member);
         match member.kind {
@@ -44,7 +46,7 @@ impl PlanWalk<'_> {
         }
     }
 
-    /// Explains a member of the plan or of its quorums.
+    /// Reports what is wrong in a member of the plan or of its quorums.
     fn explain_member(
         &self,
         report: &mut FileReport<'_>,
@@ -72,6 +74,7 @@ impl PlanWalk<'_> {
         member.is_optional || !self.is_whole
     }
 
+    /// Reports what is wrong in the value of `quorums`: in its members, if it is an object.
     fn explain_quorums(
         &self,
         report: &mut FileReport<'_>,
@@ -84,7 +87,8 @@ impl PlanWalk<'_> {
         }
     }
 
-    /// Explains the members that quorums of their kind have, and warns of others.
+    /// Reports what is wrong in the members that quorums of their kind have, and warns of other
+    /// keys.
     fn explain_quorum_members(&self, report: &mut FileReport<'_>, quorums: Node<'_>) -> Explained {
         let kind = text_of(quorums.get("kind"));
         for member in &QUORUM_MEMBERS {
@@ -98,7 +102,7 @@ impl PlanWalk<'_> {
         warn_of_unknown(report, "quorums", quorums, &QUORUM_MEMBERS, Some(kind))
     }
 
-    /// Reports rows and columns that do not have a place for each node.
+    /// Reports the rows of a grid if rows times columns is not the number of nodes.
     fn explain_grid(&self, report: &mut FileReport<'_>, quorums: Node<'_>) -> Explained {
         let rows = quorums.get("rows");
         let sides = (number_of(rows), number_of(quorums.get("cols")));
@@ -120,7 +124,8 @@ impl PlanWalk<'_> {
         )
     }
 
-    /// Explains a list of sets: one for each node, if nodes are known.
+    /// Reports what is wrong in a list of arbiter sets. It has to have one for each node, if nodes
+    /// are known.
     fn explain_sets(
         &self,
         report: &mut FileReport<'_>,
@@ -138,7 +143,7 @@ impl PlanWalk<'_> {
         Ok(())
     }
 
-    /// Explains a list of edges, each of two nodes.
+    /// Reports what is wrong in a list of edges, and which of them make a cycle.
     fn explain_edges(
         &self,
         report: &mut FileReport<'_>,
@@ -155,6 +160,7 @@ impl PlanWalk<'_> {
         report_cycles(report, edges.as_slice(), self.nodes)
     }
 
+    /// Reports an edge that is no array of two nodes.
     fn explain_edge(&self, report: &mut FileReport<'_>, place: &Place<'_>) -> Explained {
         match place.value {
             Some(edge) if edge.is_pair() => self.explain_nodes(report, place),
@@ -162,7 +168,7 @@ impl PlanWalk<'_> {
         }
     }
 
-    /// Explains a list of nodes.
+    /// Reports what is wrong in an array of nodes' names.
     fn explain_nodes(&self, report: &mut FileReport<'_>, place: &Place<'_>) -> Explained {
         if !is_array(place.value) {
             return place.expect(report, "an array of nodes");
@@ -189,7 +195,7 @@ impl PlanWalk<'_> {
         Ok(())
     }
 
-    /// Warns of a member that is not used, if it is there.
+    /// Warns of a member that is for another algorithm, if the plan has it.
     fn warn_if_there(&self, report: &mut FileReport<'_>, member: &Member) -> Explained {
         let Some(value) = self.plan.get(member.key) else {
             return Ok(());
@@ -203,7 +209,8 @@ impl PlanWalk<'_> {
     }
 }
 
-/// Returns the place of a member of an object.
+/// Returns the place of a member of an object. `of` is the member of the plan that is this object,
+/// or empty for the plan itself.
 fn place_of<'a>(of: &'static str, object: Node<'a>, member: &Member) -> Place<'a> {
     Place {
         path: Path::new(of, member.key),
@@ -212,7 +219,7 @@ fn place_of<'a>(of: &'static str, object: Node<'a>, member: &Member) -> Place<'a
     }
 }
 
-/// Returns whether there is an array.
+/// Returns whether there is a value, and it is an array.
 fn is_array(value: Option<Node<'_>>) -> bool {
     match value {
         Some(node) => node.is_array(),
@@ -220,7 +227,7 @@ fn is_array(value: Option<Node<'_>>) -> bool {
     }
 }
 
-/// Explains a list of 1 to `most` names, all different.
+/// Reports what is wrong in a list of names. It has to have 1 to `most`, all different.
 fn explain_names(
     report: &mut FileReport<'_>,
     place: &Place<'_>,
@@ -244,7 +251,7 @@ fn explain_names(
     Ok(())
 }
 
-/// Explains a name, which none of the earlier ones equals.
+/// Reports a name that is malformed, or that equals an earlier one.
 fn explain_name(
     report: &mut FileReport<'_>,
     place: &Place<'_>,
@@ -264,8 +271,9 @@ fn explain_name(
     report.fault_at(place.offset(), message)
 }
 
-/// Warns of the keys of an object that are none of its members, in the order of the keys. If the
-/// object is of one of several kinds, only the members of its kind count.
+/// Warns of each key of an object that none of `members` has, sorted by key. If the object is of a
+/// known `kind`, only the members of that kind count. `of` is the member of the plan that is this
+/// object, or empty for the plan itself.
 fn warn_of_unknown(
     report: &mut FileReport<'_>,
     of: &'static str,
@@ -288,8 +296,8 @@ fn warn_of_unknown(
     Ok(())
 }
 
-/// Returns the keys of the members that an object of a kind has, or of all if no member is of that
-/// kind.
+/// Returns the keys of the members that an object of this kind has, or of all members if the kind
+/// is unknown.
 fn keys_of(
     alloc: Global,
     members: &[Member],
@@ -304,6 +312,7 @@ fn keys_of(
     Ok(keys)
 }
 
+/// Returns whether an object of this kind has the member. Returns `true` if the kind is unknown.
 fn is_of_kind(member: &Member, members: &[Member], kind: Option<&str>) -> bool {
     match kind {
         Some(kind) if is_known_kind(members, kind) => member.is_of(kind),
@@ -311,7 +320,7 @@ fn is_of_kind(member: &Member, members: &[Member], kind: Option<&str>) -> bool {
     }
 }
 
-/// Returns whether this word is one that the value of the first of these members may be.
+/// Returns whether `kind` is one of the words that the first member may have as its value.
 fn is_known_kind(members: &[Member], kind: &str) -> bool {
     match members.first() {
         Some(

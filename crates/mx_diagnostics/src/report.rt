@@ -9,11 +9,12 @@ use std::alloc::{AllocError, Global};
 use std::fmt::Display;
 use std::marker::Model;
 
-/// The lines of faults and warnings. If the command finds no fault in the files, it keeps only the
-/// warnings.
+/// The lines of faults and warnings of all files. If the command that reads the files finds no
+/// fault, the report keeps only the warnings.
 #[derive(Drop)]
 pub struct Report {
     alloc: Global,
+    /// Whether the command that reads the files finds no fault.
     is_well: bool,
     lines: Vec<ReportLine>,
     has_fault: bool,
@@ -30,7 +31,8 @@ impl Model for Report {
 }
 
 impl Report {
-    /// A report without lines. `is_well` says that the command on these files finds no fault.
+    /// Creates a report without lines. `is_well` says whether the command that reads the files,
+    /// such as `check`, finds no fault.
     pub fn new(alloc: Global, is_well: bool) -> Report
         ensures well { result.is_well ≡ is_well }
         ensures empty { result.lines ≡ [] }
@@ -43,13 +45,13 @@ impl Report {
         }
     }
 
-    /// The allocator of its lines.
+    /// Returns the allocator of the lines.
     pub fn alloc(&self) -> Global {
         self.alloc
     }
 
-    /// Adds a fault of a file as a whole, unless the command finds none in the files. The message begins
-    /// with a space.
+    /// Adds a fault of a file as a whole, unless the command that reads the files finds none. The
+    /// message begins with a space.
     ///
     /// # Errors
     ///
@@ -77,6 +79,7 @@ impl Report {
         self.push_all(lines)
     }
 
+    /// Adds lines, without those of faults if the command finds none.
     fn push_all(&mut self, lines: Vec<ReportLine>) -> Result<(), AllocError>
         ensures longer { IsLonger self.old self.new }
         ensures all { OnOk result
@@ -88,7 +91,7 @@ impl Report {
         Ok(())
     }
 
-    /// Adds a line, unless it is of a fault and the files are well.
+    /// Adds a line, unless it is of a fault and the command finds none.
     fn push(&mut self, line: ReportLine) -> Result<(), AllocError>
         ensures longer { IsLonger self.old self.new }
         ensures fault { OnOk result (has_fault self.new.lines
@@ -105,7 +108,8 @@ impl Report {
         Ok(())
     }
 
-    /// Ends the report. Adds a line that says so if the command finds a fault and no line is of one.
+    /// Ends the report. If the command finds a fault but no line is of a fault, adds a line on this
+    /// file that says so.
     pub fn end(&mut self, file: &str) -> Result<(), AllocError>
         ensures longer { IsLonger self.old self.new }
         ensures well { OnOk result (has_fault self.new.lines ≡ not self.old.is_well) }
@@ -119,7 +123,8 @@ impl Report {
         )
     }
 
-    /// All lines, in order; the last one says `nothing is at fault` if no line is of a fault.
+    /// Returns all lines, in order. If no line is of a fault, a last one says `nothing is at
+    /// fault`.
     pub fn text(&self) -> Result<String, AllocError>
         ensures value { IfOk result (λ text. string_bytes text ≡ report_text self.now.lines) }
         ensures printable { IfOk result (λ text. AreShown (string_bytes text)) }
@@ -130,7 +135,7 @@ impl Report {
         Ok(text)
     }
 
-    /// Returns the text of all lines. The contract of `text` says more about it.
+    /// Returns what `text` returns. The contract of `text` says more about the result.
     fn written(&self) -> Result<String, AllocError>
         ensures value { IfOk result (λ text. string_bytes text ≡ report_text self.now.lines) }
         ensures lines { IfOk result (λ _. AreLines self.now.lines) }
@@ -144,21 +149,21 @@ impl Report {
     }
 }
 
-/// Returns whether both hold; the clause says for the prover what `&&` returns.
+/// Returns whether both hold. The clause tells the prover what `&&` returns.
 fn both(a: bool, b: bool) -> bool
     ensures { result ≡ (a && b) }
 {
     a && b
 }
 
-/// Returns whether one of both holds; the clause says for the prover what `||` returns.
+/// Returns whether one or both hold. The clause tells the prover what `||` returns.
 pub(crate) fn either(a: bool, b: bool) -> bool
     ensures { result ≡ (a || b) }
 {
     a || b
 }
 
-/// Appends lines.
+/// Appends lines to a text, each with a line feed.
 fn add_lines(lines: &[ReportLine], text: &mut String) -> Result<(), AllocError>
     ensures { OnOk result (string_bytes text.new ≡ string_bytes text.old ++ lines_text lines.now) }
 {
@@ -168,7 +173,7 @@ fn add_lines(lines: &[ReportLine], text: &mut String) -> Result<(), AllocError>
     Ok(())
 }
 
-/// Appends a line, and a line feed.
+/// Appends a line and a line feed to a text.
 fn add_line(line: &ReportLine, text: &mut String) -> Result<(), AllocError>
     ensures { OnOk result (string_bytes text.new
         ≡ (string_bytes text.old ++ line.now.text) ++ codes "\n") }

@@ -27,7 +27,7 @@ impl Model for ReportLine {
 }
 
 impl ReportLine {
-    /// The line of a file, with the control characters of both texts escaped.
+    /// Creates the line `file:message`, with the control characters of both texts escaped.
     pub(crate) fn new<D: Display + Drop>(
         alloc: Global,
         is_fault: bool,
@@ -46,7 +46,7 @@ impl ReportLine {
         Ok(ReportLine { is_fault, text })
     }
 
-    /// Whether it is of a fault.
+    /// Returns whether the line is of a fault.
     pub(crate) fn is_fault(&self) -> bool
         ensures value { result ≡ self.now.is_fault }
         ensures line { IsLine self.now.text }
@@ -54,7 +54,7 @@ impl ReportLine {
         self.is_fault
     }
 
-    /// The text, without a line feed.
+    /// Returns the text of the line, without a line feed.
     pub(crate) fn as_str(&self) -> &str
         ensures { result.now ≡ self.now.text }
     {

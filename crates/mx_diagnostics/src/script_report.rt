@@ -13,8 +13,8 @@ use mx_lines::{
 };
 use std::alloc::{AllocError, Global};
 
-/// Adds what is wrong in a script that begins below a number of lines of its file, by the names of
-/// the plan, and then the lines of a run of it.
+/// Adds to the report what is wrong in a script, and then `ran`, the faults and warnings of its
+/// run. `names` are those of the plan. In the file, `above` lines come before the text.
 ///
 /// # Errors
 ///
@@ -36,6 +36,7 @@ pub fn explain_script_text<'a>(
     report.add(lines)
 }
 
+/// Adds what is wrong in a script to the report on its file.
 fn explain_text(report: &mut FileReport<'_>, names: &PlanNames, text: &[u8]) -> Explained {
     let nodes = as_slices(report.alloc(), names.nodes.as_slice())?;
     let registers = as_slices(report.alloc(), names.registers.as_slice())?;
@@ -47,7 +48,7 @@ fn explain_text(report: &mut FileReport<'_>, names: &PlanNames, text: &[u8]) -> 
     explain_lines(report, &names, text)
 }
 
-/// Warns if a text is a list of events, and no script.
+/// Warns if a script is a JSON array, as a list of events is.
 fn warn_of_events(report: &mut FileReport<'_>, text: &[u8]) -> Explained {
     if !is_array(report.alloc(), text)? {
         return Ok(());
@@ -58,7 +59,7 @@ fn warn_of_events(report: &mut FileReport<'_>, text: &[u8]) -> Explained {
     )
 }
 
-/// Returns whether a text is an array of JSON.
+/// Returns whether a text is a JSON array.
 fn is_array(alloc: Global, text: &[u8]) -> Result<bool, AllocError> {
     let Ok(text) = str::from_utf8(text) else {
         return Ok(false);
@@ -70,6 +71,7 @@ fn is_array(alloc: Global, text: &[u8]) -> Result<bool, AllocError> {
     }
 }
 
+/// Reports what is wrong in each line of a script.
 fn explain_lines(report: &mut FileReport<'_>, names: &NameLists<'_>, text: &[u8]) -> Explained {
     let mut begins = 0usize;
     for line in text.split(|byte| *byte == b'\n') {
@@ -79,7 +81,7 @@ fn explain_lines(report: &mut FileReport<'_>, names: &NameLists<'_>, text: &[u8]
     Ok(())
 }
 
-/// A line that begins at a byte of the text.
+/// Reports what is wrong in a line, which begins at the byte `begins` of the text.
 fn explain_line(
     report: &mut FileReport<'_>,
     names: &NameLists<'_>,
@@ -95,8 +97,8 @@ fn explain_line(
     }
 }
 
-/// Each wrong word of a line. Where no nodes are known, names of nodes are not looked at; so too with
-/// registers.
+/// Reports each wrong word of a line, which begins at the byte `begins` of the text. Names of nodes
+/// are checked only if nodes are known, and names of registers only if registers are.
 fn explain_words(
     report: &mut FileReport<'_>,
     names: &NameLists<'_>,
@@ -117,7 +119,7 @@ fn explain_words(
     Ok(())
 }
 
-/// Whether any names are known of the kind that was expected.
+/// Returns whether names of the expected kind are known. Returns `true` if no name is expected.
 fn is_known(names: &NameLists<'_>, error: &LineError) -> bool {
     match error.expected {
         Expected::Node => !names.nodes.is_empty(),
@@ -126,7 +128,7 @@ fn is_known(names: &NameLists<'_>, error: &LineError) -> bool {
     }
 }
 
-/// A wrong word of a line that begins at a byte of the text.
+/// Reports a wrong word of a line, which begins at the byte `begins` of the text.
 fn explain_word(
     report: &mut FileReport<'_>,
     names: &NameLists<'_>,
@@ -143,7 +145,7 @@ fn explain_word(
     report.fault_at(begins.saturating_add(place), text.as_str())
 }
 
-/// The message for a wrong word, with the word that is meant if that is known.
+/// Returns the message for a wrong word of a line, with the word that is meant if that is known.
 fn message_for(
     alloc: Global,
     names: &NameLists<'_>,

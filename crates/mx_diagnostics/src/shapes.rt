@@ -1,4 +1,4 @@
-//! Why the nodes of a plan have no shape.
+//! What is wrong in the arbiter sets or the tree of a plan as a whole.
 
 use crate::expectations::{index_in, is_among};
 use crate::file_report::{Explained, FileReport};
@@ -9,8 +9,8 @@ use mx_trees::{Tree, TreeFault};
 use std::alloc::{AllocError, Global};
 use std::fmt;
 
-/// Reports why the nodes of a plan have no shape, if their names and the members for their shape
-/// are correct.
+/// Reports the first rule that the arbiter sets or the tree of a plan break. Reports nothing if a
+/// name, a set, an edge or the holder is malformed.
 pub(crate) fn explain_shape(
     report: &mut FileReport<'_>,
     plan: Node<'_>,
@@ -27,7 +27,7 @@ pub(crate) fn explain_shape(
     }
 }
 
-/// Returns whether these are the names of nodes: none comes twice.
+/// Returns whether all these are names, and no two are equal.
 fn are_names(nodes: &[&str]) -> bool {
     for (i, name) in nodes.iter().enumerate() {
         if !is_name(name) || is_among(name, nodes.get(..i).unwrap_or(&[])) {
@@ -37,6 +37,7 @@ fn are_names(nodes: &[&str]) -> bool {
     true
 }
 
+/// Reports the first rule that the arbiter sets of a plan break.
 fn explain_quorums(report: &mut FileReport<'_>, plan: Node<'_>, nodes: &[&str]) -> Explained {
     let Some(quorums) = plan.get("quorums") else {
         return Ok(());
@@ -48,7 +49,8 @@ fn explain_quorums(report: &mut FileReport<'_>, plan: Node<'_>, nodes: &[&str]) 
     report.fault_at(place.offset(), QuorumMessage { fault, nodes })
 }
 
-/// Returns why quorums are no family of sets. A grid with a place for each node always is one.
+/// Returns the first rule that the arbiter sets of a plan break. Returns `None` for a grid, which
+/// breaks none if it has a place for each node.
 fn quorum_fault(
     alloc: Global,
     quorums: Node<'_>,
@@ -67,7 +69,8 @@ fn quorum_fault(
     }
 }
 
-/// Returns why these sets, one for each node, are no family.
+/// Returns the first rule that these arbiter sets break. Returns `None` if there are not as many
+/// sets as nodes, or one is malformed.
 fn listed_fault(
     alloc: Global,
     sets: &[Node<'_>],
@@ -86,13 +89,14 @@ fn listed_fault(
     Ok(Quorums::listed(numbered.as_slice()).err())
 }
 
-/// Returns the number of a node.
+/// Returns the number of the node with this name.
 fn number_in(name: &str, nodes: &[&str]) -> Option<u8> {
     let index = index_in(name, nodes)?;
     u8::try_from(index).ok()
 }
 
-/// Returns the numbers of the nodes that an array names, or nothing if it names others.
+/// Returns the numbers of the nodes that an array names. Returns `None` if it is no array, or an
+/// item is no node.
 fn numbers_of(
     alloc: Global,
     array: Node<'_>,
@@ -111,7 +115,7 @@ fn numbers_of(
     Ok(Some(numbers))
 }
 
-/// Returns the value in which a fault of quorums is.
+/// Returns the value at which a fault of arbiter sets is reported.
 fn place_of<'a>(
     alloc: Global,
     quorums: Node<'a>,
@@ -127,6 +131,7 @@ fn place_of<'a>(
     }
 }
 
+/// Reports why the edges and the holder of a plan are no tree.
 fn explain_tree(report: &mut FileReport<'_>, plan: Node<'_>, nodes: &[&str]) -> Explained {
     let Some(edges) = plan.get("edges") else {
         return Ok(());
@@ -150,7 +155,8 @@ fn explain_tree(report: &mut FileReport<'_>, plan: Node<'_>, nodes: &[&str]) -> 
     report.fault_at(place.offset(), message)
 }
 
-/// Returns why edges and the holder of a plan are no tree.
+/// Returns why the edges and the holder of a plan are no tree. Returns `None` if one of them is
+/// malformed.
 fn tree_fault(
     alloc: Global,
     plan: Node<'_>,
@@ -173,7 +179,7 @@ fn tree_fault(
     }
 }
 
-/// A node, with its name and its number.
+/// A node as messages show it: its name and its number.
 #[derive(Clone, Copy)]
 struct NamedNode<'a> {
     nodes: &'a [&'a str],
@@ -233,7 +239,7 @@ impl fmt::Display for QuorumMessage<'_> {
     }
 }
 
-/// The message of a fault of a tree, with the number of its edges.
+/// The message of a fault of a tree, with the number of edges.
 #[derive(Clone, Copy)]
 struct TreeMessage<'a> {
     fault: TreeFault,

@@ -5,10 +5,10 @@ use mx_events::EVENT_KINDS;
 use mx_lines::words_in;
 use std::alloc::{AllocError, Global};
 
-/// The words of scripts that are none of events.
+/// The words with which lines of scripts begin, besides those of events.
 const SCRIPT_WORDS: [&str; 5] = ["lose", "again", "cut", "heal", "times"];
 
-/// Words that are none of these, and the word that is meant.
+/// Words that neither events nor scripts use, each with the word that is meant instead.
 const MEANT: [(&str, &str); 6] = [
     ("request", "ask"),
     ("send", "deliver"),
@@ -18,7 +18,7 @@ const MEANT: [(&str, &str); 6] = [
     ("quit", "leave"),
 ];
 
-/// The words of events, in order.
+/// Returns the words of events, in the order of `EVENT_KINDS`.
 pub(crate) fn event_words(alloc: Global) -> Result<Vec<&'static str>, AllocError> {
     let mut words = Vec::new(alloc);
     for kind in &EVENT_KINDS {
@@ -27,14 +27,14 @@ pub(crate) fn event_words(alloc: Global) -> Result<Vec<&'static str>, AllocError
     Ok(words)
 }
 
-/// The words with which a line of a script may begin, in order.
+/// Returns the words with which a line of a script may begin, those of events first.
 pub(crate) fn script_words(alloc: Global) -> Result<Vec<&'static str>, AllocError> {
     let mut words = event_words(alloc)?;
     words.extend_from_slice(&SCRIPT_WORDS)?;
     Ok(words)
 }
 
-/// The word of these that is meant by another word.
+/// Returns the word among `words` that is meant by a wrong word, or `None` if that is not known.
 pub(crate) fn word_meant(word: &str, words: &[&str]) -> Option<&'static str> {
     for (other, meant) in &MEANT {
         if *other == word && is_among(meant, words) {
@@ -44,7 +44,8 @@ pub(crate) fn word_meant(word: &str, words: &[&str]) -> Option<&'static str> {
     None
 }
 
-/// Words in a sentence: with commas, and an `or` before the last. Then the one that is meant.
+/// Returns words as a sentence lists them: with commas, and `or` before the last. If a word is
+/// meant, it follows.
 pub(crate) fn listed(
     alloc: Global,
     words: &[&str],
@@ -61,7 +62,8 @@ pub(crate) fn listed(
     Ok(text)
 }
 
-/// What a sentence has before the k-th of this many words.
+/// Returns what stands before word `k`, from 0, in a list of `count` words: a comma, `or` or
+/// nothing.
 fn before(k: usize, count: usize) -> &'static str {
     match count.saturating_sub(k) {
         1 => " or ",
@@ -70,7 +72,8 @@ fn before(k: usize, count: usize) -> &'static str {
     }
 }
 
-/// The number of the first line with words, counted from 1, if it begins with a word of scripts.
+/// Returns the number of the first line with words, if it begins with a word of scripts. Lines are
+/// counted from 1.
 pub(crate) fn first_script_line(alloc: Global, text: &[u8]) -> Result<Option<u64>, AllocError> {
     let known = script_words(alloc)?;
     let mut number = 0u64;

@@ -67,7 +67,7 @@ abbrev pub number_in : Argument → Option ℕ
 number_in (argument.Number number) = Some number
 number_in _ = None
 
--- the event of a kind with these arguments
+-- the event of a kind with these arguments, if their number and their kinds are right
 abbrev pub event_of : EventKind → List Argument → Option Event
 event_of Ask (a ∷ []) = option_map event.Ask (node_in a)
 event_of Enter (a ∷ []) = option_map event.Enter (node_in a)

@@ -18,7 +18,7 @@ kind_of (event.Want node other) = kind.Want
 kind_of (event.Deliver number) = kind.Deliver
 kind_of (event.Restart node) = kind.Restart
 
--- the node of an event; that of a delivery depends on the parcel
+-- the node of an event, or `None` for a delivery, whose node depends on the parcel
 abbrev pub node_of : Event → Option ℕ
 node_of (event.Ask node) = Some node
 node_of (event.Enter node) = Some node

@@ -9,7 +9,8 @@ use crate::kind::EventKind;
 use arrayvec::ArrayVec;
 use mx_stamps::NodeId;
 
-/// An event of one node; a `Deliver` is of the parcel's addressee. Registers are numbered from 0.
+/// An event of one node. A `Deliver` is an event of the parcel's addressee. Registers are numbered
+/// from 0.
 #[derive(Clone, Copy, Debug, PartialEq, Eq)]
 pub enum Event {
     /// The idle node asks for the section.
@@ -24,17 +25,18 @@ pub enum Event {
     Leave(NodeId),
     /// The waiting node withdraws its request.
     Cancel(NodeId),
-    /// The node replaces the records of all sections up to this number by the register values after
-    /// them.
+    /// The node replaces the records of all sections up to this number by the values of the
+    /// registers after these sections.
     Settle(NodeId, u64),
     /// The node sends its outstanding letters again.
     Tick(NodeId),
-    /// The first node asks the second for the sections that it lacks.
+    /// The first node asks the second for the sections that the journal of the first lacks.
     Want(NodeId, NodeId),
     /// The parcel of this number reaches its addressee. Parcels are numbered from 0, in the order
     /// in which they were sent. The network may deliver a parcel late, never, or several times.
     Deliver(u64),
-    /// The node restarts from what it has stored, and starts its draft again.
+    /// The node restarts from what it has stored, and forgets the reads and writes of its section
+    /// so far.
     Restart(NodeId),
 }
 
@@ -58,7 +60,8 @@ impl Event {
         }
     }
 
-    /// Returns the node of the event, or `None` for a delivery: that is of the parcel's addressee.
+    /// Returns the node of the event, or `None` for a delivery, which is an event of the parcel's
+    /// addressee.
     pub fn node(&self) -> Option<NodeId>
         ensures { result ≡ node_of self.now }
     {
@@ -102,8 +105,8 @@ impl Event {
         arguments
     }
 
-    /// Returns the event of a kind with these arguments. Returns `None` if their number, or the
-    /// kind of one of them, is not the one that the kind of event requires.
+    /// Returns the event of a kind with these arguments, or `None` if their number or their kinds
+    /// do not fit the kind of event.
     pub fn of(kind: EventKind, arguments: &[Argument]) -> Option<Event>
         ensures value { result ≡ event_of kind arguments.now }
         ensures some { IsSome result ↔ IsTrue (are_of (arguments_of kind) arguments.now) }
@@ -119,6 +122,7 @@ impl Event {
     }
 }
 
+/// Returns the event of a kind with one argument, if that fits.
 fn of_one(kind: EventKind, a: &Argument) -> Option<Event>
     ensures value { result ≡ event_of kind (a.now ∷ []) }
     ensures some { IsSome result ↔ IsTrue (are_of (arguments_of kind) (a.now ∷ [])) }
@@ -137,6 +141,7 @@ fn of_one(kind: EventKind, a: &Argument) -> Option<Event>
     }
 }
 
+/// Returns the event of a kind with two arguments, if they fit.
 fn of_two(kind: EventKind, a: &Argument, b: &Argument) -> Option<Event>
     ensures value { result ≡ event_of kind (a.now ∷ b.now ∷ []) }
     ensures some { IsSome result ↔ IsTrue (are_of (arguments_of kind) (a.now ∷ b.now ∷ [])) }
@@ -151,6 +156,7 @@ fn of_two(kind: EventKind, a: &Argument, b: &Argument) -> Option<Event>
     }
 }
 
+/// Returns the event of a kind with three arguments, if they fit.
 fn of_three(kind: EventKind, a: &Argument, b: &Argument, c: &Argument) -> Option<Event>
     ensures value { result ≡ event_of kind (a.now ∷ b.now ∷ c.now ∷ []) }
     ensures some { IsSome result

@@ -38,7 +38,7 @@ pub const EVENT_KINDS: [EventKind; 11] = [
 ];
 
 impl EventKind {
-    /// Returns the word that files, scripts and printed lines use for it.
+    /// Returns the word for the kind in files, scripts and printed lines.
     pub fn word(self) -> &'static str
         ensures { result.now ≡ word_of self }
     {
@@ -69,7 +69,7 @@ impl EventKind {
         None
     }
 
-    /// Returns the kinds of the arguments that follow the word, in order: 1 to 3.
+    /// Returns the kinds of the 1 to 3 arguments that follow the word, in order.
     pub fn arguments(self) -> &'static [ArgumentKind]
         ensures value { result.now ≡ arguments_of self }
         ensures few { length result.now ≤ 3 }

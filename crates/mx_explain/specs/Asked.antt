@@ -8,11 +8,11 @@ use Rattle.mx_cli.specs.declared.table.CommandId.TheVariants as id
 use Rattle.mx_explain.specs.declared.request.ExplainRequest.{ExplainRequest as Given}
 use Rattle.mx_explain.specs.declared.request.ExplainRequest.TheVariants as given
 
--- the whole command line
+-- the command line of `mx` with `explain` alone
 unfoldable pub explain_line : App
 explain_line = line_of (id.Explain ∷ [])
 
--- a check or a replay; or the script of a plan
+-- an explanation of a check or a replay; or of a script, by the names of the plan and the script
 pub data ExplainRequest : Type 0 where
   run : Request → ExplainRequest
   script : Text × Text → ExplainRequest
@@ -21,16 +21,16 @@ abbrev pub explain_request_of : Given → ExplainRequest
 explain_request_of (given.Run request) = run (request_of request)
 explain_request_of (given.Script names) = script (names_of names)
 
--- a script where that is asked for, else a replay
+-- a script if `--script` was given, else a replay
 abbrev pub request_with : Bool → Text × Text → ExplainRequest
 request_with is_script names = if is_script then script names else run (replay names)
 
--- a second file is named, else it is a check
+-- a script or a replay if a second file was named, else a check
 abbrev pub request_on : Bool → Text → Option Text → ExplainRequest
 request_on is_script plan None = run (check plan)
 request_on is_script plan (Some events) = request_with is_script (plan, events)
 
--- what was given for the arguments
+-- what `explain` asks for, by what was given for its arguments
 abbrev pub explain_in : List Row → Option ExplainRequest
 explain_in rows =
     option_map
@@ -40,6 +40,6 @@ explain_in rows =
 abbrev pub request_in : Option (Text × List Row) → Option ExplainRequest
 request_in met = by_name (codes "explain") explain_in met
 
--- what the words ask for, where they are `explain` with its arguments
+-- what the words ask for, if they are `explain` with its arguments
 unfoldable pub request_asked : List Text → Option ExplainRequest
 request_asked words = asked_of explain_line request_in words

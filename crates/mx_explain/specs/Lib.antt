@@ -1,4 +1,4 @@
--- Asked: what the words of `explain` ask for. Explained: with which status it ends, and what
--- standard error gets.
+-- Asked: what the words of `explain` ask for. Explained: with which status it ends, and what the
+-- two outputs get.
 pub mod Asked
 pub mod Explained

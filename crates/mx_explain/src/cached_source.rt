@@ -6,9 +6,9 @@ use mx_io::{Refusal, Source, SourceFault, Streams, Table, read_name};
 use std::alloc::{AllocError, Global};
 use std::rt::Files;
 
-/// Named bytes that can say why a name cannot be read.
+/// A source of named bytes that can say why a name cannot be read.
 pub trait DetailedSource: Source {
-    /// Returns the bytes of a name, which may have been read before.
+    /// Returns the bytes that the source has under a name, perhaps read before.
     ///
     /// # Errors
     ///
@@ -35,14 +35,14 @@ impl<R: Files + Input> DetailedSource for Streams<'_, R> {
     }
 }
 
-/// The bytes of a name.
+/// A name, and the bytes that were read of it.
 #[derive(Drop)]
 pub(crate) struct Entry {
     name: String,
     bytes: Vec<u8>,
 }
 
-/// A source whose bytes are read once: they are kept until they are fetched again.
+/// A source that keeps what `bytes` reads, until `fetched` takes it.
 #[derive(Drop)]
 pub(crate) struct CachedSource<'s, S: Source + DetailedSource> {
     pub(crate) source: &'s mut S,
@@ -73,7 +73,7 @@ impl<'s, S: Source + DetailedSource> DetailedSource for CachedSource<'s, S> {
     }
 }
 
-/// Keeps a copy of the bytes of a name.
+/// Keeps a copy of the bytes that were read under a name.
 fn keep(
     alloc: Global,
     entries: &mut Vec<Entry>,
@@ -92,7 +92,7 @@ fn take(entries: &mut Vec<Entry>, name: &str) -> Option<Vec<u8>> {
     Some(entries.swap_remove(index).bytes)
 }
 
-/// Returns the place at which the bytes of a name are kept.
+/// Returns the index of the entry that has the bytes read under a name.
 fn index_of(entries: &[Entry], name: &str) -> Option<usize>
     ensures within { IfSome result (λ index. index < length entries.now) }
 {

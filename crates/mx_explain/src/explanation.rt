@@ -1,4 +1,4 @@
-//! `explain`: from words, named bytes and two outputs to a status.
+//! `explain`: from words, named bytes and two outputs to an exit status.
 
 ghost use Rattle.std.specs.Prelude.{◌≡◌, ◌&&◌, IsSome, IfSome, IfOk, IfErr, OnErr, OnOk, None, is_some, true, false};
 ghost use Rattle.mx_cli.specs.Words.{request_of, texts_of};
@@ -54,7 +54,7 @@ pub fn explain<S: Source + DetailedSource, O: Output, E: Output>(
     }
 }
 
-/// Explains what was asked for. Each file is read once.
+/// Explains what was asked for, and returns the exit status. What a run has read is not read again.
 fn explain_cached<S: Source + DetailedSource, O: Output, E: Output>(
     alloc: Global,
     request: &ExplainRequest<'_>,
@@ -78,6 +78,7 @@ fn explain_cached<S: Source + DetailedSource, O: Output, E: Output>(
     explain_cached_request(alloc, request, &mut cached, out, err)
 }
 
+/// Explains a check, a replay or a script, and returns the exit status.
 fn explain_cached_request<S: Source + DetailedSource, O: Output, E: Output>(
     alloc: Global,
     request: &ExplainRequest<'_>,
@@ -100,6 +101,7 @@ fn explain_cached_request<S: Source + DetailedSource, O: Output, E: Output>(
     }
 }
 
+/// Explains a check or a replay, and returns the exit status.
 fn explain_request<S: Source + DetailedSource, O: Output, E: Output>(
     alloc: Global,
     request: &Request<'_>,
@@ -119,7 +121,8 @@ fn explain_request<S: Source + DetailedSource, O: Output, E: Output>(
     close(alloc, ended, &names_in(request), out, err)
 }
 
-/// Carries out what is to be explained, and prints what is wrong. Returns how it ended.
+/// Carries out a check or a replay without its output, and prints what is wrong in its files.
+/// Returns how the check or replay ended, or why printing failed.
 fn carry_out_and_explain<S: Source + DetailedSource, O: Output>(
     alloc: Global,
     request: &Request<'_>,
@@ -138,7 +141,8 @@ fn carry_out_and_explain<S: Source + DetailedSource, O: Output>(
     ended
 }
 
-/// Carries out what is to be explained, and keeps the warnings of a replay. Prints nothing.
+/// Carries out a check or a replay, and keeps the warnings of a replay. Prints nothing. Ends as the
+/// command does over an output that takes all texts.
 fn run<S: Source>(
     alloc: Global,
     request: &Request<'_>,
@@ -156,8 +160,8 @@ fn run<S: Source>(
     }
 }
 
-/// Prints what is wrong in files that were read with this end. Where memory ran out that is
-/// nothing.
+/// Prints what is wrong in the files of a request that ended as `ended` says. Prints nothing if
+/// memory ran out.
 fn print_end<S: Source + DetailedSource, O: Output>(
     alloc: Global,
     request: &Request<'_>,
@@ -185,7 +189,8 @@ fn print_end<S: Source + DetailedSource, O: Output>(
     }
 }
 
-/// Prints what is wrong in files that are read with this fault, or that nothing is.
+/// Prints what is wrong in the files of a request that ended with this fault. If it ended with
+/// none, prints the warnings, and that nothing is at fault.
 fn print_explanation<S: Source + DetailedSource, O: Output>(
     alloc: Global,
     request: &Request<'_>,
@@ -204,7 +209,7 @@ fn print_explanation<S: Source + DetailedSource, O: Output>(
     put_report(&report, out)
 }
 
-/// Prints all lines.
+/// Prints all lines of a report.
 pub(crate) fn put_report<O: Output>(report: &Report, out: &mut O) -> Result<(), CommandError>
     ensures fails { IfErr result (FailsToPrint (O.takes_all out.old)) }
     ensures prints { OnOk result (PrintsReport (O.written out.old) (O.written out.new)
@@ -217,7 +222,7 @@ pub(crate) fn put_report<O: Output>(report: &Report, out: &mut O) -> Result<(), 
     Ok(())
 }
 
-/// What is wrong in files that are read with this fault.
+/// Returns the report on the files of a request that ended with this fault, or with none.
 fn report_of<S: Source + DetailedSource>(
     alloc: Global,
     request: &Request<'_>,

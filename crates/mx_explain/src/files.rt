@@ -13,7 +13,7 @@ use mx_diagnostics::{
 use mx_io::{Refusal, Source};
 use std::alloc::AllocError;
 
-/// What comes with a plan.
+/// What comes with a plan, as a second file or in the rest of standard input.
 #[derive(Clone, Copy)]
 pub(crate) enum Second<'a> {
     /// Events, with the warnings of their run if they were read.
@@ -22,7 +22,7 @@ pub(crate) enum Second<'a> {
     Script(Option<&'a ScriptWarnings>),
 }
 
-/// Adds what is wrong in the files of a check or of a replay that ended with this fault.
+/// Adds what is wrong in the files of a check or a replay that ended with this fault, or with none.
 pub(crate) fn explain_files<S: Source + DetailedSource>(
     report: &mut Report,
     request: &Request<'_>,
@@ -45,7 +45,7 @@ pub(crate) fn explain_files<S: Source + DetailedSource>(
     }
 }
 
-/// Adds what is wrong in a plan and in what comes with it.
+/// Adds what is wrong in a plan and in the events or the script that come with it.
 pub(crate) fn explain_both<S: Source + DetailedSource>(
     report: &mut Report,
     names: &Names<'_>,
@@ -61,7 +61,7 @@ pub(crate) fn explain_both<S: Source + DetailedSource>(
     }
 }
 
-/// A plan without events.
+/// Adds what is wrong in a plan that comes alone.
 fn explain_alone<S: Source + DetailedSource>(
     report: &mut Report,
     name: &str,
@@ -75,7 +75,7 @@ fn explain_alone<S: Source + DetailedSource>(
     Ok(())
 }
 
-/// A plan in the first line of a text, and what comes with it in the rest.
+/// Adds what is wrong in a plan, the first line of a text, and in the rest, its events or script.
 fn explain_one<S: Source + DetailedSource>(
     report: &mut Report,
     names: &Names<'_>,
@@ -92,7 +92,7 @@ fn explain_one<S: Source + DetailedSource>(
     explain_second(report, names.events, second, &plan, rest, 1)
 }
 
-/// A plan and what comes with it in two files.
+/// Adds what is wrong in a plan, and in its events or script in a second file.
 fn explain_two<S: Source + DetailedSource>(
     report: &mut Report,
     names: &Names<'_>,
@@ -111,7 +111,8 @@ fn explain_two<S: Source + DetailedSource>(
     explain_second(report, names.events, second, &plan, rest.as_slice(), 0)
 }
 
-/// What is wrong in events or in a script, each event and each line by itself, and in their run.
+/// Adds what is wrong in `text`, which has the events or the script. It is the end of the file,
+/// after `above` lines.
 fn explain_second<'a>(
     report: &mut Report,
     file: &'a str,
@@ -135,7 +136,8 @@ fn explain_second<'a>(
     }
 }
 
-/// The bytes of a file, or a line of why it can't be read.
+/// Returns the bytes of a file. If it can't be read, adds the reason to the report, and returns
+/// `None`.
 fn fetched<S: Source + DetailedSource>(
     report: &mut Report,
     name: &str,

@@ -10,7 +10,8 @@ use mx_stamps::NodeId;
 use mx_trace::{Cause, Outcome};
 use std::alloc::{AllocError, Global};
 
-/// Returns the warning of the newest event of a cluster, which is refused. It begins with a space.
+/// Returns the warning that `event`, the newest one of a cluster, is refused for this cause. The
+/// text begins with a space.
 pub(crate) fn refusal<C: Exclusion + Knowledge>(
     alloc: Global,
     plan: &Plan,
@@ -30,7 +31,7 @@ pub(crate) fn refusal<C: Exclusion + Knowledge>(
     Ok(text)
 }
 
-/// Appends what a node knows, in the words of `show`.
+/// Appends what a node knows, in the words that `show` of `mx play` prints.
 fn add_known<C: Exclusion + Knowledge>(
     alloc: Global,
     plan: &Plan,

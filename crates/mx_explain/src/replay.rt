@@ -27,6 +27,7 @@ pub(crate) struct ReplayWarnings {
     refused: Warnings,
     /// How many parcels were sent.
     sent: u64,
+    /// The event that ends the run, if it delivers a parcel that was not sent.
     unsent: Option<Unsent>,
 }
 
@@ -80,13 +81,13 @@ impl ReplayWarnings {
         }
     }
 
-    /// Returns whether there is no warning, and each parcel was sent.
+    /// Returns whether no event was refused, and none delivers a parcel that was not sent.
     fn is_empty(&self) -> bool {
         self.refused.shown().is_empty() && self.unsent.is_none()
     }
 
-    /// Adds all lines to a report. They have their places in the text of the events, which begins
-    /// below a number of lines of its file.
+    /// Adds all warnings to a report. They have their places in `text`, the text of the events,
+    /// which is the end of the file, after `above` lines.
     pub(crate) fn explain<'a>(
         &self,
         report: &mut Report,
@@ -106,6 +107,7 @@ impl ReplayWarnings {
         report.add(lines)
     }
 
+    /// Adds all warnings to the lines of a file, each at its event.
     fn add_to(&self, lines: &mut FileReport<'_>, offsets: &EventOffsets) -> Result<(), AllocError> {
         for warning in self.refused.shown() {
             lines.warn_at(offsets.event(warning.number), warning.text.as_str())?;
@@ -118,7 +120,9 @@ impl ReplayWarnings {
     }
 }
 
-/// Reads the plan, then the events, and replays them. Prints nothing.
+/// Reads the plan, then the events, and replays the events. Prints nothing. Ends as the command
+/// `replay` does over an output that takes all texts: with status 0, with the same fault, or
+/// because memory ran out.
 pub(crate) fn replay<S: Source>(
     alloc: Global,
     names: &Names<'_>,
@@ -133,7 +137,7 @@ pub(crate) fn replay<S: Source>(
     replay_events(alloc, &both.plan, both.text.as_slice(), warnings)
 }
 
-/// Reads the events and replays them, by the plan's algorithm.
+/// Reads the events in `text`, and replays them in the cluster of the plan. Ends as `replay` does.
 fn replay_events(
     alloc: Global,
     plan: &Plan,
@@ -153,7 +157,8 @@ fn replay_events(
     }
 }
 
-/// An event that delivers a parcel that was not sent.
+/// An event that delivers a parcel that was not sent: the index of the event, the number of the
+/// parcel, and how many parcels were sent before.
 #[derive(Clone, Copy)]
 struct Unsent {
     index: u64,

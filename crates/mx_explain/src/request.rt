@@ -22,8 +22,8 @@ pub(crate) enum ExplainRequest<'a> {
 ///
 /// # Errors
 ///
-/// Returns the error of `clap` for wrong arguments, and also, with the text to show, if help is
-/// requested.
+/// Returns the error of `clap` for wrong arguments. A request for help is such an error too, with
+/// the text to show.
 pub(crate) fn parse<'a>(
     alloc: Global,
     words: &'a [&'a str],
@@ -44,7 +44,7 @@ fn from_matches<'a>(matches: &ArgMatches<'a>) -> Option<ExplainRequest<'a>>
     }
 }
 
-/// A replay or a script where a second file is named, else a check.
+/// Returns a replay or a script if a second file is named, else a check.
 fn explain_in<'a>(matches: &ArgMatches<'a>) -> Option<ExplainRequest<'a>>
     ensures { option_map explain_request_of result ≡ explain_in (rows_of (found_of matches.now)) }
 {

@@ -12,7 +12,7 @@ use mx_scripts::{Recorder, RefusedLine, SessionEvent, State};
 use std::alloc::{AllocError, Global};
 
 /// What a run of a script reports: which events are refused, which line cannot be done, and which
-/// parcels are under way there.
+/// parcels are under way at that line.
 #[derive(Drop)]
 pub(crate) struct ScriptWarnings {
     refused: Warnings,
@@ -66,7 +66,8 @@ impl ScriptWarnings {
         }
     }
 
-    /// Notes a line that is refused. A wrong word has a message of its own.
+    /// Notes a line that is refused, unless one of its words is wrong: `explain_script_text` has a
+    /// message for each wrong word.
     fn note_fault(&mut self, line: &RefusedLine) -> Result<(), AllocError> {
         if line.is_unread {
             return Ok(());
@@ -80,7 +81,8 @@ impl ScriptWarnings {
         Ok(())
     }
 
-    /// Notes the parcels under way, the oldest first, as warnings of a line.
+    /// Notes the parcels under way, the oldest first, or that there is none, as warnings of the
+    /// line `number`.
     fn note_parcels<C: Exclusion>(
         &mut self,
         plan: &Plan,
@@ -102,7 +104,7 @@ impl ScriptWarnings {
         Ok(())
     }
 
-    /// Notes that a parcel is under way, in the words of `show`.
+    /// Notes that a parcel is under way, as a warning of the line `number`.
     fn note_parcel<C: Exclusion>(
         &mut self,
         plan: &Plan,
@@ -122,7 +124,8 @@ impl ScriptWarnings {
         self.parcels.push(number, text)
     }
 
-    /// Returns all lines of a script, which begins below a number of lines of its file.
+    /// Returns all warnings and the fault as a report on `script`, which is the end of the file,
+    /// after `above` lines.
     pub(crate) fn explain<'a>(
         &self,
         file: &'a str,
@@ -140,7 +143,7 @@ impl ScriptWarnings {
     }
 }
 
-/// Returns the warning that a parcel is under way.
+/// Returns the warning that a parcel is under way, in the words that `show` of `mx play` prints.
 fn text_of_parcel<C: Exclusion>(
     alloc: Global,
     plan: &Plan,
@@ -160,7 +163,7 @@ where
     Ok(text)
 }
 
-/// Adds warnings of lines.
+/// Adds warnings, each at its line, to the report on a file.
 fn add_warnings(warnings: &Warnings, lines: &mut FileReport<'_>) -> Result<(), AllocError> {
     for warning in warnings.shown() {
         lines.warn_of_line(warning.number, warning.text.as_str())?;

@@ -18,7 +18,8 @@ use mx_io::{Output, Source};
 use mx_scripts::{ScriptError, close_script, file_of_names};
 use std::alloc::{AllocError, Global};
 
-/// Tells how a script ends, and prints what is wrong in it. Returns the status.
+/// Prints what is wrong in a plan and a script, reports how the script ends, and returns the exit
+/// status.
 pub(crate) fn explain_script<S: Source + DetailedSource, O: Output, E: Output>(
     alloc: Global,
     names: &Names<'_>,
@@ -38,7 +39,8 @@ pub(crate) fn explain_script<S: Source + DetailedSource, O: Output, E: Output>(
     close_script(alloc, ended, names, out, err)
 }
 
-/// Lets the lines happen, and prints what is wrong. Returns how the script ended.
+/// Runs the lines of a script, and prints what is wrong. Returns how the script ended, or why
+/// printing failed.
 fn end_and_explain<S: Source + DetailedSource, O: Output>(
     alloc: Global,
     names: &Names<'_>,
@@ -59,7 +61,8 @@ fn end_and_explain<S: Source + DetailedSource, O: Output>(
     }
 }
 
-/// Returns how a script ends whose file nobody reads, and keeps its warnings.
+/// Runs a script, and keeps its warnings. Returns how the script ends; the file of its events is
+/// dropped.
 fn end_of<S: Source>(
     alloc: Global,
     names: &Names<'_>,
@@ -76,8 +79,8 @@ fn end_of<S: Source>(
     }
 }
 
-/// Prints what is wrong in files that were read with this end. Where memory ran out that is
-/// nothing.
+/// Prints what is wrong in the files of a script that ended as `ended` says. Prints nothing if
+/// memory ran out.
 fn print_end<S: Source + DetailedSource, O: Output>(
     alloc: Global,
     names: &Names<'_>,
@@ -103,8 +106,8 @@ fn print_end<S: Source + DetailedSource, O: Output>(
     }
 }
 
-/// Prints what is wrong in a plan and a script, or that nothing is. The warnings are given if both
-/// were read.
+/// Prints what is wrong in a plan and a script. If the script ended well (`is_well`), prints the
+/// warnings, and that nothing is at fault. `warnings` is given if both files were read.
 fn print_wrong<S: Source + DetailedSource, O: Output>(
     alloc: Global,
     names: &Names<'_>,
@@ -123,7 +126,7 @@ fn print_wrong<S: Source + DetailedSource, O: Output>(
     put_report(&report, out)
 }
 
-/// Returns what is wrong in a plan and a script.
+/// Returns the report on a plan and a script. It has only warnings if the script ended well.
 fn report_of<S: Source + DetailedSource>(
     alloc: Global,
     names: &Names<'_>,

@@ -9,14 +9,14 @@ use mx_plan::Plan;
 use mx_trace::Outcome;
 use std::alloc::{AllocError, Global};
 
-/// A message about the event or the line that has this number. It begins with a space.
+/// A message about the event or the line of this number. The text begins with a space.
 #[derive(Drop)]
 pub(crate) struct Message {
     pub(crate) number: u64,
     pub(crate) text: String,
 }
 
-/// Warnings in the order of a run. Those that a file has no room for are only counted.
+/// Warnings in the order of a run. The first `MAX_LINES` are shown, and further ones only counted.
 #[derive(Drop)]
 pub(crate) struct Warnings {
     alloc: Global,
@@ -39,12 +39,12 @@ impl Warnings {
         self.alloc
     }
 
-    /// Returns the first warnings.
+    /// Returns the warnings that are shown.
     pub(crate) fn shown(&self) -> &[Message] {
         self.shown.as_slice()
     }
 
-    /// Returns how many more are only counted.
+    /// Returns how many warnings are only counted.
     pub(crate) fn more(&self) -> u64 {
         self.more
     }
@@ -65,8 +65,8 @@ impl Warnings {
         Ok(())
     }
 
-    /// Adds a warning if the newest event of a cluster is refused. The number is that of the event
-    /// or of its line. If warnings are only counted, its text is not made.
+    /// Adds a warning if the newest event of a cluster is refused. `number` is that of the event or
+    /// of its line. If the list is full, the warning is only counted.
     pub(crate) fn note_newest<C: Exclusion + Knowledge>(
         &mut self,
         plan: &Plan,

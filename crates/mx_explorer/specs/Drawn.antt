@@ -19,7 +19,7 @@ IsDrawn nodes registers (Settle i upto) = i < nodes
 IsDrawn nodes registers (Deliver word) = Unit {0}
 IsDrawn nodes registers (Restart i) = i < nodes
 
--- the next word of a generator, and the generator after this many words
+-- the next word (32-bit number) of a generator, and (below) the generator after this many words
 abbrev pub word : Lcg → ℕ
 word g = (pcg32 g).0
 
@@ -27,7 +27,7 @@ abbrev pub after_words : ℕ → Lcg → Lcg
 after_words zero g = g
 after_words (suc n) g = after_words n (pcg32 g).1
 
--- the event that a number below 16 means: each argument, in its order, takes one word
+-- the event for a number n below 16. Each argument, in order, takes one word
 abbrev pub event_by : ℕ → ℕ → ℕ → Lcg → Event
 event_by n nodes registers g =
     if nat_lt n 2 then Ask (word g % nodes)
@@ -43,7 +43,7 @@ event_by n nodes registers g =
     else if nat_lt n 15 then Settle (word g % nodes) (word (after_words 1 g) % 17)
     else Cancel (word g % nodes)
 
--- one word chooses which it is
+-- the next event: one word chooses its kind, and its arguments take the words after that
 abbrev pub drawn : ℕ → ℕ → Lcg → Event
 drawn nodes registers g = event_by (word g % 16) nodes registers (after_words 1 g)
 
@@ -55,11 +55,11 @@ arguments (Want i j) = 2
 arguments (Settle i upto) = 2
 arguments _ = 1
 
--- the generator after an event
+-- the generator after an event was drawn
 abbrev pub after_drawn : Event → Lcg → Lcg
 after_drawn e = after_words (suc (arguments e))
 
--- the events of this many steps
+-- the events drawn in this many steps
 abbrev pub drawn_list : ℕ → ℕ → ℕ → Lcg → List Event
 drawn_list zero nodes registers g = []
 drawn_list (suc steps) nodes registers g =

@@ -1,4 +1,4 @@
--- What the judge remembers of the items before, and what it finds at a mark.
+-- What the judge remembers of the earlier items of a trace, and what it finds at the next mark.
 use Rattle.std.specs.Prelude.{ℕ, suc, ◌≡◌, ◌<◌, ◌&&◌, Bool, false, List, [], ◌∷◌, Option, Some, None, length, nat_eq, slice_index, if◌then◌else◌}
 use Rattle.mx_journal.specs.declared.records.Write.{Write}
 use Rattle.mx_registers.specs.Registers.{applied}
@@ -13,7 +13,7 @@ abbrev pub older : List Section → List Section
 older [] = []
 older (s ∷ ss) = ss
 
--- the node inside the newest section
+-- the node inside the newest section, if this section is not closed
 abbrev pub holder : List Section → Option ℕ
 holder [] = None
 holder (s ∷ ss) = if s.closed then None else Some s.node
@@ -23,7 +23,7 @@ abbrev pub Shows : List Write → List ℕ → Type 0
 Shows writes values =
     (length values ≡ 256) × ((r : ℕ) → r < 256 → slice_index values r ≡ applied r writes 0)
 
--- the ledger describes these sections, and all but the newest have been left
+-- the ledger describes these sections, and all but the newest are closed
 pub record IsLedgerOf (ss : List Section) (l : Ledger) : Type 0 where
   pub inside : l.inside ≡ holder ss
   pub last : l.last ≡ length ss
@@ -35,12 +35,12 @@ abbrev pub is_node : ℕ → Option ℕ → Bool
 is_node i None = false
 is_node i (Some j) = nat_eq j i
 
--- what an entry into a section breaks, given who is inside and the number that is next
+-- the clause that an entry with number n breaks, given the node inside and the next number
 abbrev pub at_entry : Option ℕ → ℕ → ℕ → Option Clause
 at_entry None next n = if nat_eq n next then None else Some Number
 at_entry (Some j) next n = Some Overlap
 
--- what a mark breaks after these sections
+-- the clause that a mark breaks after these sections, if it breaks one
 abbrev pub broken_by : List Section → Mark → Option Clause
 broken_by ss (Came i n) = at_entry (holder ss) (suc (length ss)) n
 broken_by ss (Got i register value) =
@@ -52,13 +52,13 @@ broken_by ss (Went i receipt) =
     if is_node i (holder ss) && nat_eq receipt.number (length ss) then None else Some Overlap
 broken_by ss (Woke i) = None
 
--- what an item of the trace breaks, by its mark; an item without a mark breaks nothing
+-- the clause that an item of the trace breaks by its mark. An item without a mark breaks none
 abbrev pub broken_at : List Section → List Mark → Option Clause
 broken_at ss [] = None
 broken_at ss (m ∷ ms) = broken_by ss m
 
--- after a mark: `found` is the clause that it breaks; where it breaks none, the new ledger
--- describes the sections after it
+-- after an item of the trace: `found` is the clause that the item breaks. If it breaks none, the
+-- new ledger describes the sections after the item
 abbrev pub Takes : Ledger → List Mark → Option Clause → Ledger → Type 0
 Takes old marks found new =
     (ss : List Section) → IsLedgerOf ss old

@@ -1,6 +1,6 @@
--- Verdict: sound traces, and where one is first broken. Ledger: what the judge remembers, and what
--- it finds at a mark. Drawn: events drawn from words. Place: the place of a drawn delivery.
--- Weather: the fates of parcels.
+-- Verdict: sound traces, and where a trace is first broken. Ledger: what the judge remembers, and
+-- what it finds at a mark. Drawn: events drawn from the words of a generator. Place: which parcel a
+-- drawn delivery delivers. Weather: the fates of parcels.
 pub mod Verdict
 pub mod Ledger
 pub mod Drawn

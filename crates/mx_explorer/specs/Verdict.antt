@@ -8,7 +8,7 @@ use Rattle.mx_trace.specs.Trace.{IsExclusive, IsNumbered, marks}
 use Rattle.mx_explorer.specs.declared.verdict.Clause.{Clause}
 use Rattle.mx_explorer.specs.declared.verdict.Clause.TheVariants.{Overlap, Number, Read}
 
--- in this history, which follows these sections, each value is read by the node inside the newest
+-- in these marks, which follow these sections, each value is read by the node inside the newest
 -- section, and is what all writes so far, in order of entry, leave in the register
 abbrev pub ReadsFit : List Section → List Mark → Type 0
 ReadsFit ss [] = Unit {0}
@@ -20,7 +20,8 @@ ReadsFit ss (Wrote i register value ∷ ms) = ReadsFit (after_mark ss (Wrote i r
 ReadsFit ss (Went i receipt ∷ ms) = ReadsFit (after_mark ss (Went i receipt)) ms
 ReadsFit ss (Woke i ∷ ms) = ReadsFit (after_mark ss (Woke i)) ms
 
--- entries and leavings alternate, the n-th section entered bears n, and each read is serial
+-- entries and exits alternate, the n-th section entered has the number n, and each value read is
+-- what the writes before it leave in the register
 abbrev pub IsSoundTrace : List Entry → Type 0
 IsSoundTrace trace = IsExclusive trace × IsNumbered trace × ReadsFit [] (marks trace)
 
@@ -30,6 +31,6 @@ Breaks Overlap trace = ¬ IsExclusive trace
 Breaks Number trace = IsExclusive trace × ¬ IsNumbered trace
 Breaks Read trace = IsExclusive trace × IsNumbered trace × ¬ ReadsFit [] (marks trace)
 
--- the trace up to index k, without it, is sound, and with the item at k it breaks the clause
+-- the items before index k are a sound trace, and with the item at k they break the clause
 abbrev pub IsFirstBroken : List Entry → ℕ → Clause → Type 0
 IsFirstBroken trace k clause = IsSoundTrace (take k trace) × Breaks clause (take (suc k) trace)

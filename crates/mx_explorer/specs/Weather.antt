@@ -6,7 +6,7 @@ use Rattle.rand_pcg.specs.Pcg.{pcg32, pcg32_of_seed}
 use Rattle.mx_letters.specs.declared.fates.Fate.{Fate}
 use Rattle.mx_letters.specs.declared.fates.Fate.TheVariants.{Pass, Drop, Twice}
 
--- a generator of words, how many of 256 bytes lose a parcel, and how many repeat it
+-- a generator of words; how many of the 256 bytes lose a parcel, and how many repeat one
 pub record Climate : Type 0 where
   pub words : Lcg
   pub lost : ℕ
@@ -21,7 +21,7 @@ abbrev pub fate_by : ℕ → ℕ → ℕ → Fate
 fate_by byte lost doubled =
     if nat_lt byte lost then Drop else if nat_lt byte (lost + doubled) then Twice else Pass
 
--- each fate takes one word, of which the lowest byte decides
+-- the next fate: it takes one word, whose lowest byte decides
 abbrev pub fate_in : Climate → Fate
 fate_in c = fate_by ((pcg32 c.words).0 % 256) c.lost c.doubled
 

@@ -8,12 +8,12 @@ use crate::ledger::Ledger;
 use crate::verdict::{Clause, Verdict};
 use mx_trace::Entry;
 
-/// Judges a trace, whoever made it. Entries and leavings have to alternate, each leaving by the
-/// node and with the number of the entry before it. The n-th section entered has to have the number
-/// n. A value has to be read by the node inside, and has to be what the sections before it leave,
-/// followed by the node's own writes since it entered or last restarted. The node of an item is
-/// that of its event; of a receipt only the number counts. A write of a node that is not inside is
-/// passed over. Allocates no memory, and reads the trace once.
+/// Returns the verdict on a trace, whoever made it. Entries and exits have to alternate, each exit
+/// by the node and with the number of the entry before it. The n-th section entered has to have the
+/// number n. A value has to be read by the node inside. It has to be what the register holds after
+/// all earlier sections, and after the node's own writes since it entered or last restarted. The
+/// node of an item is that of its event; of a receipt only the number counts. A write of a node
+/// that is not inside is passed over. Allocates no memory, and reads the trace once.
 pub fn judge(trace: &[Entry]) -> Verdict
     ensures sound { (result ≡ Verdict.Sound) ↔ IsSoundTrace trace.now }
     ensures broken { (k : ℕ) (c : Clause)

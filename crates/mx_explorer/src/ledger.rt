@@ -1,4 +1,4 @@
-//! What the judge remembers of the items before.
+//! What the judge remembers of the items of a trace so far.
 
 ghost use Rattle.std.specs.Prelude.{◌≡◌, ◌∷◌, [], None, Option};
 ghost use Rattle.mx_trace.specs.Sections.{Came, Got, Wrote, Went, Woke};
@@ -10,20 +10,20 @@ use mx_journal::Receipt;
 use mx_stamps::NodeId;
 use mx_trace::{Entry, Event, Outcome};
 
-/// How many registers an event can name.
+/// How many registers an event can name: one for each `u8` value.
 const REGISTERS: usize = 256;
 
 /// What the judge remembers: who is inside, the number of the newest section, and what the
 /// registers hold.
 #[derive(Drop)]
 pub(crate) struct Ledger {
-    /// The node inside the newest section, until that is left.
+    /// The node inside the newest section, or `None` while no node is inside.
     inside: Option<NodeId>,
     /// The number of the newest section, 0 before the first.
     last: u64,
-    /// What the registers hold after the sections before the newest.
+    /// What the registers held when the newest section was entered.
     before: [u64; REGISTERS],
-    /// The same with the writes of the newest section.
+    /// What the registers hold now, with the writes of the newest section.
     held: [u64; REGISTERS],
 }
 
@@ -40,7 +40,7 @@ impl Ledger {
         }
     }
 
-    /// Takes an item in; returns the clause that it breaks, if it breaks one.
+    /// Notes the next item of the trace. Returns the clause that the item breaks, or `None`.
     pub(crate) fn take(&mut self, entry: &Entry) -> Option<Clause>
         ensures { Takes self.old (mark_of entry.now.event entry.now.outcome) result self.new }
     {
@@ -71,6 +71,8 @@ impl Ledger {
         }
     }
 
+    /// Notes that a node entered the section of this number. Returns the clause that this breaks,
+    /// or `None`.
     fn came(&mut self, node: NodeId, number: u64) -> Option<Clause>
         ensures { Takes self.old (Came node number ∷ []) result self.new }
     {
@@ -87,6 +89,7 @@ impl Ledger {
         None
     }
 
+    /// Returns the clause that is broken if a node reads this value from a register, or `None`.
     fn got(&self, node: NodeId, register: u8, value: u64) -> Option<Clause>
         ensures { Takes self.now (Got node register value ∷ []) result self.now }
     {
@@ -97,6 +100,7 @@ impl Ledger {
         }
     }
 
+    /// Notes that a node wrote a value to a register, if the node is inside.
     fn wrote(&mut self, node: NodeId, register: u8, value: u64)
         ensures { Takes self.old (Wrote node register value ∷ []) None self.new }
     {
@@ -105,6 +109,7 @@ impl Ledger {
         }
     }
 
+    /// Notes that a node left with this receipt. Returns the clause that this breaks, or `None`.
     fn went(&mut self, node: NodeId, receipt: &Receipt) -> Option<Clause>
         ensures { Takes self.old (Went node receipt.now ∷ []) result self.new }
     {
@@ -116,6 +121,7 @@ impl Ledger {
         }
     }
 
+    /// Notes that a node restarted: if it is inside, the writes of its section are lost.
     fn woke(&mut self, node: NodeId)
         ensures { Takes self.old (Woke node ∷ []) None self.new }
     {

@@ -1,4 +1,5 @@
-//! Judges traces, draws schedules of events, and draws the fates of parcels (the weather).
+//! Judges traces, and draws at random, from a seed, schedules of events and the fates of parcels
+//! (the weather).
 #![tactic(auto)]
 
 mod judgement;

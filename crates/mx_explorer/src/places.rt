@@ -8,8 +8,9 @@ use mx_trace::Event;
 /// How many of the newest parcels a drawn delivery chooses from.
 const WINDOW: u64 = 64;
 
-/// Turns the drawn word of a delivery into the number of one of the newest 64 parcels, or of all if
-/// fewer were sent. Returns `None` if no parcel was sent yet. Every other event stays as it is.
+/// Replaces the random word in a drawn `Deliver` by the number of a parcel: one of the newest 64 of
+/// the `sent` parcels, or of all if they are fewer. Returns `None` for a `Deliver` if no parcel was
+/// sent yet, and every other event unchanged.
 pub fn place(event: Event, sent: u64) -> Option<Event>
     ensures value { result ≡ place_of event sent }
     ensures sent { (k : ℕ) → result ≡ Some (Event.Deliver k) → k < sent }

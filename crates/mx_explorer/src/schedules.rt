@@ -1,4 +1,4 @@
-//! Schedules drawn from a seed.
+//! Schedules (lists of events), drawn at random from a seed.
 
 ghost use Rattle.std.specs.Prelude.{◌≡◌, ◌<◌, ◌≤◌, ◌%◌, IfOk, length, vec_len};
 ghost use Rattle.mx_stamps.specs.Lists.{IsIn};
@@ -13,13 +13,13 @@ use rand_core::utils::NextWord;
 use rand_pcg::Pcg32;
 use std::alloc::{AllocError, Global};
 
-/// A drawn section to settle up to is below this.
+/// The section number to settle up to is drawn below this bound.
 const SETTLED: u8 = 17;
 
-/// Draws a schedule of `steps` events over the nodes and registers of a plan. The generator is
-/// `Pcg32` by `seed_from_u64`. Each step takes a word for the kind of the event and one for each of
-/// its arguments. The word of a delivery is not yet the number of a parcel: see `place`. It fails
-/// only if memory runs out.
+/// Draws a schedule of `steps` events over the nodes and registers of a plan. The generator of
+/// random words is `Pcg32`, made by `seed_from_u64`. Each event takes a word for its kind and one
+/// for each of its arguments. A `Deliver` has its word in place of the number of a parcel: see
+/// `place`. Fails only if memory runs out.
 pub fn schedule(alloc: Global, seed: u64, steps: u64, plan: &Plan) -> Result<Vec<Event>, AllocError>
     ensures value { IfOk result (λ v. v.items ≡ drawn_list steps (length plan.now.nodes)
         (length plan.now.registers) (generator_of seed)) }
@@ -30,7 +30,7 @@ pub fn schedule(alloc: Global, seed: u64, steps: u64, plan: &Plan) -> Result<Vec
     schedule_over(alloc, seed, steps, plan.nodes(), plan.registers())
 }
 
-/// Draws a schedule over these numbers of nodes and registers.
+/// Draws a schedule of `steps` events for a cluster with this many nodes and registers.
 fn schedule_over(
     alloc: Global,
     seed: u64,
@@ -53,7 +53,7 @@ fn schedule_over(
     Ok(events)
 }
 
-/// Draws the next event.
+/// Draws the next event for a cluster with this many nodes and registers.
 fn draw(words: &mut Pcg32, nodes: u8, registers: u8) -> Event
     requires nodes { (0 < nodes) × (nodes ≤ MAX_NODES) }
     requires registers { 0 < registers }
@@ -64,7 +64,8 @@ fn draw(words: &mut Pcg32, nodes: u8, registers: u8) -> Event
     draw_by(number, words, nodes, registers)
 }
 
-/// Draws the event for a number below 16. Deliveries are the most frequent.
+/// Draws an event of the kind that `number`, from 0 to 15, stands for. Deliveries are the most
+/// frequent.
 #[tactic(auto, using(crate::proofs::DrawnEvents::leaves, crate::proofs::DrawnEvents::delivers, crate::proofs::DrawnEvents::cancels))]
 fn draw_by(number: u32, words: &mut Pcg32, nodes: u8, registers: u8) -> Event
     requires nodes { (0 < nodes) × (nodes ≤ MAX_NODES) }
@@ -100,6 +101,7 @@ fn draw_by(number: u32, words: &mut Pcg32, nodes: u8, registers: u8) -> Event
     }
 }
 
+/// Draws one of the first `nodes` nodes.
 fn draw_node(words: &mut Pcg32, nodes: u8) -> NodeId
     requires nodes { (0 < nodes) × (nodes ≤ MAX_NODES) }
     ensures value { result ≡ word words.old % nodes }
@@ -108,6 +110,7 @@ fn draw_node(words: &mut Pcg32, nodes: u8) -> NodeId
     NodeId::of(draw_below(words, nodes)).unwrap()
 }
 
+/// Draws a number below `count`.
 fn draw_below(words: &mut Pcg32, count: u8) -> u8
     requires { 0 < count }
     ensures value { result ≡ word words.old % count }

@@ -1,15 +1,15 @@
 //! The verdict of a trace, and the clauses that a trace can break.
 
-/// What an item of a trace can break.
+/// A rule for traces that an item can break.
 #[derive(Clone, Copy, Debug, PartialEq, Eq)]
 pub enum Clause {
-    /// A node entered while another or the same was inside; or a node left that was not inside, or
-    /// that was inside with another number.
+    /// A node entered while a node, perhaps the same one, was inside; or a node left that was not
+    /// inside, or was inside with another number.
     Overlap,
     /// The n-th section entered does not have the number n.
     Number,
-    /// A value was read by a node that is not inside; or it is not the value that the sections
-    /// before and the node's own writes leave.
+    /// A node that was not inside read a value; or the value is not what the sections before and
+    /// the node's own writes leave.
     Read,
 }
 
@@ -18,7 +18,7 @@ pub enum Clause {
 pub enum Verdict {
     /// No clause is broken.
     Sound,
-    /// The least index, counted from 0, at which a clause is broken, and the first of the clauses
-    /// that is broken there.
+    /// The index, counted from 0, of the first item that breaks a clause, and the first clause that
+    /// this item breaks.
     Broken(u64, Clause),
 }

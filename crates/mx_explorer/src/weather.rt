@@ -1,4 +1,4 @@
-//! The fates of parcels, drawn from a seed.
+//! The fates of parcels, drawn at random from a seed.
 
 ghost use Rattle.std.specs.Prelude.{◌≡◌, ◌≢◌, ◌+◌, ◌≤◌};
 ghost use Rattle.mx_explorer.specs.Weather.{Climate, after_fate, fate_by, fate_in, generator_of};
@@ -9,12 +9,14 @@ use rand_core::utils::NextWord;
 use rand_pcg::Pcg32;
 use std::marker::Model;
 
-/// A network that loses and repeats parcels, by the words of a generator. Each fate takes one word;
-/// its lowest byte decides.
+/// A network that loses and repeats parcels, by the random words of a generator. Each fate takes
+/// one word, and the lowest byte of the word decides.
 #[derive(Drop)]
 pub struct Weather {
     words: Pcg32,
+    /// How many of the 256 bytes lose a parcel.
     lost: u16,
+    /// How many of the 256 bytes repeat a parcel.
     doubled: u16,
 }
 
@@ -27,8 +29,8 @@ impl Model for Weather {
 }
 
 impl Weather {
-    /// Creates the weather of a seed: `drop` of 256 bytes lose a parcel, and `twice` of them repeat
-    /// it. The generator is `Pcg32` by `seed_from_u64`.
+    /// Creates the weather of a seed: of the 256 values of a byte, `drop` lose a parcel, and
+    /// `twice` others repeat it. The generator is `Pcg32`, made by `seed_from_u64`.
     pub fn of(seed: u64, drop: u16, twice: u16) -> Weather
         requires { drop + twice ≤ 256 }
         ensures { result ≡ record { words = generator_of seed; lost = drop; doubled = twice } }
@@ -42,7 +44,7 @@ impl Weather {
 }
 
 impl Fates for Weather {
-    /// Returns the fate for the next word.
+    /// Returns the fate for the next word of the generator.
     fn fate(&mut self) -> Fate
         ensures value { result ≡ fate_in self.old }
         ensures next { self.new ≡ after_fate self.old }
@@ -56,7 +58,8 @@ impl Fates for Weather {
     }
 }
 
-/// Returns the fate for a byte.
+/// Returns the fate for a byte (0 to 255): the first `lost` bytes lose the parcel, and the next
+/// `doubled` repeat it.
 fn fate_of(byte: u32, lost: u16, doubled: u16) -> Fate
     ensures { result ≡ fate_by byte lost doubled }
 {

@@ -11,8 +11,9 @@ use Rattle.mx_format.specs.Lines.{texts_from}
 use Rattle.mx_format.specs.Members.{node_member, node_start}
 use Rattle.mx_format.specs.PlanTexts.{plan_text_by}
 
--- node i asks node j: by Ricart and Agrawala's algorithm each other node; by Maekawa's each of its
--- set; by Raymond's, at the start, its neighbour on the way to the holder, which asks nobody
+-- node i asks node j. By Ricart and Agrawala's algorithm, a node asks each other node; by
+-- Maekawa's, its arbiters; by Raymond's, at the start, its neighbour on the way to the holder. The
+-- holder asks nobody
 abbrev pub asks_of : Shape → ℕ → ℕ → Bool
 asks_of (Ricart count) i j = not (nat_eq i j)
 asks_of (Maekawa family) i j = has_of family i j
@@ -27,29 +28,29 @@ asked_json p i j = node_start p i ++ node_member p (codes "asks") j ++ codes "}\
 abbrev pub asked_by : Bool → Fields → ℕ → ℕ → Text
 asked_by is_json p i j = if is_json then asked_json p i j else asked_name p j
 
--- the name of node j, or an object of JSON of both, where node i asks it
+-- the name of node j, or an object of JSON of both nodes, if node i asks node j
 abbrev pub asked_text : Bool → Fields → ℕ → ℕ → Text
 asked_text is_json p i j = if asks_of p.shape i j then asked_by is_json p i j else []
 
--- the same of all that node i asks, in the order of the plan
+-- the same for all nodes that node i asks, in the order of the plan
 abbrev pub asked_names : Bool → Fields → ℕ → Text
 asked_names is_json p i = texts_from (λ j name. asked_text is_json p i j) 0 p.nodes
 
 abbrev pub asks_head : Fields → ℕ → Text
 asks_head p i = codes "asks " ++ name_of p i ++ codes ":"
 
--- what a line has before the names, and after them
+-- what a line has before the names and (below) after them; nothing for JSON
 abbrev pub asks_start : Bool → Fields → ℕ → Text
 asks_start is_json p i = if is_json then [] else asks_head p i
 
 abbrev pub asks_end : Bool → Text
 asks_end is_json = if is_json then [] else line_feed
 
--- the line of a node, or an object of JSON for each that it asks
+-- the line of node i, or an object of JSON for each node that it asks
 abbrev pub asks_line : Bool → Fields → ℕ → Text
 asks_line is_json p i = (asks_start is_json p i ++ asked_names is_json p i) ++ asks_end is_json
 
--- those of all nodes, in the order of the plan
+-- the lines or objects of all nodes, in the order of the plan
 abbrev pub asks_lines : Bool → Fields → Text
 asks_lines is_json p = texts_from (λ i name. asks_line is_json p i) 0 p.nodes
 

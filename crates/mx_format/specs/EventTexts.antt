@@ -30,7 +30,7 @@ named word name = word ++ codes " " ++ name
 abbrev pub numbered : Text → ℕ → Text
 numbered word number = word ++ codes " " ++ decimal number
 
--- a word, and a number after it where there is one
+-- a word, and a number after it if there is one
 abbrev pub with_number : Text → Option ℕ → Text
 with_number word None = word
 with_number word (Some number) = numbered word number

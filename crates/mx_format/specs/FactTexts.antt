@@ -19,7 +19,7 @@ item_text p (Numbered node n) = codes " " ++ name_of p node ++ codes "/" ++ deci
 abbrev pub fact_text : Fields → Known → Text
 fact_text p fact = fact.name ++ each_text (item_text p) fact.items
 
--- a further fact
+-- a fact that follows another one, after a comma
 abbrev pub next_text : Fields → Known → Text
 next_text p fact = codes ", " ++ fact_text p fact
 

@@ -1,4 +1,4 @@
--- The texts of letters, of which each is a function of the letter's parts.
+-- The texts of letters. Each text is a function of the letter's parts.
 use Rattle.std.specs.Prelude.{◌++◌, List, codes, decimal}
 use Rattle.mx_stamps.specs.declared.stamp.Stamp.{Stamp}
 use Rattle.mx_letters.specs.declared.ricart.RicartMsg.{RicartMsg}
@@ -14,7 +14,7 @@ use Rattle.mx_format.specs.Parts.{About, Named, Parts, request, number, parts_of
 abbrev pub stamp_text : Fields → Stamp → Text
 stamp_text p stamp = decimal stamp.number ++ codes "." ++ name_of p stamp.node
 
--- a number that a letter is about stands without its name
+-- what a letter is about: a stamp, or a number without its name
 abbrev pub subject_text : Fields → About → Text
 subject_text p (request stamp) = stamp_text p stamp
 subject_text p (number named) = decimal named.1

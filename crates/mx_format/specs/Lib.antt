@@ -1,6 +1,6 @@
 -- Lines: texts of lists. Parts: what letters say. EventTexts, Words, LetterTexts, ParcelTexts,
--- NodeTexts: each line of a replay. PlanTexts: the lines of a check, and that of an exploration.
--- AskTexts: whom nodes ask. FactTexts: what a node knows. Members: objects of JSON.
+-- NodeTexts: the lines of a replay. PlanTexts: the lines of `check`, and the line of `explore`.
+-- AskTexts: whom nodes ask. FactTexts: what a node knows. Members: members of objects of JSON.
 pub mod Lines
 pub mod EventTexts
 pub mod Words

@@ -2,12 +2,12 @@
 use Rattle.std.specs.Prelude.{ℕ, ◌+◌, List, [], ◌∷◌, ◌++◌}
 use Rattle.mx_plan.specs.Text.{Text}
 
--- the texts of all of a list
+-- the texts of all items of a list, one after another
 abbrev pub each_text : {X : Type 0} → (X → Text) → List X → Text
 each_text f [] = []
 each_text f (x ∷ xs) = f x ++ each_text f xs
 
--- the same, where a text tells the place too, the first of which is the k-th
+-- the same, for texts that depend on the item's index too. The first item has index k
 abbrev pub texts_from : {X : Type 0} → (ℕ → X → Text) → ℕ → List X → Text
 texts_from f k [] = []
 texts_from f k (x ∷ xs) = f k x ++ texts_from f (k + 1) xs

@@ -31,7 +31,7 @@ summary_text records gapless =
 abbrev pub value_text : Text → ℕ → Text
 value_text name value = codes ", " ++ name ++ codes "=" ++ decimal value
 
--- what a register holds in a journal: what the base has, after the records above it
+-- the content of a register in a journal: its content in the base, after the records above the base
 abbrev pub register_in : ℕ → JournalState → Content
 register_in register journal =
     after_records register journal.records (cell_in register journal.base)
@@ -45,7 +45,7 @@ abbrev pub journal_text : Fields → JournalState → Text
 journal_text p journal =
     summary_text (length journal.records) (first_gap journal - 1) ++ values_text p journal
 
--- the line of the i-th node
+-- the line of node i
 abbrev pub member_line : {H S M : Type 0} → Core H S M → Fields → ℕ → MemberState S → Text
 member_line core p i m =
     standing_text (name_of p i) (core.phase m.core) (core.mine m.core) ++ journal_text p m.journal

@@ -13,7 +13,7 @@ use Rattle.mx_format.specs.Lines.{each_text, texts_from}
 abbrev pub range_text : Range → Text
 range_text range = codes " " ++ decimal range.first ++ codes ".." ++ decimal range.last
 
--- a record, by its number alone
+-- a record: only its number
 abbrev pub record_text : Record → Text
 record_text entry = codes " " ++ decimal entry.number
 
@@ -23,11 +23,11 @@ want_text ranges = codes "want" ++ each_text range_text ranges
 abbrev pub records_text : List Record → Text
 records_text records = codes "records" ++ each_text record_text records
 
--- a base, by the number of its last section alone
+-- a base: only the number of its last section
 abbrev pub base_text : BaseState → Text
 base_text base = codes "base " ++ decimal base.upto
 
--- the k-th parcel goes from one node to another
+-- the number of the k-th parcel, its sender and its addressee
 abbrev pub route_text : Fields → ℕ → ℕ → ℕ → Text
 route_text p k from to =
     codes "#" ++ decimal k ++ codes " " ++ name_of p from ++ codes ">" ++ name_of p to
@@ -45,6 +45,6 @@ module _ {M : Type 0} (letter_text : Fields → M → Text) (p : Fields) where
       codes "  " ++ route_text p k parcel.0 parcel.1 ++ codes " " ++ parcel_text parcel.2
       ++ line_feed
 
-  -- the lines of parcels, the first of which is the k-th
+  -- the lines of parcels; the first parcel is the k-th
   abbrev pub parcel_lines : ℕ → List (ℕ × ℕ × Parcel M) → Text
   parcel_lines = texts_from parcel_line

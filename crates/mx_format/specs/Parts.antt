@@ -16,7 +16,7 @@ use Rattle.mx_format.specs.declared.parts.Style.TheVariants as drawn
 use Rattle.mx_format.specs.declared.parts.Subject.{Subject}
 use Rattle.mx_format.specs.declared.parts.Subject.TheVariants.{Stamp as StampOf, Number}
 
--- a number by its name
+-- a number with its name
 abbrev pub Named : Type 0
 Named = Text × ℕ
 
@@ -25,7 +25,7 @@ pub data About : Type 0 where
   request : Stamp → About
   number : Named → About
 
--- a letter, part by part: its word, what it is about, its further numbers, and how it is drawn
+-- the parts of a letter: its word, what it is about, its further numbers, and how pictures draw it
 pub record Parts : Type 0 where
   pub word : Text
   pub about : About
@@ -36,7 +36,7 @@ pub record Parts : Type 0 where
 abbrev pub word_by : {M : Type 0} → (M → Parts) → M → Text
 word_by parts letter = (parts letter).word
 
--- ---- what the code tells of them
+-- ---- the parts of a letter in the code
 
 abbrev pub subject_of : Subject → About
 subject_of (StampOf stamp) = request stamp

@@ -28,7 +28,7 @@ plan_line p =
     codes "plan " ++ algorithm_text p.shape ++ codes ", nodes " ++ decimal (length p.nodes)
     ++ codes ", " ++ bounds_text p ++ line_feed
 
--- its object of JSON
+-- the start of the object of JSON of a plan
 abbrev pub algorithm_start : Shape → Text
 algorithm_start shape = codes "{\"plan\":\"" ++ algorithm_text shape ++ codes "\""
 
@@ -63,15 +63,15 @@ meet_json p i j node =
 abbrev pub meet_by : Bool → Fields → ℕ → ℕ → ℕ → Text
 meet_by is_json p i j node = if is_json then meet_json p i j node else meet_line p i j node
 
--- the least node in the sets of both
+-- the first node that is an arbiter of both nodes
 abbrev pub meeting_of : Family → ℕ → ℕ → ℕ
 meeting_of f i j = position_or_len (λ a. has_of f i a && has_of f j a) (each_below (λ a. a) f.count)
 
--- the line of two nodes, or its object of JSON
+-- the line of two nodes, or their object of JSON
 abbrev pub meet_text : Bool → Fields → Family → ℕ → ℕ → Text
 meet_text is_json p f i j = meet_by is_json p i j (meeting_of f i j)
 
--- the lines of a node and each later one
+-- the lines of node i with each later node
 abbrev pub meet_lines_of : Bool → Fields → Family → ℕ → Text
 meet_lines_of is_json p f i =
     texts_from (λ j name. meet_text is_json p f i j) (i + 1) (drop (i + 1) p.nodes)
@@ -91,7 +91,7 @@ toward_json p i next = node_start p i ++ node_member p (codes "toward") next ++ 
 abbrev pub toward_by : Bool → Fields → ℕ → ℕ → Text
 toward_by is_json p i next = if is_json then toward_json p i next else toward_line p i next
 
--- the line of a node, or its object of JSON, where it is not the holder
+-- the line of a node, or its object of JSON; nothing for the holder
 abbrev pub toward_text : Bool → Fields → Rooted → ℕ → Text
 toward_text is_json p t i =
     if nat_eq i t.holder then [] else toward_by is_json p i (toward_of t i)
@@ -114,7 +114,7 @@ plan_text p = plan_text_by false p
 
 -- ---- explorations
 
--- the steps that were asked for, how often a node entered, and how many parcels were sent
+-- the line of an exploration: the numbers of steps, of sections entered and of parcels sent
 abbrev pub explored_line : ℕ → ℕ → ℕ → Text
 explored_line steps entered sent =
     codes "explored " ++ decimal steps ++ codes ", entered " ++ decimal entered ++ codes ", sent "

@@ -1,4 +1,4 @@
--- A word, and what follows it.
+-- A word, and the names and numbers that follow it.
 use Rattle.std.specs.Prelude.{◌++◌, codes, decimal}
 use Rattle.mx_plan.specs.Text.{Text}
 use Rattle.mx_format.specs.declared.words.Words.{Words}

@@ -11,25 +11,26 @@ use mx_stamps::NodeId;
 use mx_trace::{Cause, Event, Outcome};
 use std::fmt;
 
-/// Returns the name that the plan gives a node.
+/// Returns the name that the plan gives a node, or an empty text if it has no such node.
 pub fn name_of(plan: &Plan, node: NodeId) -> &str
     ensures { result.now ≡ name_of plan.now node }
 {
     plan.node_name(node.get()).unwrap_or("")
 }
 
-/// Returns the name that the plan gives a register.
+/// Returns the name that the plan gives a register, or an empty text if it has no such register.
 pub fn register_name_of(plan: &Plan, register: u8) -> &str
     ensures { result.now ≡ register_name_of plan.now register }
 {
     plan.register_name(register).unwrap_or("")
 }
 
-/// The outcome of an event.
+/// The text of an event's outcome, such as `entered 1`.
 #[derive(Clone, Copy)]
 pub struct OutcomeText<'a>(pub &'a Outcome);
 
 impl OutcomeText<'_> {
+    /// Returns the word of the outcome, with its numbers or its cause.
     fn words(&self) -> Words<'static>
         ensures { words_text result ≡ outcome_text self.now.0.now }
     {
@@ -52,7 +53,7 @@ impl OutcomeText<'_> {
     }
 }
 
-/// That a node refused, and why.
+/// Returns the word `refused`, and the cause after it.
 fn refusal(cause: &Cause) -> Words<'static>
     ensures { words_text result ≡ codes "refused " ++ cause_text cause.now }
 {
@@ -70,7 +71,7 @@ impl fmt::Display for OutcomeText<'_> {
     }
 }
 
-/// An argument of an event: a name, or a number.
+/// The text of an event's argument: a name, or a number.
 #[derive(Clone, Copy)]
 pub struct ArgumentText<'a> {
     pub plan: &'a Plan,

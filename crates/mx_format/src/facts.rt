@@ -1,4 +1,4 @@
-//! The line of what a node knows.
+//! The line of the facts that a node knows.
 
 ghost use Rattle.std.specs.Prelude.{◌≡◌, ◌++◌, OnOk, Some, map, string_bytes};
 ghost use Rattle.mx_knowledge.specs.Facts.{fact_of};
@@ -11,7 +11,7 @@ use mx_plan::Plan;
 use std::alloc::AllocError;
 use std::fmt;
 
-/// A value of a fact, after a space.
+/// The text of one value of a fact, after a space.
 #[derive(Clone, Copy)]
 struct ItemText<'a> {
     plan: &'a Plan,
@@ -38,7 +38,7 @@ impl fmt::Display for ItemText<'_> {
     }
 }
 
-/// Appends the line of what a node knows, indented by two spaces.
+/// Appends the line of the facts that a node knows, indented by two spaces.
 pub fn add_facts_line(plan: &Plan, facts: &Facts, text: &mut String) -> Result<(), AllocError>
     ensures { OnOk result (string_bytes text.new
         ≡ string_bytes text.old ++ facts_line plan.now facts.now) }
@@ -60,7 +60,7 @@ fn add_facts(plan: &Plan, facts: &[Fact], text: &mut String) -> Result<(), Alloc
     add_rest(plan, rest, text)
 }
 
-/// Appends the facts after the first one.
+/// Appends the facts after the first one, each after a comma.
 fn add_rest(plan: &Plan, rest: &[Fact], text: &mut String) -> Result<(), AllocError>
     ensures { OnOk result (string_bytes text.new ≡ string_bytes text.old
         ++ each_text (λ fact. next_text plan.now (fact_of fact)) rest.now) }
@@ -89,7 +89,7 @@ fn add_fact(plan: &Plan, fact: &Fact, text: &mut String) -> Result<(), AllocErro
     add_items(plan, fact.items.as_slice(), text)
 }
 
-/// Appends values.
+/// Appends the values of a fact, each after a space.
 fn add_items(plan: &Plan, items: &[Item], text: &mut String) -> Result<(), AllocError>
     ensures { OnOk result (string_bytes text.new
         ≡ string_bytes text.old ++ each_text (item_text plan.now) items.now) }

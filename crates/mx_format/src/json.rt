@@ -1,5 +1,5 @@
-//! Members of objects of JSON. No name of a plan, and no word here, has a character
-//! that JSON escapes.
+//! Members of JSON objects. Texts are not escaped: the names of plans and the words that `mx`
+//! writes have no character that needs it.
 
 ghost use Rattle.std.specs.Prelude.{◌≡◌, ◌++◌, OnOk, Some, string_bytes};
 ghost use Rattle.mx_format.specs.Members.{node_member, node_start, number_member, number_start, register_member, word_member};
@@ -10,7 +10,7 @@ use mx_stamps::NodeId;
 use std::alloc::AllocError;
 use std::fmt;
 
-/// A member whose value is a text, after a comma.
+/// A comma, and a member whose value is a text: its key, then its value.
 #[derive(Clone, Copy)]
 pub struct Word<'a>(pub &'a str, pub &'a str);
 
@@ -22,7 +22,7 @@ impl fmt::Display for Word<'_> {
     }
 }
 
-/// A member whose value is a number, after a comma.
+/// A comma, and a member whose value is a number: its key, then its value.
 #[derive(Clone, Copy)]
 pub struct Number<'a>(pub &'a str, pub u64);
 
@@ -34,7 +34,7 @@ impl fmt::Display for Number<'_> {
     }
 }
 
-/// The start of an object, up to its first member, whose value is a number.
+/// The start of an object: the brace, and the first member, whose value is a number.
 #[derive(Clone, Copy)]
 pub struct NumberStart<'a>(pub &'a str, pub u64);
 
@@ -46,7 +46,7 @@ impl fmt::Display for NumberStart<'_> {
     }
 }
 
-/// The start of an object, up to its first member, the name of a node.
+/// The start of an object: the brace, and the first member, `node` with the name of a node.
 #[derive(Clone, Copy)]
 pub struct NodeStart<'a>(pub &'a Plan, pub NodeId);
 
@@ -58,7 +58,7 @@ impl fmt::Display for NodeStart<'_> {
     }
 }
 
-/// Appends a member whose value is a text.
+/// Appends a comma, and a member whose value is a text.
 pub fn add_word(key: &str, word: &str, text: &mut String) -> Result<(), AllocError>
     ensures { OnOk result (string_bytes text.new
         ≡ string_bytes text.old ++ word_member key.now word.now) }
@@ -66,7 +66,7 @@ pub fn add_word(key: &str, word: &str, text: &mut String) -> Result<(), AllocErr
     text.write(Word(key, word))
 }
 
-/// Appends a member whose value is a number.
+/// Appends a comma, and a member whose value is a number.
 pub fn add_number(key: &str, number: u64, text: &mut String) -> Result<(), AllocError>
     ensures { OnOk result (string_bytes text.new
         ≡ string_bytes text.old ++ number_member key.now number) }
@@ -74,7 +74,7 @@ pub fn add_number(key: &str, number: u64, text: &mut String) -> Result<(), Alloc
     text.write(Number(key, number))
 }
 
-/// Appends a member whose value is the name of a node.
+/// Appends a comma, and a member whose value is the name of a node.
 pub fn add_node_name(
     plan: &Plan,
     key: &str,
@@ -87,7 +87,7 @@ pub fn add_node_name(
     add_word(key, name_of(plan, node), text)
 }
 
-/// Appends a member whose value is the name of a register.
+/// Appends a comma, and the member `register` with the name of a register.
 pub fn add_register_name(plan: &Plan, register: u8, text: &mut String) -> Result<(), AllocError>
     ensures { OnOk result (string_bytes text.new
         ≡ string_bytes text.old ++ register_member plan.now register) }

@@ -19,15 +19,15 @@ pub trait Letter: Copy + Default {
     // the words of its algorithm's letters
     ghost words: { List Text };
 
-    /// Its parts.
+    /// Returns the parts of the letter.
     fn parts(&self) -> LetterParts
         ensures { parts_of result ≡ parts self.now };
 
-    /// Returns the words of its algorithm's letters, in the order of counting.
+    /// Returns the words of the algorithm's letters, in the order in which `count` lists them.
     fn words() -> &'static [&'static str]
         ensures { map (λ word. word.now) result.now ≡ words };
 
-    /// Appends its text.
+    /// Appends the text of the letter.
     final fn tell(&self, plan: &Plan, text: &mut String) -> Result<(), AllocError>
         ensures { OnOk result (string_bytes text.new ≡ string_bytes text.old
             ++ letter_text parts plan.now self.now) }
@@ -40,7 +40,7 @@ pub trait Letter: Copy + Default {
     }
 }
 
-/// Returns the parts of a letter about the request of a stamp.
+/// Returns the parts of a letter about the request with this stamp.
 fn about(word: &'static str, stamp: &Stamp, numbers: Numbers, style: Style) -> LetterParts
     ensures { parts_of result ≡ of_request word.now stamp.now (numbers_of numbers) style }
 {
@@ -52,7 +52,7 @@ fn about(word: &'static str, stamp: &Stamp, numbers: Numbers, style: Style) -> L
     }
 }
 
-/// Returns the parts of a letter about a number of its sender, by the number's name.
+/// Returns the parts of a letter about `number`, whose name is `name`.
 fn counted(
     word: &'static str,
     name: &'static str,

@@ -1,4 +1,4 @@
-//! The printed texts of plans, events, parcels and nodes, each with the bytes that it has.
+//! The printed texts of plans, events, parcels and nodes. A contract gives the bytes of each.
 #![tactic(auto)]
 
 mod events;

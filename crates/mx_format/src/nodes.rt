@@ -1,4 +1,4 @@
-//! The line of a node: its phase, and what its journal has.
+//! The line of a node: its phase, the counts of its journal, and the registers after its records.
 
 ghost use Rattle.std.specs.Prelude.{◌≡◌, ◌++◌, string_bytes, OnOk};
 ghost use Rattle.mx_format.specs.NodeTexts.{journal_text, member_line, values_text};
@@ -13,7 +13,8 @@ use mx_registers::view;
 use mx_stamps::NodeId;
 use std::alloc::AllocError;
 
-/// Appends the phase of a node, what it knows, and the values of the registers after it.
+/// Appends the line of a node: its phase, the last section that it entered, the counts of its
+/// journal, and the value of each register after the journal's records.
 pub fn add_member_line<C: Exclusion>(
     plan: &Plan,
     node: NodeId,
@@ -32,7 +33,7 @@ pub fn add_member_line<C: Exclusion>(
     text.push_str("\n")
 }
 
-/// Appends what a journal has, and the value of each register in it.
+/// Appends the counts of a journal, and the value of each register after its records.
 fn add_journal(plan: &Plan, journal: &Journal, text: &mut String) -> Result<(), AllocError>
     ensures { OnOk result (string_bytes text.new
         ≡ string_bytes text.old ++ journal_text plan.now journal.now) }
@@ -44,7 +45,7 @@ fn add_journal(plan: &Plan, journal: &Journal, text: &mut String) -> Result<(), 
     add_values(plan, journal, text)
 }
 
-/// Appends the name and the value of each register.
+/// Appends the name of each register, and its value after the records of a journal.
 fn add_values(plan: &Plan, journal: &Journal, text: &mut String) -> Result<(), AllocError>
     ensures { OnOk result (string_bytes text.new
         ≡ string_bytes text.old ++ values_text plan.now journal.now) }

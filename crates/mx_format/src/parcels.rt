@@ -33,7 +33,7 @@ impl fmt::Display for Route<'_> {
     }
 }
 
-/// A range of numbers, after one space.
+/// A range of section numbers, after one space.
 #[derive(Clone, Copy)]
 pub struct RangeText<'a>(pub &'a Range);
 
@@ -57,7 +57,7 @@ impl fmt::Display for RecordText<'_> {
     }
 }
 
-/// A base, by the number of its last section alone.
+/// The text of a base: the word `base`, and the number of its last section.
 #[derive(Clone, Copy)]
 pub struct BaseText<'a>(pub &'a Base);
 
@@ -110,7 +110,7 @@ pub fn add_parcel<M: Letter>(
     }
 }
 
-/// Appends a want of these ranges.
+/// Appends the text of a want, which asks for the records of these ranges.
 fn add_want(ranges: &[Range], text: &mut String) -> Result<(), AllocError>
     ensures { OnOk result (string_bytes text.new ≡ string_bytes text.old ++ want_text ranges.now) }
 {
@@ -121,7 +121,7 @@ fn add_want(ranges: &[Range], text: &mut String) -> Result<(), AllocError>
     Ok(())
 }
 
-/// Appends the numbers of these records.
+/// Appends the word `records`, and the numbers of these records.
 fn add_records(records: &[Record], text: &mut String) -> Result<(), AllocError>
     ensures { OnOk result (string_bytes text.new ≡ string_bytes text.old
         ++ records_text records.now) }

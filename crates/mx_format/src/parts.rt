@@ -1,4 +1,4 @@
-//! The parts of a letter, by which its text, its JSON, its counts and its arrows go.
+//! The parts of a letter, from which its text, its JSON, its count and its arrow are made.
 
 ghost use Rattle.std.specs.Prelude.{Some};
 ghost use Rattle.mx_format.specs.Parts.{numbers_of, subject_of};
@@ -9,14 +9,14 @@ use mx_plan::Plan;
 use mx_stamps::Stamp;
 use std::fmt;
 
-/// What a letter is about: the request of a stamp, or a number of its sender, by its name.
+/// What a letter is about: a request, by its stamp, or a number, with the number's name.
 #[derive(Clone, Copy, Debug, PartialEq, Eq)]
 pub enum Subject {
     Stamp(Stamp),
     Number(&'static str, u64),
 }
 
-/// The further numbers of a letter, each by its name.
+/// The numbers that a letter has beside its subject, each with its name.
 #[derive(Clone, Copy, Debug, PartialEq, Eq)]
 pub enum Numbers {
     None,
@@ -24,7 +24,7 @@ pub enum Numbers {
     Two(&'static str, u64, &'static str, u64),
 }
 
-/// How a letter is drawn: as a request, as what grants one, or as all others.
+/// How pictures draw a letter: as a request, as a letter that grants one, or as any other.
 #[derive(Clone, Copy, Debug, PartialEq, Eq)]
 pub enum Style {
     Request,
@@ -42,7 +42,7 @@ pub struct LetterParts {
     pub style: Style,
 }
 
-/// A subject, without the name of a number.
+/// The text of a subject: a stamp, or a number without its name.
 #[derive(Clone, Copy)]
 struct SubjectText<'a> {
     plan: &'a Plan,
@@ -64,7 +64,7 @@ impl fmt::Display for SubjectText<'_> {
     }
 }
 
-/// Numbers, each after its name.
+/// The text of a letter's further numbers, each after its name.
 #[derive(Clone, Copy)]
 struct NumbersText<'a>(&'a Numbers);
 

@@ -1,4 +1,4 @@
-//! Whom the nodes of a plan ask.
+//! Whom each node of a plan asks for a section.
 
 ghost use Rattle.std.specs.Prelude.{◌≡◌, ◌<◌, ◌++◌, Some, length, nat_eq, false, true, if◌then◌else◌, string_bytes, OnOk};
 ghost use Rattle.mx_trees.specs.Tree.{toward_of};
@@ -12,7 +12,7 @@ use mx_trees::Tree;
 use std::alloc::AllocError;
 use std::fmt;
 
-/// Appends a line for each node, in the order of the plan, with those that it asks.
+/// Appends a line for each node, in the order of the plan, with the names of those that it asks.
 pub fn add_asks(plan: &Plan, text: &mut String) -> Result<(), AllocError>
     ensures { OnOk result (string_bytes text.new
         ≡ string_bytes text.old ++ asks_lines false plan.now) }
@@ -20,7 +20,7 @@ pub fn add_asks(plan: &Plan, text: &mut String) -> Result<(), AllocError>
     add_asks_as(plan, false, text)
 }
 
-/// Appends the same as objects of JSON: one on a line, of a node and one that it asks.
+/// Appends a line with a JSON object for each pair of a node and a node that it asks.
 pub fn add_asks_json(plan: &Plan, text: &mut String) -> Result<(), AllocError>
     ensures { OnOk result (string_bytes text.new
         ≡ string_bytes text.old ++ asks_lines true plan.now) }
@@ -28,7 +28,7 @@ pub fn add_asks_json(plan: &Plan, text: &mut String) -> Result<(), AllocError>
     add_asks_as(plan, true, text)
 }
 
-/// Appends whom each node asks, as lines or as objects of JSON.
+/// Appends whom each node asks, as lines of names or as JSON objects.
 fn add_asks_as(plan: &Plan, is_json: bool, text: &mut String) -> Result<(), AllocError>
     ensures { OnOk result (string_bytes text.new
         ≡ string_bytes text.old ++ asks_lines is_json plan.now) }
@@ -39,7 +39,7 @@ fn add_asks_as(plan: &Plan, is_json: bool, text: &mut String) -> Result<(), Allo
     Ok(())
 }
 
-/// Appends the line of a node, or an object of JSON for each that it asks.
+/// Appends the line of node `i`, or a JSON object for each node that it asks.
 fn add_line(plan: &Plan, is_json: bool, i: u8, text: &mut String) -> Result<(), AllocError>
     requires { (i < MAX_NODES) × (i < length plan.now.nodes) }
     ensures { OnOk result (string_bytes text.new
@@ -51,7 +51,7 @@ fn add_line(plan: &Plan, is_json: bool, i: u8, text: &mut String) -> Result<(), 
     add_end(is_json, text)
 }
 
-/// Appends what a line has before the names.
+/// Appends the start of a node's line, before the names. As JSON, appends nothing.
 fn add_start(plan: &Plan, is_json: bool, node: NodeId, text: &mut String) -> Result<(), AllocError>
     ensures { OnOk result (string_bytes text.new
         ≡ string_bytes text.old ++ asks_start is_json plan.now node) }
@@ -62,7 +62,7 @@ fn add_start(plan: &Plan, is_json: bool, node: NodeId, text: &mut String) -> Res
     text.write(AsksHead { plan, node })
 }
 
-/// Appends the line feed after the names. As JSON, appends nothing, since each object ends itself.
+/// Appends the line feed after the names. As JSON, appends nothing: each object ends its own line.
 fn add_end(is_json: bool, text: &mut String) -> Result<(), AllocError>
     ensures { OnOk result (string_bytes text.new ≡ string_bytes text.old ++ asks_end is_json) }
 {
@@ -72,7 +72,7 @@ fn add_end(is_json: bool, text: &mut String) -> Result<(), AllocError>
     text.push_str("\n")
 }
 
-/// Appends the names of those that a node asks, or an object of JSON for each.
+/// Appends the names of the nodes that node `i` asks, or a JSON object for each.
 fn add_asked(plan: &Plan, is_json: bool, i: u8, text: &mut String) -> Result<(), AllocError>
     requires { (i < MAX_NODES) × (i < length plan.now.nodes) }
     ensures { OnOk result (string_bytes text.new
@@ -84,7 +84,7 @@ fn add_asked(plan: &Plan, is_json: bool, i: u8, text: &mut String) -> Result<(),
     Ok(())
 }
 
-/// Appends a node, where another asks it.
+/// Appends the name of node `j`, or a JSON object of both nodes, if node `i` asks it.
 fn add_if_asked(
     plan: &Plan,
     is_json: bool,
@@ -105,7 +105,7 @@ fn add_if_asked(
     add_one_asked(plan, is_json, node, other, text)
 }
 
-/// Appends a node that another asks.
+/// Appends the name of `other`, which `node` asks, or a JSON object of both.
 fn add_one_asked(
     plan: &Plan,
     is_json: bool,
@@ -122,7 +122,7 @@ fn add_one_asked(
     text.write(AskedName { plan, node: other })
 }
 
-/// Appends the object of a node and of one that it asks.
+/// Appends the JSON object of `node` and of `other`, which it asks.
 fn add_asked_json(
     plan: &Plan,
     node: NodeId,
@@ -137,7 +137,7 @@ fn add_asked_json(
     text.push_str("}\n")
 }
 
-/// Whether a node asks another, or itself.
+/// Whether `node` asks `other`, which may be the same node, by the algorithm of the plan.
 fn asks(plan: &Plan, node: NodeId, other: NodeId) -> bool
     requires { node < length plan.now.nodes }
     ensures { result ≡ asks_of plan.now.shape node other }
@@ -149,7 +149,7 @@ fn asks(plan: &Plan, node: NodeId, other: NodeId) -> bool
     }
 }
 
-/// Whether a node's way to the holder leads to this neighbour.
+/// Whether `other` is the neighbour of `node` on the way to the holder. The holder itself has none.
 fn leads_to(tree: &Tree, node: NodeId, other: NodeId) -> bool
     requires { node < tree.now.count }
     ensures { result ≡ (if nat_eq node tree.now.holder then false
@@ -161,7 +161,7 @@ fn leads_to(tree: &Tree, node: NodeId, other: NodeId) -> bool
     tree.toward(node).get() == other.get()
 }
 
-/// The start of a node's line.
+/// The start of a node's line, before the names of those that it asks.
 #[derive(Clone, Copy)]
 struct AsksHead<'a> {
     plan: &'a Plan,
@@ -177,7 +177,7 @@ impl fmt::Display for AsksHead<'_> {
     }
 }
 
-/// The name of a node that is asked.
+/// The name of a node that is asked, after a space.
 #[derive(Clone, Copy)]
 struct AskedName<'a> {
     plan: &'a Plan,

@@ -1,4 +1,4 @@
-//! The lines of `check` and of `explore`.
+//! The lines that `check` and `explore` print.
 
 ghost use Rattle.std.specs.Prelude.{◌≡◌, Some};
 ghost use Rattle.mx_format.specs.PlanTexts.{algorithm_start, algorithm_text, bounds_text, explored_line, meet_line, meet_start, plan_line, toward_line};
@@ -24,7 +24,8 @@ impl fmt::Display for AlgorithmText<'_> {
     }
 }
 
-/// How many registers a plan has, its greatest section number, and where stamps start.
+/// How many registers a plan has, its greatest section number, and its origin, from which stamps,
+/// grants and hops count.
 #[derive(Clone, Copy)]
 pub struct BoundsText<'a>(pub &'a Plan);
 
@@ -43,7 +44,7 @@ impl fmt::Display for BoundsText<'_> {
     }
 }
 
-/// The line of a plan.
+/// The line of a plan: its algorithm, how many nodes it has, and its bounds.
 #[derive(Clone, Copy)]
 pub struct PlanLine<'a>(pub &'a Plan);
 
@@ -58,7 +59,7 @@ impl fmt::Display for PlanLine<'_> {
     }
 }
 
-/// The start of a plan's object of JSON: its algorithm.
+/// The start of a plan's JSON object: its algorithm.
 #[derive(Clone, Copy)]
 pub struct AlgorithmStart<'a>(pub &'a Shape);
 
@@ -71,7 +72,7 @@ impl fmt::Display for AlgorithmStart<'_> {
     }
 }
 
-/// The start of the object of JSON of two nodes that share an arbiter.
+/// The start of a JSON object about two nodes that share an arbiter: their names.
 #[derive(Clone, Copy)]
 pub struct MeetStart<'a> {
     pub plan: &'a Plan,
@@ -89,7 +90,7 @@ impl fmt::Display for MeetStart<'_> {
     }
 }
 
-/// The line of two nodes, and of the least arbiter that both have.
+/// The line of two nodes and `node`, the first arbiter that both have.
 #[derive(Clone, Copy)]
 pub struct MeetLine<'a> {
     pub plan: &'a Plan,
@@ -109,7 +110,7 @@ impl fmt::Display for MeetLine<'_> {
     }
 }
 
-/// The line of a node, and of its neighbour on the way to the holder.
+/// The line of a node and `next`, its neighbour on the way to the holder.
 #[derive(Clone, Copy)]
 pub struct TowardLine<'a> {
     pub plan: &'a Plan,
@@ -127,8 +128,8 @@ impl fmt::Display for TowardLine<'_> {
     }
 }
 
-/// The line of an exploration: the steps that were asked for, how often a node entered, and how
-/// many parcels were sent.
+/// The line of an exploration: how many steps were asked for, how many sections were entered, and
+/// how many parcels were sent.
 #[derive(Clone, Copy)]
 pub struct ExploredLine {
     pub steps: u64,

@@ -14,15 +14,16 @@ use mx_stamps::{MAX_NODES, NodeId};
 use mx_trees::Tree;
 use std::alloc::AllocError;
 
-/// Appends the line of a plan; for Maekawa's algorithm then the arbiter that any two nodes share,
-/// and for Raymond's the way of each node to the holder.
+/// Appends the line of a plan. For Maekawa's algorithm, a line for each pair of nodes follows, with
+/// the first arbiter that both have; for Raymond's, a line for each node but the holder, with its
+/// neighbour on the way to the holder.
 pub fn add_plan(plan: &Plan, text: &mut String) -> Result<(), AllocError>
     ensures { OnOk result (string_bytes text.new ≡ string_bytes text.old ++ plan_text plan.now) }
 {
     add_plan_as(plan, false, text)
 }
 
-/// Appends the same as objects of JSON, one on a line.
+/// Appends the lines of `add_plan` as JSON objects, one on a line.
 pub fn add_plan_json(plan: &Plan, text: &mut String) -> Result<(), AllocError>
     ensures { OnOk result (string_bytes text.new
         ≡ string_bytes text.old ++ plan_text_by true plan.now) }
@@ -30,7 +31,7 @@ pub fn add_plan_json(plan: &Plan, text: &mut String) -> Result<(), AllocError>
     add_plan_as(plan, true, text)
 }
 
-/// Appends what a plan says, as lines or as objects of JSON.
+/// Appends what a plan says, as lines of words or as JSON objects.
 fn add_plan_as(plan: &Plan, is_json: bool, text: &mut String) -> Result<(), AllocError>
     ensures { OnOk result (string_bytes text.new
         ≡ string_bytes text.old ++ plan_text_by is_json plan.now) }
@@ -43,7 +44,7 @@ fn add_plan_as(plan: &Plan, is_json: bool, text: &mut String) -> Result<(), Allo
     }
 }
 
-/// Appends the algorithm of a plan, and how many nodes, registers and sections it has.
+/// Appends the line of a plan, or its JSON object: its algorithm, sizes and bounds.
 fn add_head(plan: &Plan, is_json: bool, text: &mut String) -> Result<(), AllocError>
     ensures { OnOk result (string_bytes text.new
         ≡ string_bytes text.old ++ plan_head is_json plan.now) }
@@ -54,7 +55,7 @@ fn add_head(plan: &Plan, is_json: bool, text: &mut String) -> Result<(), AllocEr
     text.write(PlanLine(plan))
 }
 
-/// Appends the object of a plan.
+/// Appends the JSON object of a plan: its algorithm, sizes and bounds.
 fn add_object(plan: &Plan, text: &mut String) -> Result<(), AllocError>
     ensures { OnOk result (string_bytes text.new ≡ string_bytes text.old ++ plan_json plan.now) }
 {
@@ -63,7 +64,7 @@ fn add_object(plan: &Plan, text: &mut String) -> Result<(), AllocError>
     text.push_str("}\n")
 }
 
-/// Appends how many nodes and registers a plan has, and its bounds.
+/// Appends the members of a plan's sizes and bounds, from `nodes` to `origin`.
 fn add_sizes(plan: &Plan, text: &mut String) -> Result<(), AllocError>
     ensures { OnOk result (string_bytes text.new ≡ string_bytes text.old ++ sizes_json plan.now) }
 {
@@ -73,7 +74,7 @@ fn add_sizes(plan: &Plan, text: &mut String) -> Result<(), AllocError>
     add_number("origin", plan.origin(), text)
 }
 
-/// Appends the lines of any two nodes.
+/// Appends, for each pair of nodes, the first arbiter that both have.
 fn add_meetings(
     plan: &Plan,
     is_json: bool,
@@ -90,7 +91,7 @@ fn add_meetings(
     Ok(())
 }
 
-/// Appends the lines of a node and each later one.
+/// Appends, for node `i` and each later node, the first arbiter that both have.
 fn add_meetings_of(
     plan: &Plan,
     is_json: bool,
@@ -110,7 +111,7 @@ fn add_meetings_of(
     Ok(())
 }
 
-/// Appends the line of two nodes.
+/// Appends, for nodes `i` and `j`, the first arbiter that both have.
 fn add_meeting(
     plan: &Plan,
     is_json: bool,
@@ -136,7 +137,7 @@ fn add_meeting(
     )
 }
 
-/// Appends two nodes, and the least arbiter that both have.
+/// Appends the line or JSON object of two nodes and `node`, the first arbiter that both have.
 fn add_meet(
     plan: &Plan,
     is_json: bool,
@@ -159,7 +160,7 @@ fn add_meet(
     })
 }
 
-/// Appends the same as an object.
+/// Appends the JSON object of two nodes and `node`, the first arbiter that both have.
 fn add_meet_json(
     plan: &Plan,
     first: NodeId,
@@ -179,7 +180,7 @@ fn add_meet_json(
     text.push_str("}\n")
 }
 
-/// Appends a line for each node but the holder: its neighbour toward the holder.
+/// Appends, for each node but the holder, its neighbour on the way to the holder.
 fn add_directions(
     plan: &Plan,
     is_json: bool,
@@ -196,7 +197,7 @@ fn add_directions(
     Ok(())
 }
 
-/// Appends the line of a node, unless it is the holder.
+/// Appends, for node `i`, its neighbour on the way to the holder, unless it is the holder.
 fn add_direction(
     plan: &Plan,
     is_json: bool,
@@ -215,7 +216,7 @@ fn add_direction(
     add_toward(plan, is_json, node, tree.toward(node), text)
 }
 
-/// Appends a node, and its neighbour on the way to the holder.
+/// Appends the line or JSON object of a node and `next`, its neighbour on the way to the holder.
 fn add_toward(
     plan: &Plan,
     is_json: bool,
@@ -232,7 +233,7 @@ fn add_toward(
     text.write(TowardLine { plan, node, next })
 }
 
-/// Appends the same as an object.
+/// Appends the JSON object of a node and `next`, its neighbour on the way to the holder.
 fn add_toward_json(
     plan: &Plan,
     node: NodeId,

@@ -1,4 +1,4 @@
-//! The phase of a node, and what its journal has.
+//! The parts of a node's line: its phase, the counts of its journal, and values of registers.
 
 ghost use Rattle.std.specs.Prelude.{Some};
 ghost use Rattle.mx_format.specs.NodeTexts.{phase_text, standing_text, summary_text, value_text};
@@ -41,7 +41,7 @@ impl fmt::Display for Standing<'_> {
     }
 }
 
-/// How many records a journal has, and up to which number none is missing.
+/// How many records a journal has, and up to which section number none is missing.
 #[derive(Clone, Copy)]
 pub struct JournalSummary {
     pub records: u64,

@@ -1,11 +1,11 @@
-//! Words, and what follows them.
+//! Texts of a word with the names and numbers after it.
 
 ghost use Rattle.std.specs.Prelude.{Some};
 ghost use Rattle.mx_format.specs.Words.{words_text};
 
 use std::fmt;
 
-/// A word, and the names and numbers after it.
+/// A word, and the names and numbers after it, with spaces between.
 #[derive(Clone, Copy)]
 pub enum Words<'a> {
     Word(&'static str),

@@ -7,7 +7,7 @@ use Rattle.mx_io.specs.declared.output.OutputFault.TheVariants as output_fault
 abbrev pub Held : Type 0
 Held = Option (List ℕ)
 
--- whether an output has refused something, after a call of it
+-- whether an output has refused something, after a call that returned this result
 abbrev pub refused_by : {T : Type 0} → Result T OutputFault → Bool → Bool
 refused_by (Ok t) before = before
 refused_by (Err output_fault.Refused) before = true

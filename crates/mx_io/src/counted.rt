@@ -14,6 +14,7 @@ const MAX_READS: u64 = 268_435_456;
 #[derive(Drop)]
 pub struct Counted<R: Read + Drop> {
     inner: R,
+    /// The number of reads that are still allowed.
     left: u64,
 }
 
@@ -32,6 +33,7 @@ impl<R: Read + Drop> Counted<R> {
 impl<R: Read + Drop> Read for Counted<R> {
     ghost remaining = { λ c. R.remaining c.inner };
 
+    /// Reads as the inner reader does, or returns an error of kind `TimedOut` if no read is left.
     fn read(&mut self, buf: &mut [u8]) -> io::Result<usize> {
         if self.left == 0 {
             return Err(io::Error::from(ErrorKind::TimedOut));

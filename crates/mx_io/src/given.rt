@@ -36,8 +36,8 @@ pub fn as_slices<'a>(alloc: Global, given: &'a [String]) -> Result<Vec<&'a str>,
     Ok(words)
 }
 
-/// Returns the exit status of a command. If the arguments could not be read, reports the reason on
-/// standard error; the status is 5 if memory ran out, and 2 otherwise.
+/// Returns the exit status of a command: the one that it ended with. If its arguments could not be
+/// read, prints the reason to `err`, and returns 5 if memory ran out, and 2 otherwise.
 pub fn status_of<E: Write + Drop>(ended: io::Result<u8>, err: E) -> u8
     ensures ok { IfOk ended (λ status. result ≡ status) }
     ensures err { IfErr ended (λ e. result ≡ status_without_words (error_kind e)) }

@@ -53,11 +53,11 @@ pub trait Output {
             takes_all self.old ≡ true → fault ≡ OutputFault.Memory) }
         ensures stays { takes_all self.new ≡ takes_all self.old };
 
-    /// Passes on all bytes that it has taken.
+    /// Passes on all bytes that the output has taken.
     ///
     /// # Errors
     ///
-    /// Returns `Refused` if the output does not take them, and `Memory` if memory runs out.
+    /// Returns `Refused` if the output does not pass them on, and `Memory` if memory runs out.
     fn flush(&mut self) -> Result<(), OutputFault>
         ensures same { Keeps (written self.old) (written self.new) }
         ensures passed { OnOk result (keeps_back self.new ≡ false) }

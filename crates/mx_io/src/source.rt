@@ -22,7 +22,7 @@ pub trait Source {
     // the names that were read, in order, if they are known
     ghost asked: { Self → Option (List (List ℕ)) } = { λ _. None };
 
-    /// Returns the bytes of a name. The name `-` is standard input.
+    /// Returns the bytes that the source has under a name. The name `-` is standard input.
     ///
     /// # Errors
     ///
@@ -37,6 +37,7 @@ pub trait Source {
 /// Named bytes in memory. If two entries have the same name, the first counts.
 #[derive(Clone, Copy)]
 pub struct Table<'a> {
+    /// The names, each with its bytes.
     pub entries: &'a [(&'a str, &'a [u8])],
 }
 

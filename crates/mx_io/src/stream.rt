@@ -1,10 +1,10 @@
-//! The writers of the process.
+//! Outputs over the writers of the process.
 
 use crate::output::{Output, OutputFault};
 use std::io;
 use std::io::{ErrorKind, Write};
 
-/// A writer about which nothing is known.
+/// An output over a writer. No contract says what was written to it.
 #[derive(Drop)]
 pub struct Stream<W: Write + Drop>(pub W);
 
@@ -24,6 +24,7 @@ impl<W: Write + Drop> Output for Stream<W> {
     }
 }
 
+/// Returns the fault of an output for an error of its writer.
 fn output_fault(e: &io::Error) -> OutputFault {
     match e.kind() {
         ErrorKind::OutOfMemory => OutputFault::Memory,

@@ -1,4 +1,4 @@
-//! The files and the streams of the process.
+//! The files of the system and the standard input of the process, as a source.
 
 ghost use Rattle.std.specs.Prelude.{◌≡◌, ◌≤◌, length, IfOk, IfSome};
 
@@ -22,7 +22,7 @@ pub enum Refusal {
 }
 
 impl Refusal {
-    /// Returns the fault of a source, which has no reason.
+    /// Returns the refusal as the fault of a source, without its reason.
     pub fn fault(self) -> SourceFault {
         match self {
             Refusal::Because(_) => SourceFault::Unreadable,
@@ -31,9 +31,10 @@ impl Refusal {
     }
 }
 
-/// Files by their paths, and standard input by the name `-`.
+/// A source of files, by their paths, and of standard input, by the name `-`.
 #[derive(Drop)]
 pub struct Streams<'a, R: Files + Input> {
+    /// The runtime that opens files and reads standard input.
     pub rt: &'a R,
 }
 
@@ -61,11 +62,12 @@ pub fn read_name<R: Files + Input>(rt: &R, alloc: Global, name: &str) -> Result<
     }
 }
 
-/// Reads all bytes of a reader. More than 268,435,456 are refused, never cut off.
+/// Reads all bytes of a reader. Returns an error if there are more than 268,435,456, and never a
+/// part of them.
 ///
 /// # Errors
 ///
-/// Returns `Because` if reading fails or there are more bytes, and `Memory` if memory runs out.
+/// Returns `Because` if reading fails or there are too many bytes, and `Memory` if memory runs out.
 fn read_all<R: Read + Drop>(alloc: Global, reader: R) -> Result<Vec<u8>, Refusal>
     ensures all { IfOk result (λ bytes. IfSome (R.remaining reader) (λ all. bytes.items ≡ all)) }
     ensures within { IfOk result (λ bytes. length bytes.items ≤ MAX_BYTES) }
@@ -81,6 +83,7 @@ fn read_all<R: Read + Drop>(alloc: Global, reader: R) -> Result<Vec<u8>, Refusal
     }
 }
 
+/// Returns the refusal for an error of the system, with its reason in words.
 fn refused_for(e: &io::Error) -> Refusal {
     match e.kind() {
         ErrorKind::OutOfMemory => Refusal::Memory,

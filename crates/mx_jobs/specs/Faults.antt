@@ -1,4 +1,4 @@
--- Which fault is told of a run.
+-- Which fault of a run is reported.
 use Rattle.std.specs.Prelude.{◌≡◌, ◌⊎◌, List, Option, None, Some}
 use Rattle.mx_stamps.specs.Lists.{IsIn}
 use Rattle.mx_jobs.specs.declared.faults.RunFault.{RunFault}
@@ -6,7 +6,7 @@ use Rattle.mx_jobs.specs.declared.faults.RunFault.TheVariants as fault
 use Rattle.mx_jobs.specs.declared.worker.Ended.{Ended}
 use Rattle.mx_jobs.specs.declared.worker.Ended.TheVariants.{Broken, Done, GateShut, NotYet, Stopped}
 
--- the job of a worker that ended so, or another's, cannot go on
+-- the worker ended in this way because its job, or that of another worker, cannot go on
 abbrev pub IsBroken : Ended → Type 0
 IsBroken Done = ⊥
 IsBroken NotYet = ⊥
@@ -14,12 +14,13 @@ IsBroken GateShut = ⊥
 IsBroken (Broken why) = Unit {0}
 IsBroken (Stopped why) = Unit {0}
 
--- all jobs could go on
+-- no worker ended because a job cannot go on
 abbrev pub NoneBroken : List Ended → Type 0
 NoneBroken ends = (e : Ended) → IsIn e ends → IsBroken e → ⊥
 
--- What is told of workers that ended so: nothing only if all are done, and turns spent only if a
--- worker made all its turns, no job broke the run off, and the gate was shut for nobody.
+-- Which fault is reported if workers ended in these ways: none only if all are done, and
+-- `TurnsSpent` only if a worker made all its turns, no job stopped the run, and the gate was shut
+-- for no worker.
 abbrev pub Tells : Option RunFault → List Ended → Type 0
 Tells None ends = (e : Ended) → IsIn e ends → e ≡ Done
 Tells (Some fault.NotAJobEach) ends = ⊥
@@ -30,7 +31,7 @@ Tells (Some fault.GateShut) ends = IsIn GateShut ends × NoneBroken ends
 Tells (Some fault.TurnsSpent) ends =
     IsIn NotYet ends × NoneBroken ends × (IsIn GateShut ends → ⊥)
 
--- this is so if the fault is told of how workers ended
+-- P holds if this fault is one of how workers ended
 abbrev pub IfOfEnds : RunFault → Type 0 → Type 0
 IfOfEnds fault.NotAJobEach P = Unit {0}
 IfOfEnds fault.Memory P = Unit {0}

@@ -1,4 +1,4 @@
--- A law of the registers: so they are after any number of sections.
+-- Laws of the registers: what holds of their values after any number of sections.
 use Rattle.std.specs.Prelude.{◌≡◌, ◌<◌, ℕ, suc, List, [], ◌∷◌, get_or, length, map}
 use Rattle.std.proofs.Math.ListN.{set}
 use Rattle.mx_journal.specs.declared.records.Write.{Write}
@@ -6,31 +6,31 @@ use Rattle.mx_journal.specs.Settled.{JournalState}
 use Rattle.mx_registers.specs.declared.contents.Content.{Content}
 use Rattle.mx_registers.specs.Based.{registers_in}
 
--- these are registers, of this many
+-- each of these registers is below `count`, the number of registers
 abbrev pub AreThere : ℕ → List ℕ → Type 0
 AreThere count [] = Unit {0}
 AreThere count (r ∷ rs) = (r < count) × AreThere count rs
 
--- what these registers hold, where all registers hold these contents
+-- the values of these registers, if `contents` lists the values of all registers
 abbrev pub held_in : List ℕ → List ℕ → List ℕ
 held_in contents registers = map (λ r. get_or contents r 0) registers
 
--- what all registers hold after these writes, one after another
+-- the values of all registers after these writes, one after another
 abbrev pub after_writes : List Write → List ℕ → List ℕ
 after_writes [] contents = contents
 after_writes (w ∷ ws) contents = after_writes ws (set contents w.register w.value)
 
--- what registers hold, without who wrote it
+-- the values in the contents of registers, without the sections that wrote them
 abbrev pub values_in : List Content → List ℕ
 values_in contents = map (λ (c : Content). c.value) contents
 
--- what the registers below count hold in a journal
+-- the values of the first `count` registers after the sections of a journal
 abbrev pub contents_of : ℕ → JournalState → List ℕ
 contents_of count journal = values_in (registers_in count journal)
 
 module _ {J : Type 0} (AsksFor : J → List ℕ → Type 0) (Holds : ℕ → List ℕ → Type 0) where
-  -- The section of this number keeps the law: it holds after the writes, if it held before of
-  -- registers that have the values which the job was given.
+  -- The section of this number keeps the law: if the law held before it, and the registers that the
+  -- job asked for had these values, then the law holds after these writes.
   abbrev pub KeepsLaw : J → ℕ → List ℕ → List Write → Type 0
   KeepsLaw job number values writes =
       (before : ℕ) (contents asked : List ℕ) → number ≡ suc before → AsksFor job asked

@@ -1,6 +1,6 @@
--- Laws: laws of the registers. Sections: what a job's sections are. Serial: one serial order of
--- sections. Rounds: rounds of a worker. Faults: which fault is told of a run. Posted: workers, by
--- their places. Runs: runs of jobs in threads.
+-- Laws: laws of the registers. Sections: the sections of a job. Serial: one serial order of
+-- sections. Rounds: the rounds of a worker. Faults: which fault of a run is reported. Posted: the
+-- workers of a run, by their places. Runs: runs of jobs in threads.
 pub mod Laws
 pub mod Sections
 pub mod Serial

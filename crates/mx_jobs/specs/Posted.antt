@@ -4,12 +4,12 @@ use Rattle.std.specs.declared.alloc.Global.{Global}
 use Rattle.mx_jobs.specs.declared.threads.WorkAt.{WorkAt}
 use Rattle.mx_jobs.specs.declared.worker.RunOptions.{RunOptions}
 
--- each of these is so at its place, where places are counted from this one on
+-- `IsSo` holds for each item with its place; the first item has the place `from`
 pub record AreEach {X : Type 0} (IsSo : ℕ → X → Type 0) (from : ℕ) (xs : List X) : Type 0 where
   pub each : (k : ℕ) (x : X) → slice_get xs k ≡ Some x → IsSo (from + k) x
 
 module _ {X J : Type 0} where
-  -- one more worker, at this station, with this job
+  -- one more worker was added, with this station, this job and these options
   pub record AddsWorker (options : RunOptions) (at : X) (job : J) (old new : List (WorkAt X J))
       : Type 0 where
     pub promise : WorkAt X J
@@ -19,23 +19,23 @@ module _ {X J : Type 0} where
     pub as_told : promise.options ≡ options
 
   module _ (stations : List X) (jobs : List J) where
-    -- the stations and the jobs from the k-th on
+    -- item i of `others` is station k + i, and item i of `js` is job k + i
     pub record Fit (k : ℕ) (others : List X) (js : List J) : Type 0 where
       pub places : AreEach (λ i s. slice_get stations i ≡ Some s) k others
       pub own : AreEach (λ i job. slice_get jobs i ≡ Some job) k js
 
   module _ (options : RunOptions) (stations : List X) (jobs : List J) where
-    -- a worker at the k-th of the stations, with the k-th of the jobs
+    -- this worker has the k-th station, the k-th job and these options
     pub record IsPosted (k : ℕ) (promise : WorkAt X J) : Type 0 where
       pub place : slice_get stations k ≡ Some promise.at.value
       pub own : slice_get jobs k ≡ Some promise.job.value
       pub as_told : promise.options ≡ options
 
-    -- workers at the first of the stations, in order
+    -- these workers have the first of the stations and jobs, in order
     abbrev pub ArePosted : List (WorkAt X J) → Type 0
     ArePosted promises = AreEach IsPosted 0 promises
 
--- there is room for this many more of each
+-- both lists have room for this number of further items
 abbrev pub HaveRoom : {X J : Type 0} → ℕ → Vec X Global → Vec J Global → Type 0
 HaveRoom more stations jobs =
     (more + length stations.items ≤ vec_capacity stations)

@@ -1,4 +1,4 @@
--- Rounds of a worker: acts for its job, a turn of its station, and settling where that is due.
+-- Rounds of a worker: acts for its job, a turn of its station, and settling if that is due.
 use Rattle.std.specs.Prelude.{◌≡◌, ◌<◌, ◌≤◌, ℕ, zero, suc, List, [], ◌∷◌, length}
 use Rattle.mx_nodelaws.specs.Core.{Core}
 use Rattle.mx_member.specs.declared.acts.Act.{Act}
@@ -10,8 +10,8 @@ use Rattle.mx_jobs.specs.declared.worker.Ended.{Ended}
 use Rattle.mx_jobs.specs.declared.worker.Ended.TheVariants.{Broken, Done, GateShut, NotYet, Stopped}
 use Rattle.mx_jobs.specs.declared.worker.RunOptions.{RunOptions}
 
--- an act for a job, by which no section is left, of one of n nodes: it asks, enters, empties its
--- draft, reads or writes, or asks a node for records
+-- an act of one of n nodes for its job, by which no section is left: the node asks, enters, reads,
+-- writes, empties its draft, or asks one of the nodes for records
 abbrev pub IsForJob : {M : Type 0} → ℕ → Act M → Type 0
 IsForJob n act.Ask = Unit {0}
 IsForJob n act.Enter = Unit {0}
@@ -26,23 +26,23 @@ IsForJob n (act.Deliver from p) = ⊥
 IsForJob n act.Restart = Unit {0}
 
 module _ {H S M : Type 0} (core : Core H S M) where
-  -- these acts for a job, one after another
+  -- these acts for a job, one after another, lead from s to t
   abbrev pub Acts : List (Act M) → Station core → Station core → Type 0
   Acts [] s t = t ≡ s
   Acts (a ∷ more) s t = IsForJob s.nodes a × Acts more (does core a s) t
 
-  -- some list of them
+  -- some acts for a job, one after another, lead from s to t
   abbrev pub ActsForJob : Station core → Station core → Type 0
   ActsForJob s t = (acts : List (Act M)) × Acts acts s t
 
-  -- the acts of a round: by some no section is left, and then one may be
+  -- the acts of a round: some acts for the job, and then the node may leave its section
   pub record Serves (s t : Station core) : Type 0 where
     pub acted : Station core
     pub acts : ActsForJob s acted
     pub leaves : MayLeave core acted t
 
-  -- One round: acts for the job, one turn of the station, and at its end the station settles, if
-  -- a section was left that makes it due.
+  -- One round: acts for the job, one turn of the station, and then the station settles if that is
+  -- due.
   pub record Round (every : ℕ) (s t : Station core) : Type 0 where
     pub served : Station core
     pub turned : Station core
@@ -50,18 +50,18 @@ module _ {H S M : Type 0} (core : Core H S M) where
     pub turns : HasTurned core served turned
     pub settles : SettlesIfDue core every (length s.me.receipts) turned t
 
-  -- just so many rounds, one after another
+  -- exactly `made` rounds, one after another, lead from s to t
   abbrev pub Rounds : ℕ → ℕ → Station core → Station core → Type 0
   Rounds every zero s t = t ≡ s
   Rounds every (suc made) s t = (m : Station core) × Rounds every made s m × Round every m t
 
-  -- no more rounds than there are turns
+  -- at most `options.turns` rounds, one after another, lead from s to t
   pub record WorksAtMost (options : RunOptions) (s t : Station core) : Type 0 where
     pub made : ℕ
     pub most : made ≤ options.turns
     pub rounds : Rounds options.settle_every made s t
 
-  -- fewer rounds, and then acts for a job that cannot go on
+  -- fewer than `options.turns` rounds lead from s to t, and then acts for a job that cannot go on
   pub record BreaksOff (options : RunOptions) (s t : Station core) : Type 0 where
     pub made : ℕ
     pub fewer : made < options.turns
@@ -69,8 +69,8 @@ module _ {H S M : Type 0} (core : Core H S M) where
     pub rounds : Rounds options.settle_every made s last
     pub acts : ActsForJob last t
 
-  -- What a worker makes of its station that ends so. If it is not done yet, it has made all its
-  -- turns: just so many rounds.
+  -- A worker that ended in this way led its station from s to t. If its turns were spent, it made
+  -- exactly `options.turns` rounds; if the gate was shut, it did nothing.
   abbrev pub Works : RunOptions → Ended → Station core → Station core → Type 0
   Works options Done s t = WorksAtMost options s t
   Works options NotYet s t = Rounds options.settle_every options.turns s t

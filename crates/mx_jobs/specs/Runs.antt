@@ -1,4 +1,4 @@
--- A run of jobs in threads: what workers promise and leave, and what all have together.
+-- A run of jobs in threads: what each worker returns, and the result of the whole run.
 use Rattle.std.specs.Prelude.{◌≡◌, ◌<◌, ◌≤◌, ◌+◌, ◌==◌, ℕ, Bool, List, [], ◌∷◌, filter, length, map, slice_get, Some}
 use Rattle.atomic_table.specs.Seated.{TableId}
 use Rattle.mx_stamps.specs.Lists.{IsIn}
@@ -25,7 +25,8 @@ use Rattle.mx_jobs.specs.Rounds.{Works, WorksAtMost}
 use Rattle.mx_jobs.specs.Sections.{Advances, Reaches, Runs}
 use Rattle.mx_jobs.specs.Serial.{AreSerial}
 
--- how the stations of a run begin
+-- how the stations of a run were created: the cluster's shape, the number from which the numbers of
+-- requests count on, the greatest section number, the number of registers, and the table
 pub record Opening (H : Type 0) : Type 0 where
   pub shape : H
   pub origin : ℕ
@@ -33,12 +34,13 @@ pub record Opening (H : Type 0) : Type 0 where
   pub registers : ℕ
   pub table : TableId
 
--- how many registers the stations have
+-- the number of registers of the first station, or 0 if there is no station
 abbrev pub registers_at : {S M : Type 0} → List (Post (MemberState S) (Parcel M)) → ℕ
 registers_at [] = 0
 registers_at (s ∷ ss) = s.me.member.setting.registers
 
--- the stations of a new cluster, at rest
+-- these are the stations of a new cluster, one for each node in order; their nodes have done
+-- nothing yet
 pub record AreNew {H S M : Type 0} (core : Core H S M) (stations : List (Station core))
     : Type 0 where
   pub shape : H
@@ -51,7 +53,7 @@ pub record AreNew {H S M : Type 0} (core : Core H S M) (stations : List (Station
       (λ i. start_of core shape i origin limit registers) stations
 
 module _ {H S M : Type 0} (core : Core H S M) (o : Opening H) where
-  -- the station of node k at rest, of the table of this opening
+  -- this is the station of node k, at the table of this opening, and the node has done nothing yet
   pub record IsAtRest (k : ℕ) (s : Station core) : Type 0 where
     pub here : s.table ≡ o.table
     pub nodes : s.nodes ≡ core.count o.shape
@@ -64,25 +66,26 @@ own_of node receipts = filter (λ (r : Receipt). r.node == node) receipts
 module _ {J : Type 0} (AsksFor : J → List ℕ → Type 0)
     (Makes : J → ℕ → List ℕ → List Write → J → Type 0)
     (Holds : ℕ → List ℕ → Type 0) (Finished : J → Type 0) where
-  -- What a run with this many registers came to.
+  -- The result of a run with this number of registers: the receipts and the journal of all sections
+  -- that were left, and the jobs after the run.
   pub record HaveRun (registers : ℕ) (jobs : List J) (receipts : List Receipt)
       (journal : JournalState) (afters : List J) : Type 0 where
-    -- as many jobs come back
+    -- the number of jobs is the same after the run
     pub count : length afters ≡ length jobs
-    -- the receipts of each node are those of the sections of its job, one after another, which led
-    -- to the job that comes back, and that one has no more sections
+    -- the receipts of node k are those of the sections of the k-th job, one after another. These
+    -- led to the k-th job after the run, which has no more sections
     pub runs : (k : ℕ) (job after : J) → slice_get jobs k ≡ Some job
         → slice_get afters k ≡ Some after
         → Runs AsksFor Makes Holds registers job (own_of k receipts) after × Finished after
-    -- there are no other receipts
+    -- each receipt is of a node that has a job
     pub own : (r : Receipt) → IsIn r receipts → r.node < length jobs
-    -- and all sections together are one serial order
+    -- the receipts and the journal are one serial order
     pub serial : AreSerial receipts journal
 
   module _ {H S M : Type 0} (core : Core H S M) (options : RunOptions) where
-    -- A worker that is done: sections of its job, one after another, led from this job to the one
-    -- left, which has no more, and its rounds from this station to the one left, whose node is
-    -- outside.
+    -- A worker that started with the station `from` and the job `job`, and is done. Sections of its
+    -- job, one after another, led from `job` to `after`, which has no more sections. Its rounds led
+    -- from the station `from` to the station `left`, whose node is not inside.
     pub record IsDone (from : Station core) (job : J) (left : Station core) (after : J)
         : Type 0 where
       pub advanced : Advances AsksFor Makes Holds core job from after left
@@ -90,19 +93,20 @@ module _ {J : Type 0} (AsksFor : J → List ℕ → Type 0)
       pub outside : IsInside core left.me.member.core → ⊥
       pub works : WorksAtMost core options from left
 
-    -- What a worker left of this station and this job, and how it ended.
+    -- What a worker that started with this station and this job returned: its station, its job, and
+    -- how it ended.
     pub record IsLeft (from : Station core) (job : J) (left : Station core × J × Ended)
         : Type 0 where
       pub works : Works core options left.2 from left.0
       pub done : left.2 ≡ Done → IsDone from job left.0 left.1
-      -- not done yet, it has gone on by some sections of its job, and one more may be made that is
-      -- not left yet
+      -- if its turns were spent, it has made and left some sections of its job, and perhaps made
+      -- one more that it has not left yet
       pub reached : left.2 ≡ NotYet
           → (pending : Bool) × Reaches AsksFor Makes Holds core pending job from left.1 left.0
       pub shut : left.2 ≡ GateShut → left.1 ≡ job
 
     module _ (stations : List (Station core)) (jobs : List J) where
-      -- what the k-th worker left
+      -- what the worker with the k-th station and the k-th job returned
       pub record HasLeft (k : ℕ) (left : Station core × J × Ended) : Type 0 where
         pub from : Station core
         pub job : J
@@ -110,7 +114,7 @@ module _ {J : Type 0} (AsksFor : J → List ℕ → Type 0)
         pub own : slice_get jobs k ≡ Some job
         pub is_left : IsLeft from job left
 
-      -- what the workers from the k-th on left, one after another, and how each ended
+      -- how the workers from the k-th on ended, and which stations and jobs they returned, in order
       pub record AreLeft (k : ℕ) (ends : List Ended) (lefts : List (Station core))
           (afters : List J) : Type 0 where
         pub all : List (Station core × J × Ended)
@@ -119,8 +123,8 @@ module _ {J : Type 0} (AsksFor : J → List ℕ → Type 0)
         pub jobs_are : afters ≡ map (λ (one : Station core × J × Ended). one.1) all
         pub ends_are : ends ≡ map (λ (one : Station core × J × Ended). one.2) all
 
-      -- A run that is under way: workers at the first stations, and what came back of the others.
-      -- With no thread, nothing was done.
+      -- A run that is under way: these workers have the first stations and jobs. The others were
+      -- returned, each as `IsLeft` says for one of the ways in which a worker ends.
       pub record IsUnderWay (workers : List (WorkAt (Station core) J))
           (lefts : List (Station core)) (afters : List J) : Type 0 where
         pub many : length workers + length lefts ≡ length stations
@@ -128,8 +132,8 @@ module _ {J : Type 0} (AsksFor : J → List ℕ → Type 0)
         pub ends : List Ended
         pub left : AreLeft (length workers) ends lefts afters
 
-      -- All workers are done. For each k, rounds led from the k-th station handed in to the k-th
-      -- that comes back, and sections of the k-th job to the k-th job that comes back.
+      -- All workers are done. For each k, rounds led from the k-th given station to the k-th
+      -- returned station, and sections of the k-th given job to the k-th returned job.
       pub record AreDone (lefts : List (Station core)) (afters : List J) : Type 0 where
         pub many : length lefts ≡ length stations
         pub jobs_many : length jobs ≡ length stations
@@ -139,9 +143,9 @@ module _ {J : Type 0} (AsksFor : J → List ℕ → Type 0)
             → slice_get lefts k ≡ Some left → slice_get afters k ≡ Some after
             → IsDone from job left after
 
-      -- What comes back of any run. For each k, a worker that ended so led from the k-th station and
-      -- job handed in to the k-th that come back. One at which the gate was shut, and a station that
-      -- got no thread, did nothing.
+      -- What any run returns. For each k, a worker that started with the k-th given station and job
+      -- ended in the k-th of these ways, and returned the k-th of these stations and jobs. If
+      -- that way is `GateShut`, the station and the job are unchanged.
       pub record AreBack (ends : List Ended) (lefts : List (Station core)) (afters : List J)
           : Type 0 where
         pub many : length lefts ≡ length stations
@@ -153,7 +157,7 @@ module _ {J : Type 0} (AsksFor : J → List ℕ → Type 0)
             → slice_get lefts k ≡ Some left → slice_get afters k ≡ Some after
             → slice_get ends k ≡ Some end → IsLeft from job (left, after, end)
 
-      -- the same of workers of which some are not done, of which this fault is told
+      -- what a run returns if some worker is not done, and this fault is reported
       pub record AreNotDone (fault : RunFault) (lefts : List (Station core)) (afters : List J)
           : Type 0 where
         pub ends : List Ended

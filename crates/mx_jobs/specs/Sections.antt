@@ -1,4 +1,4 @@
--- What a job's sections are, and what they leave of a station.
+-- The sections of a job, and their effects on its station.
 use Rattle.std.specs.Prelude.{◌≡◌, ℕ, Bool, MatchBool, List, [], ◌∷◌, ◌++◌, map}
 use Rattle.std.specs.List.{All}
 use Rattle.atomic_table.specs.Seated.{TableId}
@@ -18,30 +18,32 @@ registers_of reads = map (λ x. x.register) reads
 abbrev pub values_of : List Read → List ℕ
 values_of reads = map (λ x. x.value) reads
 
--- whose station it is: its table, how many nodes that has, and its node
+-- the table of a station, the number of nodes of the table, and the station's node
 abbrev pub home_of : {T P : Type 0} → Post T P → TableId × ℕ × ℕ
 home_of s = (s.table, s.nodes, s.me.node)
 
 module _ {H S M : Type 0} (core : Core H S M) where
-  -- it is the same node's, at the same table, with the same setting, and no section was left
+  -- t is the station of the same node at the same table as s, with the same setting, and no section
+  -- was left between s and t
   pub record Rests (s t : Station core) : Type 0 where
     pub home : home_of t ≡ home_of s
     pub setting : t.me.member.setting ≡ s.me.member.setting
     pub receipts : t.me.receipts ≡ s.me.receipts
 
-  -- the draft is this now, and the core as it was
+  -- the same, and t has this draft and the same core as s
   pub record Drafts (s : Station core) (draft : Drafted) (t : Station core) : Type 0 where
     pub rests : Rests s t
     pub same_core : t.me.member.core ≡ s.me.member.core
     pub drafted : t.me.member.draft ≡ draft
 
-  -- one section was left, of this receipt
+  -- one section was left between s and t, and this is its receipt
   pub record Leaves (s : Station core) (r : Receipt) (t : Station core) : Type 0 where
     pub home : home_of t ≡ home_of s
     pub setting : t.me.member.setting ≡ s.me.member.setting
     pub receipts : t.me.receipts ≡ s.me.receipts ++ r ∷ []
 
--- these registers were read, and these values found, before any write
+-- the draft has reads of exactly these registers, in order, with these values, and no writes; all
+-- these registers exist
 pub record HasRead (count : ℕ) (registers values : List ℕ) (draft : Drafted) : Type 0 where
   pub there : AreThere count registers
   pub registers_are : registers_of draft.reads ≡ registers
@@ -52,9 +54,9 @@ pub record HasRead (count : ℕ) (registers values : List ℕ) (draft : Drafted)
 module _ {J : Type 0} (AsksFor : J → List ℕ → Type 0)
     (Makes : J → ℕ → List ℕ → List Write → J → Type 0)
     (Holds : ℕ → List ℕ → Type 0) where
-  -- the section of this receipt is the job's: it read the registers that the job asked for, before
-  -- any write, its writes are what the job made of their values, and it keeps the law; all are
-  -- among so many registers
+  -- the section of this receipt is the job's next one, and leads to the job `after`. The section
+  -- read the registers that the job asked for, before any write; its writes are what the job made
+  -- of their values; and it keeps the law. All its registers are among the first `count`
   pub record IsSection (count : ℕ) (job : J) (r : Receipt) (after : J) : Type 0 where
     pub asked : AsksFor job (registers_of r.reads.items)
     pub read_there : AreThere count (registers_of r.reads.items)
@@ -63,15 +65,15 @@ module _ {J : Type 0} (AsksFor : J → List ℕ → Type 0)
     pub made : Makes job r.number (values_of r.reads.items) r.writes.items after
     pub keeps : KeepsLaw AsksFor Holds job r.number (values_of r.reads.items) r.writes.items
 
-  -- the job's sections, one after another
+  -- sections of the job, one after another, have these receipts, and lead to the job `after`
   abbrev pub Runs : ℕ → J → List Receipt → J → Type 0
   Runs count job [] after = after ≡ job
   Runs count job (r ∷ rs) after =
       (next : J) × IsSection count job r next × Runs count next rs after
 
   module _ {H S M : Type 0} (core : Core H S M) where
-    -- the station went on to this one, and the job to that, by some sections of the job, one after
-    -- another
+    -- some sections of the job were made and left, one after another: they led from the station s
+    -- to t, and from the job to `after`
     pub record Advances (job : J) (s : Station core) (after : J) (t : Station core) : Type 0 where
       pub home : home_of t ≡ home_of s
       pub setting : t.me.member.setting ≡ s.me.member.setting
@@ -88,7 +90,8 @@ module _ {J : Type 0} (AsksFor : J → List ℕ → Type 0)
       pub drafted : receipt
           ≡ receipt_of receipt.number s.me.member.setting.me s.me.member.draft
 
-    -- the same, or nothing is pending
+    -- some sections of the job were made and left; if `pending`, one more was made, and is not left
+    -- yet
     pub record Reaches (pending : Bool) (job : J) (s : Station core) (after : J) (t : Station core)
         : Type 0 where
       pub next : J

@@ -12,18 +12,18 @@ use Rattle.mx_trace.specs.Serial.{IsSerialRead}
 
 -- Receipts and journal are one serial order of sections.
 pub record AreSerial (receipts : List Receipt) (journal : JournalState) : Type 0 where
-  -- the receipts bear 1, 2, 3 and so on
+  -- the receipts have the numbers 1, 2, 3 and so on
   pub numbered : (k : ℕ) (r : Receipt) → slice_get receipts k ≡ Some r → r.number ≡ suc k
-  -- the journal has their records, in order, and nothing else, but that those up to its base are
-  -- settled: the base has the registers after them
+  -- the journal has exactly the records of the receipts, in order, except that those up to its base
+  -- are settled: the base has the registers after them
   pub records : journal ≡ settled journal.base.upto (unsettled (map record_of receipts))
-  -- so it covers the numbers up to how many there are, and no others
+  -- so the journal covers the numbers from 1 to the number of receipts, and no others
   pub covers : (n : ℕ) → Covers n journal ↔ ((1 ≤ n) × (n ≤ length receipts))
-  -- each value read is what the writes of the receipts before, in order, and the receipt's own
-  -- first writes leave
+  -- each value read is the register's after the writes of the receipts before, in order, and the
+  -- receipt's own writes before the read
   pub reads : (k : ℕ) (r : Receipt) (x : Read) → slice_get receipts k ≡ Some r
       → IsIn x r.reads.items → IsSerialRead (writes_to k (map record_of receipts)) r.writes.items x
-  -- and each register of the journal has what the writes of all receipts, in order, leave
+  -- and each register of the journal has its value after the writes of all receipts, in order
   pub shows : (count : ℕ) → count ≤ MAX_REGISTERS
       → AreApplied (writes_to (length receipts) (map record_of receipts))
       (registers_in count journal)

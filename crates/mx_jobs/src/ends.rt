@@ -1,4 +1,4 @@
-//! What the threads of a run leave.
+//! Joins the threads of a run, and collects the stations and jobs that they leave.
 
 ghost use Rattle.std.specs.Prelude.{◌≡◌, [], List, None, length};
 ghost use Rattle.mx_member.specs.Member.{MemberState};
@@ -16,8 +16,8 @@ use mx_nodelaws::Exclusion;
 use mx_stations::Station;
 use std::thread::Threads;
 
-/// Joins all threads, the last first, and puts their stations and jobs before those that are there.
-/// Returns the fault to report of how they ended.
+/// Joins all threads, the last first, and puts their stations and jobs in front of those in
+/// `stations` and `jobs`. Returns the fault to report, or `None` if all workers were done.
 pub(crate) fn join_all<C: Exclusion, J: Job, R: Threads>(
     rt: &R,
     mut workers: Workers<C, J>,

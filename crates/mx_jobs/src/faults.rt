@@ -1,4 +1,4 @@
-//! Why a run comes to no end.
+//! Why a run did not finish.
 
 ghost use Rattle.std.specs.Prelude.{◌≡◌, ◌≢◌, Some};
 ghost use Rattle.mx_jobs.specs.declared.tries.JobFault.{JobFault as TheFault};
@@ -11,7 +11,7 @@ use mx_nodelaws::Exclusion;
 use mx_stations::Station;
 use thiserror::Error;
 
-/// Why a run came to no end. If several of these happened, the first in this order is reported.
+/// Why a run did not finish. If several of these happened, the first in this order is reported.
 #[derive(Clone, Copy, Debug, PartialEq, Eq, Error)]
 pub enum RunFault {
     /// There is not one job, and one source of fates, for each station.
@@ -34,7 +34,7 @@ pub enum RunFault {
     TurnsSpent,
 }
 
-/// Returns the fault of a run in which a thread was not started.
+/// Returns the fault of a run in which a thread was not started for this reason.
 pub(crate) fn fault_of(refused: StartFault) -> RunFault
     ensures { IfOfEnds result ⊥ }
 {
@@ -44,7 +44,7 @@ pub(crate) fn fault_of(refused: StartFault) -> RunFault
     }
 }
 
-/// What is left of a run that came to no end: the k-th job is that of the k-th station's node.
+/// What is left of a run that did not finish. The k-th job is that of the k-th station's node.
 #[derive(Drop)]
 pub struct Unfinished<C: Exclusion, J: Drop> {
     pub fault: RunFault,
@@ -52,8 +52,8 @@ pub struct Unfinished<C: Exclusion, J: Drop> {
     pub jobs: Vec<J>,
 }
 
-/// Returns the fault to report after one more worker has ended: the first in the order of
-/// `RunFault`.
+/// Returns the fault to report after one more worker has ended this way. Of `fault`, that of the
+/// workers before, and of this worker's own, it is the first in the order of `RunFault`.
 pub(crate) fn with_end(fault: Option<RunFault>, ended: Ended) -> Option<RunFault>
     ensures job { (why : TheFault) → fault ≡ Some (RunFault.Job why) → result ≡ fault }
     ensures done { ended ≡ Ended.Done → result ≡ fault }

@@ -11,17 +11,17 @@ pub trait Job: Drop {
     ghost use Rattle.mx_journal.specs.declared.records.Write.{Write as OneWrite};
     ghost use Rattle.mx_jobs.specs.Laws.{KeepsLaw};
 
-    // it may be asked for a section
+    // the job may be asked for a section
     ghost ready: { Self → Type 0 } = { λ job. Unit {0} };
 
-    // it has no more sections
+    // the job has no more sections
     ghost finished: { Self → Type 0 } = { λ job. Unit {0} };
 
     // the next section of this job reads these registers
     ghost asks_for: { Self → List ℕ → Type 0 } = { λ job registers. Unit {0} };
 
-    // the section of this number, to which these values were given, makes these writes, and leaves
-    // this job
+    // in the section of this number, with these values read, the first job makes these writes and
+    // becomes the second
     ghost makes: { Self → ℕ → List ℕ → List OneWrite → Self → Type 0 } = { λ j n v w t. Unit {0} };
 
     // the law: after this number of sections of all nodes, the registers may hold these values
@@ -32,8 +32,8 @@ pub trait Job: Drop {
         ensures some { IfSome result (λ registers. asks_for self.now registers.items) }
         ensures none { IfNone result (finished self.now) };
 
-    /// Runs the next section: takes its number and the values of the registers, in order, and
-    /// returns its writes.
+    /// Runs the next section, and returns its writes. `number` is the section's number, and
+    /// `values` are those of the registers that `asks` returned, in order.
     fn section(&mut self, number: u64, values: &[u64]) -> ArrayVec<Write, 8>
         requires { ready self.old }
         ensures made { makes self.old number values.now result.items self.new }

@@ -1,4 +1,4 @@
-//! What the registers of a journal hold, as a list.
+//! The values of the registers after the sections of a journal, as a list.
 
 ghost use Rattle.std.specs.Prelude.{◌≡◌, ◌≤◌, get_or, map};
 ghost use Rattle.mx_stamps.specs.declared.limits.TheConstants.{MAX_REGISTERS};
@@ -12,7 +12,8 @@ use mx_stamps::MAX_REGISTERS;
 /// The greatest number of registers.
 const ROOM: usize = MAX_REGISTERS as usize;
 
-/// Returns the values of the first `count` registers, in order; 0 if no section wrote one.
+/// Returns the values of the first `count` registers after the sections of the journal, in order. A
+/// register that no section wrote is 0.
 pub fn contents(journal: &Journal, count: u8) -> ArrayVec<u64, ROOM>
     requires least { 1 ≤ count }
     requires most { count ≤ MAX_REGISTERS }
@@ -26,7 +27,7 @@ pub fn contents(journal: &Journal, count: u8) -> ArrayVec<u64, ROOM>
     contents
 }
 
-/// Returns the value of a register, or 0 if it is absent.
+/// Returns the value of a register, or 0 if the view has no such register.
 fn value_of(view: &View, register: u8) -> u64
     ensures { result ≡ get_or (values_in view.now) register 0 }
 {

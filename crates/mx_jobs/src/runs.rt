@@ -1,4 +1,4 @@
-//! A run: a thread for each station of a cluster, and what all have together.
+//! Runs of a cluster: each station works in a thread, and then all are gathered.
 
 ghost use Rattle.std.specs.Prelude.{◌≡◌, ◌≢◌, ◌<◌, List, ℕ, length, replicate, IfErr, IfOk, IsErrAnd, OnOk};
 ghost use Rattle.mx_member.specs.Member.{MemberState};
@@ -24,8 +24,8 @@ use mx_stations::{Gathered, Station, gather};
 use std::alloc::{AllocError, Global};
 use std::thread::Threads;
 
-/// What a run came to: the receipts of all sections, in order, their journal, and what the jobs
-/// have become.
+/// The result of a finished run: the receipts of all sections, in order, their journal, and the
+/// jobs as they are after the run.
 #[derive(Drop)]
 pub struct Finished<J: Drop> {
     pub gathered: Gathered,
@@ -40,10 +40,10 @@ pub struct Ran<C: Exclusion, J: Drop> {
     pub jobs: Vec<J>,
 }
 
-/// Runs a cluster from its new stations, each in a thread, and gathers their journals and receipts.
-/// The k-th job is that of node k, and the k-th fates are those of the parcels that reach it. A
-/// node goes through the sections of its job, and then replies to the others until all jobs are
-/// done. No node makes more turns than the options say.
+/// Runs the new stations of a cluster, each in a thread, and gathers their journals and receipts.
+/// The k-th job is that of node k, and the k-th fates are those of the parcels to node k. A node
+/// goes through the sections of its job, and then replies to the others until all jobs are done. No
+/// node makes more turns than the options say.
 ///
 /// # Errors
 ///
@@ -151,7 +151,8 @@ pub fn fair_links(alloc: Global, count: usize) -> Result<Vec<Fair>, AllocError> 
     Ok(links)
 }
 
-/// Runs each station in a thread, until all threads have ended.
+/// Runs each station with its job in a thread, until all threads have ended. Leaves the stations
+/// and jobs, as they are then, in `stations` and `jobs`, in order.
 fn run_all<
     C: Exclusion + Send + 'static,
     J: Job + Send + 'static,
@@ -204,7 +205,7 @@ fn count_of<C: Exclusion>(stations: &[Station<C>]) -> u8
     }
 }
 
-/// Gathers what the nodes did, once all are done.
+/// Gathers the journals and receipts of the stations, once all jobs are done.
 fn finish<C: Exclusion, J: Job>(
     alloc: Global,
     stations: Vec<Station<C>>,

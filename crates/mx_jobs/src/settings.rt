@@ -19,7 +19,7 @@ pub struct Settings {
     pub registers: u8,
 }
 
-/// Makes the stations of a new cluster of this shape, one for each node, in order.
+/// Creates the stations of a new cluster of this shape, one for each node, in order.
 pub fn stations<C: Exclusion>(
     alloc: Global,
     shape: &C::Shape,
@@ -35,7 +35,7 @@ pub fn stations<C: Exclusion>(
         (λ i. start_of C.core shape.now i settings.now.origin settings.now.sections
         settings.now.registers) all.items) }
 {
-    // that there is a node is known from this call
+    // for the prover: this call shows that there is a node
     let _nodes = C::nodes(shape);
     Field::<C>::stations(
         alloc,

@@ -10,7 +10,7 @@ use std::sync::Arc;
 use std::thread;
 use std::thread::{Promise, PromisedHandle, Threads};
 
-/// How often a worker looks at the most whether all have arrived.
+/// The greatest number of times that a worker looks whether all have arrived at the gate.
 const MAX_LOOKS: u64 = 100_000_000;
 
 /// Why a thread was not started.
@@ -22,7 +22,7 @@ pub enum StartFault {
     NoThread,
 }
 
-/// What a task leaves that has no thread, and why it has none.
+/// What a task returned that ran without a thread, and why it got no thread.
 #[derive(Drop)]
 pub struct NotStarted<T> {
     pub left: T,
@@ -35,8 +35,8 @@ impl<T: Drop> From<NotStarted<T>> for AllocError {
     }
 }
 
-/// The threads of a run, which share one gate. Each has promised something of what it leaves; a
-/// contract sees the promises of those that are not joined yet, in order.
+/// The threads of a run, which share one gate. Each has promised something about the value that it
+/// leaves; a contract sees the promises of the threads that are not joined yet, in order.
 #[derive(Drop)]
 pub struct ThreadGroup<T, P: Promise<T>> {
     handles: Vec<PromisedHandle<T, P>>,
@@ -64,12 +64,13 @@ impl<T: Drop, P: Promise<T> + Drop> ThreadGroup<T, P> {
         })
     }
 
-    /// Starts a thread for a task, which gets the gate.
+    /// Starts a thread for a task, which gets the gate. `promise` tells the proof something about
+    /// the value that the task returns.
     ///
     /// # Errors
     ///
-    /// If memory or a thread is refused, the gate is shut, and the task runs here. A task that waits
-    /// at the gate then returns at once, so what it owns comes back.
+    /// If memory or a thread is refused, the gate is shut, and the task runs in the calling thread.
+    /// A task that waits at the gate then returns at once, so what it owns comes back.
     pub fn start<R: Threads, F: FnOnce(&StartGate) -> T + Send + 'static>(
         &mut self,
         rt: &R,
@@ -116,12 +117,13 @@ impl<T: Drop, P: Promise<T> + Drop> ThreadGroup<T, P> {
         }
     }
 
-    /// Starts a thread for a task, which gets the gate.
+    /// Starts a thread for a task, which gets the gate, or drops the task. `promise` tells the
+    /// proof something about the value that the task returns.
     ///
     /// # Errors
     ///
     /// If memory or a thread is refused, the gate is shut, and the task is dropped. It does not run
-    /// here, since the stack may lack the room.
+    /// in the calling thread, whose stack may lack the room.
     pub fn start_or_drop<R: Threads, F: FnOnce(&StartGate) -> T + Send + Drop + 'static>(
         &mut self,
         rt: &R,
@@ -163,7 +165,8 @@ impl<T: Drop, P: Promise<T> + Drop> ThreadGroup<T, P> {
         Ok(())
     }
 
-    /// Shuts the gate, and runs a task here.
+    /// Shuts the gate, runs the task in the calling thread, and returns what it left, with this
+    /// fault.
     fn run_here<F: FnOnce(&StartGate) -> T>(&self, task: F, fault: StartFault) -> NotStarted<T>
         requires { F.IsAlwaysCallable task }
         ensures { (gate : _) × F.post task gate result.left }
@@ -183,7 +186,8 @@ impl<T: Drop, P: Promise<T> + Drop> ThreadGroup<T, P> {
         self.gate.has_ended()
     }
 
-    /// Joins the last of the threads. None if there is none.
+    /// Joins the thread that was started last, and returns what it left. Returns `None` if no
+    /// thread is left.
     pub fn join_last<R: Threads>(&mut self, rt: &R) -> Option<T>
         ensures some { IfSome result (λ left. (promise : P)
             × (self.old ≡ self.new ++ promise ∷ []) × P.kept_by promise left) }
@@ -193,7 +197,8 @@ impl<T: Drop, P: Promise<T> + Drop> ThreadGroup<T, P> {
         Some(handle.join(rt))
     }
 
-    /// Joins all threads. If memory is refused, what they leave is dropped.
+    /// Joins all threads, and returns what they left, in order. If memory is refused, what they
+    /// left is dropped.
     pub fn join_all<R: Threads>(self, rt: &R) -> Result<Vec<T>, AllocError>
         ensures { IfOk result (λ all. AllZip P.kept_by self all.items) }
     {

@@ -16,10 +16,11 @@ use mx_stations::Station;
 use std::snapshot::Snapshot;
 use std::thread::{Promise, Threads};
 
-/// What a worker leaves.
+/// What a worker leaves: its station, its job, and how it ended.
 pub(crate) type Left<C, J> = (Station<C>, J, Ended);
 
-/// The promise of a worker: it leads from this station and this job to those that it leaves.
+/// The promise of a worker's thread: with these options, its work leads from this station and this
+/// job to those that it leaves.
 #[derive(Drop)]
 pub(crate) struct WorkAt<S, J> {
     at: Snapshot<S>,
@@ -38,7 +39,8 @@ impl<C: Exclusion, J: Job> Promise<Left<C, J>> for WorkAt<Station<C>, J> {
 /// The threads of a run.
 pub(crate) type Workers<C, J> = ThreadGroup<Left<C, J>, WorkAt<Station<C>, J>>;
 
-/// Does the work at a station, and breaks the run off if the job cannot go on.
+/// Takes a station through its job. If the job cannot go on, tells the gate, which then stops all
+/// workers.
 fn do_work<C: Exclusion, J: Job, F: Fates + Drop>(
     mut station: Station<C>,
     mut job: J,
@@ -54,7 +56,7 @@ fn do_work<C: Exclusion, J: Job, F: Fates + Drop>(
     (station, job, ended)
 }
 
-/// Starts a thread for a station beside the others.
+/// Adds a thread to `workers`, which takes the station through its job.
 fn start_one<
     C: Exclusion + Send + 'static,
     J: Job + Send + 'static,
@@ -92,7 +94,8 @@ where
         { do_work(station, job, fates, gate, options) },
     )
 }
-/// Takes the first of each out. None if there is none.
+/// Removes and returns the first station, its job and its fates, or `None` if one of the lists is
+/// empty.
 fn take_next<S: Drop, J: Drop, F: Drop>(
     stations: &mut Vec<S>,
     jobs: &mut Vec<J>,
@@ -111,7 +114,7 @@ fn take_next<S: Drop, J: Drop, F: Drop>(
     Some((stations.remove(0), jobs.remove(0), fates.remove(0)))
 }
 
-/// Puts an item before the others. There is room for it.
+/// Inserts an item before the others. There must be room for it.
 pub(crate) fn put_first<T: Drop>(items: &mut Vec<T>, item: T)
     requires { length items.old.items < vec_capacity items.old }
     ensures items { items.new.items ≡ item ∷ items.old.items }
@@ -122,8 +125,9 @@ pub(crate) fn put_first<T: Drop>(items: &mut Vec<T>, item: T)
     };
 }
 
-/// Starts a thread for each station, with its job and its fates, until one cannot be started. Then
-/// the gate is shut, and what has no thread stays, in order.
+/// Starts a thread for each station, with its job and its fates, until one cannot be started. In
+/// that case the gate is shut, and the stations and jobs without a thread remain in the lists, in
+/// order.
 pub(crate) fn start_each<
     C: Exclusion + Send + 'static,
     J: Job + Send + 'static,
@@ -162,7 +166,7 @@ where
     all_taken(stations, workers)
 }
 
-/// Shuts the gate if stations are left.
+/// Shuts the gate and returns `NotAJobEach`, if stations remain without a thread.
 fn all_taken<C: Exclusion, J: Job>(
     stations: &Vec<Station<C>>,
     workers: &Workers<C, J>,

@@ -1,4 +1,4 @@
-//! One section of a job, at the station of a node that is inside.
+//! One try to make the next section of a job at a station.
 
 ghost use Rattle.std.specs.Prelude.{◌≡◌, ◌≤◌, ◌++◌, ◌∷◌, [], ℕ, Bool, Err, Ok, IfOk, OnErr, OnOk, false, length, map, true};
 ghost use Rattle.mx_journal.specs.Drafted.{Drafted, fresh};
@@ -22,7 +22,7 @@ use thiserror::Error;
 /// Why a job cannot go on.
 #[derive(Clone, Copy, Debug, PartialEq, Eq, Error)]
 pub enum JobFault {
-    /// It reads or writes a register that does not exist.
+    /// The job reads or writes a register that does not exist.
     #[error("no register")]
     NoRegister,
     /// All section numbers are used.
@@ -30,12 +30,12 @@ pub enum JobFault {
     NumbersSpent,
 }
 
-/// What a try at a section came to.
+/// The result of a try to make a section of a job.
 #[derive(Clone, Copy, Debug, PartialEq, Eq)]
 pub(crate) enum Tried {
-    /// The section was made and left.
+    /// The section was made, and the node left it.
     Left,
-    /// The section was made, and memory was refused when the node tried to leave.
+    /// The section was made, but memory was refused when the node tried to leave it.
     Pending,
     /// The node is not inside.
     Outside,
@@ -43,7 +43,8 @@ pub(crate) enum Tried {
     Gap,
 }
 
-/// Reads the registers, in order.
+/// Reads these registers in the section that the node is inside, in order, and returns their
+/// values.
 fn read_all<C: Exclusion>(
     station: &mut Station<C>,
     registers: &[u8],
@@ -64,7 +65,7 @@ fn read_all<C: Exclusion>(
     Ok(values)
 }
 
-/// Writes, in order.
+/// Makes these writes in the section that the node is inside, in order.
 fn write_all<C: Exclusion>(station: &mut Station<C>, writes: &[Write]) -> Result<(), WriteFault>
     ensures drafts { OnOk result (Drafts C.core station.old
         (record {
@@ -81,7 +82,7 @@ fn write_all<C: Exclusion>(station: &mut Station<C>, writes: &[Write]) -> Result
     Ok(())
 }
 
-/// Leaves the section, unless memory is refused.
+/// Leaves the section, unless memory is refused. Returns whether the node left it.
 pub(crate) fn try_leave<C: Exclusion>(station: &mut Station<C>) -> bool
     ensures left { result ≡ true → (r : OneReceipt)
         × ((leave_of C.core station.old.me.member).answer ≡ Ok r)
@@ -95,8 +96,8 @@ pub(crate) fn try_leave<C: Exclusion>(station: &mut Station<C>) -> bool
 }
 
 /// Makes the job's next section, which reads these registers, if the node is inside and its journal
-/// has the records of all earlier sections. It starts with an empty draft, so an earlier try that
-/// met a gap has no effect.
+/// has the records of all earlier sections. Each try starts with an empty draft, so an earlier one
+/// that met a gap has no effect.
 pub(crate) fn try_section<C: Exclusion, J: Job>(
     station: &mut Station<C>,
     job: &mut J,
@@ -135,7 +136,8 @@ pub(crate) fn try_section<C: Exclusion, J: Job>(
     }
 }
 
-/// Returns the outcome of a section that was made.
+/// Returns the outcome of a section that was made: `Left` if the node has left it, and otherwise
+/// `Pending`.
 fn outcome_of(has_left: bool) -> Tried
     ensures left { result ≡ Tried.Left → has_left ≡ true }
     ensures pending { result ≡ Tried.Pending → has_left ≡ false }

@@ -16,21 +16,22 @@ use mx_nodelaws::{EnterFault, Exclusion, Phase};
 use mx_stamps::NodeId;
 use mx_stations::{Patience, Station, TakeFault, TurnReport, settle_if_due};
 
-/// Says when workers start, when they may stop, and whether they must. Each call may wait for other
-/// workers.
+/// Decides when workers may start, when they may stop, and when they must stop. Each call may wait
+/// for other workers.
 pub trait Gate: mx_stations::Gate {
-    /// Returns why all workers must stop: the job of one cannot go on. It is asked after each turn.
+    /// Returns why all workers must stop: the fault of a job that cannot go on. Returns `None` if
+    /// they need not stop. Called after each turn.
     fn broken(&self) -> Option<JobFault>;
 }
 
-/// How far a worker may go.
+/// How many turns a worker may make, and when its station settles.
 #[derive(Clone, Copy, Debug, PartialEq, Eq)]
 pub struct RunOptions {
-    /// The most turns that a node makes.
+    /// The greatest number of turns that a worker makes.
     pub turns: u64,
-    /// The station settles whenever the number of its sections reaches a multiple of this. The
-    /// registers after all sections up to its first gap then replace their records. With 0 it never
-    /// settles.
+    /// The station settles whenever the number of sections that it has left reaches a multiple of
+    /// this: the values of the registers replace the records of all sections before the first that
+    /// its journal lacks. If this is 0, the station never settles.
     pub settle_every: u64,
 }
 
@@ -39,13 +40,13 @@ pub struct RunOptions {
 pub enum Ended {
     /// The job is done, and the gate let the worker stop.
     Done,
-    /// All turns were made.
+    /// The worker made all its turns before it could stop.
     NotYet,
-    /// The gate did not let it start.
+    /// The gate did not let the worker start.
     GateShut,
-    /// The job cannot go on.
+    /// The worker's job cannot go on.
     Broken(JobFault),
-    /// The job of another cannot go on.
+    /// The job of another worker cannot go on.
     Stopped(JobFault),
 }
 
@@ -58,11 +59,12 @@ struct WorkerState {
     patience: Patience,
 }
 
-/// Waits at the gate, then works at the job for at most `options.turns` turns, with these fates of
-/// parcels. In each turn the acts that are due come first: it asks, enters, and inside makes the
-/// job's next section and leaves. If records are missing, it asks the next node in the circle for
-/// them. If memory is refused when it leaves, it tries again on the next turn. Then the station
-/// takes a turn, and settles if that is due.
+/// Waits at the gate, then takes the station through the sections of the job, in at most
+/// `options.turns` turns. In each turn the acts that are due come first: the node asks, enters and,
+/// inside, makes the job's next section and leaves. If its journal lacks records, the node asks the
+/// next node in cyclic order for them. If memory is refused when it leaves, it tries again in the
+/// next turn. Then the station takes a turn, in which parcels have these fates, and settles if that
+/// is due.
 pub fn work<C: Exclusion, J: Job, G: Gate, F: Fates>(
     station: &mut Station<C>,
     job: &mut J,
@@ -113,8 +115,8 @@ fn is_inside<C: Exclusion>(station: &Station<C>) -> bool
     matches!(station.phase(), Phase::Inside(_))
 }
 
-/// Does the acts that are due, and a turn of the station, which settles at its end if that is due.
-/// Returns whether the job is done.
+/// Performs the acts that are due, lets the station take a turn and settle if that is due by
+/// `every`, and waits by the worker's patience. Returns whether the job is done.
 fn take_turn<C: Exclusion, J: Job, F: Fates>(
     station: &mut Station<C>,
     job: &mut J,
@@ -141,7 +143,8 @@ fn take_turn<C: Exclusion, J: Job, F: Fates>(
     Ok(idle)
 }
 
-/// Waits after a turn of the station, which gave this report.
+/// Waits, by the worker's patience, after a turn of the station that returned `report`. `idle` says
+/// whether the job is done.
 fn rest<C: Exclusion>(
     station: &Station<C>,
     patience: &mut Patience,
@@ -152,7 +155,8 @@ fn rest<C: Exclusion>(
     patience.wait(station, report, asks);
 }
 
-/// Does the acts that are due. Returns whether the job is done.
+/// Performs the acts that are due: leaves a section that is made but not left, or else goes on with
+/// the job. Returns whether the job is done.
 fn act<C: Exclusion, J: Job>(
     station: &mut Station<C>,
     job: &mut J,
@@ -202,8 +206,9 @@ fn go_on<C: Exclusion, J: Job>(
     }
 }
 
-/// Asks, enters, and makes the next section, as far as each is due. If records are missing, it asks
-/// the next node in the circle for them.
+/// Asks for a section, enters, and makes the job's next section, which reads these registers, as
+/// far as each is possible now. If the journal lacks records, asks the next node in cyclic order
+/// for them.
 fn next_section<C: Exclusion, J: Job>(
     station: &mut Station<C>,
     job: &mut J,
@@ -231,7 +236,8 @@ fn next_section<C: Exclusion, J: Job>(
     Ok(())
 }
 
-/// Asks the next node in the circle for the records that are missing.
+/// Asks a node for the records that the journal lacks: in cyclic order, the one after the node
+/// asked last.
 fn want_next<C: Exclusion>(station: &mut Station<C>, stance: &mut WorkerState)
     ensures rests { Rests C.core station.old station.new }
     ensures acts { ActsForJob C.core station.old station.new }

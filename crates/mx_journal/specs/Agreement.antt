@@ -28,7 +28,7 @@ IsConsistent xs = AreAgreeing xs xs
 abbrev pub IsSubmap : List Record → List Record → Type 0
 IsSubmap xs ys = (x : Record) → IsIn x xs → IsIn x ys
 
--- two records of the list with the number n differ
+-- two records of the list have the number n, and differ
 abbrev pub IsConflict : ℕ → List Record → Type 0
 IsConflict n xs =
     (x : Record) × (y : Record) × IsIn x xs × IsIn y xs × (x.number ≡ n) × (y.number ≡ n) × (x ≢ y)
@@ -38,6 +38,6 @@ abbrev pub AreAgreeingBelow : ℕ → List Record → Type 0
 AreAgreeingBelow n xs =
     (x y : Record) → IsIn x xs → IsIn y xs → x.number ≡ y.number → x.number < n → x ≡ y
 
--- n is the least number of two records of the list that differ
+-- n is the least number that two differing records of the list share
 abbrev pub IsFirstConflict : ℕ → List Record → Type 0
 IsFirstConflict n xs = IsConflict n xs × AreAgreeingBelow n xs

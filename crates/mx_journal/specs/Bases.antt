@@ -1,5 +1,5 @@
--- Bases: the contents of the registers after the first sections, which replace the records of
--- these.
+-- Bases: the contents of the registers after the first sections, which replace the records of these
+-- sections.
 use Rattle.std.specs.Prelude.{ℕ, ◌≡◌, ◌≢◌, ◌≤◌, ◌⊎◌, List, [], ◌∷◌, Option, Some, None, get_or, replicate}
 use Rattle.mx_stamps.specs.declared.limits.TheConstants.{MAX_REGISTERS}
 use Rattle.mx_stamps.specs.Lists.{IsIn, each_below}
@@ -7,7 +7,7 @@ use Rattle.mx_journal.specs.declared.records.Record.{Record}
 use Rattle.mx_journal.specs.declared.cells.Cell.{Cell}
 use Rattle.mx_journal.specs.Drafted.{last_value}
 
--- the registers after sections 1 to upto
+-- a base: the registers after sections 1 to `upto`
 pub record BaseState : Type 0 where
   pub upto : ℕ
   pub cells : List Cell
@@ -16,7 +16,7 @@ pub record BaseState : Type 0 where
 abbrev pub unwritten : Cell
 unwritten = record { value = 0; number = 0 }
 
--- the registers before the first section
+-- the base of no sections: no section has written a register
 abbrev pub origin : BaseState
 origin = record { upto = 0; cells = replicate MAX_REGISTERS unwritten }
 
@@ -24,16 +24,17 @@ origin = record { upto = 0; cells = replicate MAX_REGISTERS unwritten }
 abbrev pub IsCellOf : ℕ → Cell → Type 0
 IsCellOf k cell = (cell.number ≤ k) × ((1 ≤ cell.number) ⊎ (cell.value ≡ 0))
 
--- this holds for each of the cells
+-- IsCellOf k holds for each of the cells
 abbrev pub AreCellsOf : ℕ → List Cell → Type 0
 AreCellsOf k cells = (cell : Cell) → IsIn cell cells → IsCellOf k cell
 
--- a register after section n, whose last write to it has this value, if there is one
+-- a register after section n; the value is that of the section's last write to the register, if it
+-- has one
 abbrev pub after_section : ℕ → Option ℕ → Cell → Cell
 after_section n None cell = cell
 after_section n (Some value) cell = record { value = value; number = n }
 
--- the registers after one more section, of this record
+-- the registers after one more section, whose record is `entry`
 abbrev pub with_section : Record → List Cell → List Cell
 with_section entry cells =
     each_below

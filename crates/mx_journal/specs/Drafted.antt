@@ -1,4 +1,4 @@
--- Drafts, and the receipts and records that close them.
+-- Drafts, and the receipts and records that are made from them.
 use Rattle.std.specs.Prelude.{ℕ, ◌==◌, ◌++◌, List, [], ◌∷◌, Option, None, length, map, filter}
 use Rattle.std.specs.List.{last_or}
 use Rattle.mx_journal.specs.declared.records.Write.{Write}
@@ -15,7 +15,7 @@ pub record Drafted : Type 0 where
 abbrev pub fresh : Drafted
 fresh = record { reads = []; writes = [] }
 
--- the value of the last of these writes to the register
+-- the value of the last of these writes to the register, if there is one
 abbrev pub last_value : ℕ → List Write → Option ℕ
 last_value register writes =
     last_or None (map (λ w. w.value) (filter (λ w. w.register == register) writes))
@@ -35,7 +35,7 @@ with_write register value draft = record {
   writes = draft.writes ++ record { register = register; value = value } ∷ [];
 }
 
--- the receipt that closes the draft under this number, at this node
+-- the receipt of the section with this number, node and draft
 abbrev pub receipt_of : ℕ → ℕ → Drafted → Receipt
 receipt_of number node draft = record {
   number = number;

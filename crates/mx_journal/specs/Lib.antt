@@ -1,7 +1,7 @@
 -- Records: journals as maps. Gapless: journals without gaps. Agreement: records of the same number.
--- Drafted: drafts, and the receipts and records that close them. Bases, Written: registers that
--- replace records. Settled: journals with a base. Runs: the records of a journal as runs. Searches:
--- the results of searches.
+-- Drafted: drafts, and the receipts and records that are made from them. Bases: registers that
+-- replace records. Written: a register after the writes of a section. Settled: journals with a
+-- base. Runs: the records of a journal as runs. Searches: the results of searches.
 pub mod Records
 pub mod Gapless
 pub mod Agreement

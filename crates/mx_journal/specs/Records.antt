@@ -9,7 +9,7 @@ abbrev pub Ascending : ℕ → List Record → Type 0
 Ascending least [] = Unit {0}
 Ascending least (x ∷ xs) = (least ≤ x.number) × Ascending (suc x.number) xs
 
--- the record with the number n
+-- the record with the number n, if there is one
 abbrev pub record_at : ℕ → List Record → Option Record
 record_at n [] = None
 record_at n (x ∷ xs) = if nat_eq x.number n then Some x else record_at n xs
@@ -22,14 +22,15 @@ IsThere n xs = (x : Record) × IsIn x xs × (x.number ≡ n)
 abbrev pub IsNumbered : List Record → Type 0
 IsNumbered xs = (x : Record) → IsIn x xs → 1 ≤ x.number
 
--- the map with this record too. Nothing changes if its number is there already
+-- the map with this record too, or unchanged if it has a record of this number already
 abbrev pub with_record : Record → List Record → List Record
 with_record r [] = r ∷ []
 with_record r (x ∷ xs) =
     if nat_lt r.number x.number then r ∷ x ∷ xs
     else (if nat_lt x.number r.number then x ∷ with_record r xs else x ∷ xs)
 
--- the map with these records too; if several have the same number, the first counts
+-- the map with these records too; of records with the same number, that of the map or else the
+-- first counts
 abbrev pub with_records : List Record → List Record → List Record
 with_records [] journal = journal
 with_records (r ∷ rs) journal = with_records rs (with_record r journal)

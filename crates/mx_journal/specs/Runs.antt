@@ -36,7 +36,7 @@ AreRuns least ([] ∷ runs) = ⊥
 AreRuns least ((x ∷ xs) ∷ runs) =
     (least ≤ x.number) × AreConsecutive (suc x.number) xs × AreRuns (last_number (x ∷ xs) + 2) runs
 
--- how many runs end at n or below: as their numbers ascend, they come first
+-- the number of runs that end at n or below, if the runs ascend
 abbrev pub runs_up_to : ℕ → List (List Record) → ℕ
 runs_up_to n [] = 0
 runs_up_to n (run ∷ runs) = if nat_le (last_number run) n then suc (runs_up_to n runs) else 0
@@ -49,36 +49,37 @@ TouchesBelow n i runs = (1 ≤ i) × (last_number (get_or runs (i - 1) []) + 1 �
 abbrev pub TouchesAbove : ℕ → ℕ → List (List Record) → Type 0
 TouchesAbove n i runs = (i < length runs) × (first_number (get_or runs i []) ≡ n + 1)
 
--- the runs with this one instead of the two before and at place i
+-- the runs with this one instead of two: the run at place i and the run before place i
 abbrev pub with_joined : ℕ → List Record → List (List Record) → List (List Record)
 with_joined i run runs = remove (slice_set (slice_set runs i []) (i - 1) run) i
 
--- the new runs are those of the old records with this one
+-- the new runs have the old records and the record r
 pub record IsPut (r : Record) (old new : List (List Record)) : Type 0 where
   pub records : flatten new ≡ with_record r (flatten old)
   pub runs : AreRuns 1 new
 
--- r has the least number above n in either of the two maps
+-- r is a record of xs or of ys with the least number above n
 pub record IsNextOfBoth (n : ℕ) (xs ys : List Record) (r : Record) : Type 0 where
   pub member : IsIn r xs ⊎ IsIn r ys
   pub behind : n < r.number
   pub least : (x : Record) → IsIn x xs ⊎ IsIn x ys → n < x.number → r.number ≤ x.number
 
--- the joined records are those of either map that are numbered above `from` up to `to`
+-- the joined records are exactly those of both maps that are numbered above `from` and up to `to`
 pub record IsJoinedUpTo (from to : ℕ) (xs ys joined : List Record) : Type 0 where
   pub known : (x : Record) → IsIn x joined
       → (IsIn x xs ⊎ IsIn x ys) × (from < x.number) × (x.number ≤ to)
   pub all : (x : Record) → IsIn x xs ⊎ IsIn x ys → from < x.number → x.number ≤ to → IsIn x joined
 
--- the runs can take those records of the others that are numbered above `from`; all records here
--- are above `from`
+-- the records of `other` that are numbered above `from` can join `runs`: both are runs and agree,
+-- and all records of `runs` are numbered above `from`
 pub record CanJoin (from : ℕ) (other runs : List (List Record)) : Type 0 where
   pub ours : AreRuns 1 runs
   pub theirs : AreRuns 1 other
   pub agreeing : AreAgreeing (flatten runs) (flatten other)
   pub behind : Ascending (suc from) (flatten runs)
 
--- the new runs are those of the old records and of the others above `from`, and k of these were new
+-- the new runs have the old records and those of `other` that are numbered above `from`; k of the
+-- latter are new
 pub record AreJoined (from : ℕ) (other old new : List (List Record)) (k : ℕ) : Type 0 where
   pub records : flatten new ≡ with_records (above from (flatten other)) (flatten old)
   pub runs : AreRuns 1 new
@@ -88,20 +89,20 @@ pub record AreJoined (from : ℕ) (other old new : List (List Record)) (k : ℕ)
 abbrev pub AreNumbersOf : List Record → List Record → List Record → Type 0
 AreNumbersOf list xs ys = (x : Record) → IsIn x list → IsThere x.number xs ⊎ IsThere x.number ys
 
--- the run, which joins the first of the others if that continues it, and then the others
+-- `run`, and then `runs`; the first of `runs` is joined to `run` if it continues the numbers
 abbrev pub stitched : List Record → List (List Record) → List (List Record)
 stitched run [] = run ∷ []
 stitched run (next ∷ runs) =
     if nat_eq (last_number run + 1) (first_number next) then (run ++ next) ∷ runs
     else run ∷ next ∷ runs
 
--- the runs, and then the others. The last of the former and the first of the latter become one if
--- that continues it
+-- `runs`, and then `others`; the first of `others` is joined to the last of `runs` if it continues
+-- the numbers
 abbrev pub sewn : List (List Record) → List (List Record) → List (List Record)
 sewn [] others = others
 sewn (run ∷ []) others = stitched run others
 sewn (run ∷ more ∷ runs) others = run ∷ sewn (more ∷ runs) others
 
--- no record of xs has the number of one of ys
+-- no record of xs has the number of a record of ys
 abbrev pub AreNew : List Record → List Record → Type 0
 AreNew ys xs = (x : Record) → IsIn x ys → record_at x.number xs ≡ None

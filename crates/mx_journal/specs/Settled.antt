@@ -7,13 +7,13 @@ use Rattle.mx_journal.specs.Agreement.{AreAgreeing, IsSubmap}
 use Rattle.mx_journal.specs.Bases.{BaseState, origin, with_sections}
 use Rattle.mx_journal.specs.Records.{Ascending, IsThere, above, below, top_of, with_record, with_records}
 
--- a base, and the records of numbers above it; the base has the writes of all sections up to its
--- number
+-- a journal: a base, and the records of sections above it; the base has the registers after all
+-- sections up to its number
 pub record JournalState : Type 0 where
   pub base : BaseState
   pub records : List Record
 
--- the journal with these records that has settled nothing
+-- the journal that has these records, and has settled nothing
 abbrev pub unsettled : List Record → JournalState
 unsettled records = record { base = origin; records = records }
 
@@ -25,11 +25,11 @@ IsSettled n journal = (1 ≤ n) × (n ≤ journal.base.upto)
 abbrev pub Covers : ℕ → JournalState → Type 0
 Covers n journal = IsSettled n journal ⊎ IsThere n journal.records
 
--- all of 1 to k are covered
+-- the journal covers all of 1 to k
 abbrev pub IsCovered : ℕ → JournalState → Type 0
 IsCovered k journal = (n : ℕ) → 1 ≤ n → n ≤ k → Covers n journal
 
--- n is the least number that is not covered
+-- n is the least number, from 1 on, that the journal does not cover
 pub record IsFirstGap (n : ℕ) (journal : JournalState) : Type 0 where
   pub low : 1 ≤ n
   pub gone : Covers n journal → ⊥
@@ -40,11 +40,11 @@ abbrev pub BringsUncovered : List Record → JournalState → Type 0
 BringsUncovered list journal =
     (x : Record) × IsIn x list × (Covers x.number journal → ⊥)
 
--- how many numbers are covered
+-- the number of sections that the journal covers
 abbrev pub covered : JournalState → ℕ
 covered journal = journal.base.upto + length journal.records
 
--- the greatest number that is covered, or 0 if none is
+-- the greatest number that the journal covers, or 0 if it covers none
 abbrev pub top_covered : JournalState → ℕ
 top_covered journal = max journal.base.upto (top_of journal.records)
 
@@ -52,7 +52,7 @@ top_covered journal = max journal.base.upto (top_of journal.records)
 abbrev pub beyond : ℕ → List Record → List Record
 beyond n list = filter (λ x. nat_lt n x.number) list
 
--- the journal with this record too. Nothing changes if its number is there already
+-- the journal with this record too, or unchanged if it has a record of this number already
 abbrev pub with_entry : Record → JournalState → JournalState
 with_entry entry journal =
     record { base = journal.base; records = with_record entry journal.records }
@@ -64,15 +64,16 @@ with_list list journal = record {
   records = with_records (beyond journal.base.upto list) journal.records;
 }
 
--- the journal with this base instead of its present one and of the records up to it, if the base
--- covers more sections
+-- the journal after it takes `base`: if `base` covers more sections than the present base, `base`
+-- replaces it and the records of these sections; otherwise nothing changes
 abbrev pub with_base : BaseState → JournalState → JournalState
 with_base base journal =
     if nat_lt journal.base.upto base.upto then
     record { base = base; records = above base.upto journal.records }
     else journal
 
--- the journal with another's records and its base
+-- the journal after it takes those records of `other` that are above the journal's base, and then
+-- the base of `other`
 abbrev pub joined : JournalState → JournalState → JournalState
 joined other journal =
     with_base other.base
@@ -81,7 +82,7 @@ joined other journal =
       records = with_records (above journal.base.upto other.records) journal.records;
     })
 
--- the journal with the registers after sections 1 to k instead of the records of these
+-- the journal after settling: the registers after sections 1 to k replace the records of these
 abbrev pub settled : ℕ → JournalState → JournalState
 settled k journal = record {
   base = record {
@@ -91,30 +92,31 @@ settled k journal = record {
   records = above k journal.records;
 }
 
--- a is below b: b's base is no lower, and is equal if it covers the same sections; and b has each
--- record of a that is above b's base
+-- a is below b: b's base covers all sections that a's base covers, and is equal to a's base if it
+-- covers no more; b has each record of a that is above b's base
 pub record IsWithin (a b : JournalState) : Type 0 where
   pub upto : a.base.upto ≤ b.base.upto
   pub base : a.base.upto ≡ b.base.upto → a.base ≡ b.base
   pub records : (x : Record) → IsIn x a.records → b.base.upto < x.number → IsIn x b.records
 
--- records with the same number are equal, and so are the bases if they cover the same sections
+-- the journals agree: records with the same number are equal, and so are the bases if they cover
+-- the same sections
 pub record DoAgree (a b : JournalState) : Type 0 where
   pub records : AreAgreeing a.records b.records
   pub bases : a.base.upto ≡ b.base.upto → a.base ≡ b.base
 
--- the base of the first k sections, with these records
+-- the base of sections 1 to k; `sections` has their records
 abbrev pub base_of : ℕ → List Record → BaseState
 base_of k sections =
     record { upto = k; cells = with_sections (below (suc k) sections) origin.cells }
 
--- the journal knows only these sections: its base is that of the first of them, and its records are
--- among theirs
+-- the journal knows only these sections: its base is that of the first of them, and each of its
+-- records is in the list
 pub record IsOfSections (sections : List Record) (journal : JournalState) : Type 0 where
   pub base : journal.base ≡ base_of journal.base.upto sections
   pub records : IsSubmap journal.records sections
 
--- both journals know only the same sections
+-- there are sections such that both journals know only these
 abbrev pub AreOfOneMap : JournalState → JournalState → Type 0
 AreOfOneMap a b =
     (sections : List Record)

@@ -6,8 +6,8 @@ ghost use Rattle.mx_journal.specs.Bases.{AreCellsOf, BaseState, origin};
 use crate::cells::{Cell, REGISTERS, are_cells_of, are_same_cells};
 use std::marker::Model;
 
-/// The registers after sections 1 to `upto`, which replace the records of these sections. With
-/// `upto` 0 it covers no section, and no register is written.
+/// The registers after sections 1 to `upto`, which replace the records of these sections: the base
+/// *covers* them. With `upto` 0 it covers no section, and no register has been written.
 #[derive(Clone, Copy, Debug, PartialEq, Eq)]
 pub struct Base {
     upto: u64,
@@ -27,8 +27,9 @@ impl Model for Base {
 }
 
 impl Base {
-    /// Creates the base of sections 1 to `upto` with these registers, by their numbers. Returns
-    /// `None` if a cell's number is above `upto`, or is 0 with a value other than 0.
+    /// Creates the base of sections 1 to `upto`. The cells are the registers after these sections,
+    /// from register 0 on. Returns `None` if a cell's number is above `upto`, or is 0 with a value
+    /// other than 0.
     pub fn of(upto: u64, cells: [Cell; REGISTERS]) -> Option<Base>
         ensures some { IsSome result ↔ AreCellsOf upto cells }
         ensures value { IfSome result (λ base. base ≡ record { upto = upto; cells = cells }) }
@@ -40,7 +41,7 @@ impl Base {
         }
     }
 
-    /// Returns the base of no section.
+    /// Returns the base that covers no section: each register is 0, and no section wrote it.
     pub(crate) fn origin() -> Base
         ensures { result ≡ origin }
     {
@@ -53,7 +54,7 @@ impl Base {
         }
     }
 
-    /// Creates the base of these sections with these registers.
+    /// Creates the base of sections 1 to `upto` with these cells, which are valid there (see `of`).
     pub(crate) fn with(upto: u64, cells: [Cell; REGISTERS]) -> Base
         requires { AreCellsOf upto cells }
         ensures { result ≡ record { upto = upto; cells = cells } }
@@ -61,7 +62,7 @@ impl Base {
         Base { upto, cells }
     }
 
-    /// Returns the number of the last section that it covers, or 0 if it covers none.
+    /// Returns the number of the last section that the base covers, or 0 if it covers none.
     pub fn upto(&self) -> u64
         ensures value { result ≡ self.now.upto }
         // what holds for every base: its sections wrote each cell
@@ -70,7 +71,7 @@ impl Base {
         self.upto
     }
 
-    /// Returns the registers, by their numbers.
+    /// Returns the contents of the registers, in order, from register 0 on.
     pub fn cells(&self) -> &[Cell; REGISTERS]
         ensures { result.now ≡ self.now.cells }
     {

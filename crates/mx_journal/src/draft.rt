@@ -1,4 +1,4 @@
-//! The draft of an open section.
+//! The draft of an open section: what the section has read and written so far.
 
 ghost use Rattle.std.specs.Prelude.{◌≡◌, ◌≤◌, ◌↔◌, [], ◌∷◌, ◌++◌, length, IsErr, IsTrue, OnErr, OnOk};
 ghost use Rattle.mx_journal.specs.Drafted.{last_value, receipt_of, with_read, with_write};
@@ -49,7 +49,7 @@ impl Draft {
         self.reads.is_empty() && self.writes.is_empty()
     }
 
-    /// Adds a read, after the writes so far.
+    /// Adds a read of `value` from a register, with the number of writes before it.
     ///
     /// # Errors
     ///
@@ -82,14 +82,15 @@ impl Draft {
         self.writes.try_push(write).map_err(|_| Full)
     }
 
-    /// Returns the value of the latest write to a register, if there is one.
+    /// Returns the value of the draft's last write to a register, if there is one.
     pub fn last(&self, register: u8) -> Option<u64>
         ensures { result ≡ last_value register self.now.writes }
     {
         last_of(self.writes.as_slice(), register)
     }
 
-    /// Returns the receipt of the section with this number, at this node. The draft is unchanged.
+    /// Returns the draft's reads and writes as the receipt of section `number`, which `node` is
+    /// inside. The draft is unchanged.
     pub fn close(&self, number: u64, node: NodeId) -> Receipt
         ensures value { result ≡ receipt_of number node self.now }
         ensures bound { (length self.now.reads ≤ 8) × (length self.now.writes ≤ 8) }
@@ -111,6 +112,7 @@ impl Draft {
     }
 }
 
+/// Returns the value of the last of these writes to a register, if there is one.
 fn last_of(writes: &[Write], register: u8) -> Option<u64>
     ensures { result ≡ last_value register writes.now }
 {

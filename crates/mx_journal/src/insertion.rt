@@ -1,4 +1,4 @@
-//! Insertion of new runs among others: all or none.
+//! Insertion of new runs (records of consecutive numbers) among the runs of a journal: all or none.
 
 ghost use Rattle.std.specs.Prelude.{◌≡◌, ◌+◌, ◌-◌, ◌↔◌, ◌≤◌, IsTrue, IfOk, OnOk, OnErr, [], ◌++◌, drop, get_or, length, slice_set, take, vec_capacity, vec_len};
 ghost use Rattle.mx_journal.specs.Records.{with_records};
@@ -40,7 +40,8 @@ pub(crate) fn put_runs(runs: &mut Vec<Run>, new: &[Run]) -> Result<u64, AllocErr
     Ok(len_of(new) as u64)
 }
 
-/// Replaces the runs from one place up to another.
+/// Replaces the runs from place `from` on and before place `to` by the runs of `middle`. Runs whose
+/// numbers then continue one another are joined.
 ///
 /// # Errors
 ///
@@ -65,7 +66,8 @@ fn renew(
     done
 }
 
-/// Replaces the runs from a place on, and then appends those that followed them.
+/// Replaces the runs from place `from` on by those of `middle`, and appends those of `behind`. If
+/// memory runs out, `runs` and `behind` are unchanged.
 fn renew_end(
     runs: &mut Vec<Run>,
     from: usize,
@@ -87,7 +89,8 @@ fn renew_end(
     done
 }
 
-/// Appends the runs of two lists, one after the other.
+/// Appends the runs of `middle`, and then those of `behind`. If memory runs out, `runs` and
+/// `behind` are unchanged.
 fn splice_both(
     runs: &mut Vec<Run>,
     middle: &mut Vec<Run>,
@@ -111,7 +114,7 @@ fn splice_both(
     }
 }
 
-/// Returns the number of records of the last run, or 0 without runs.
+/// Returns how many records the last run has, or 0 if there is no run.
 fn last_len(runs: &[Run]) -> usize
     ensures { result ≡ length (get_or runs.now (length runs.now - 1) []) }
 {
@@ -121,7 +124,8 @@ fn last_len(runs: &[Run]) -> usize
     runs[runs.len() - 1].len()
 }
 
-/// Appends the runs of a list. The first of them joins the last run here if it continues that run.
+/// Appends the runs of `others`. If the first of them continues the last of `runs`, both become one
+/// run.
 fn splice(runs: &mut Vec<Run>, others: &mut Vec<Run>) -> Result<(), AllocError>
     ensures ok { OnOk result (runs.new.items ≡ sewn runs.old.items others.old.items) }
     ensures err { OnErr result (runs.new.items ≡ runs.old.items) }
@@ -136,7 +140,7 @@ fn splice(runs: &mut Vec<Run>, others: &mut Vec<Run>) -> Result<(), AllocError>
     Ok(())
 }
 
-/// Moves the others after the runs, which have room for them.
+/// Appends the runs of `others` to `runs`, which has room for them.
 fn add_all(runs: &mut Vec<Run>, others: &mut Vec<Run>)
     requires { vec_len runs.old + vec_len others.old ≤ vec_capacity runs.old }
     ensures items { runs.new.items ≡ runs.old.items ++ others.old.items }
@@ -145,7 +149,7 @@ fn add_all(runs: &mut Vec<Run>, others: &mut Vec<Run>)
     let _ = runs.append(others);
 }
 
-/// Returns whether the first run of the others starts right after the last of these.
+/// Returns whether the first run of `others` starts with the number after the last one of `runs`.
 fn continues(runs: &[Run], others: &[Run]) -> bool
     ensures { IsTrue result ↔ (1 ≤ length others.now)
         × TouchesBelow (first_number (get_or others.now 0 [])) (length runs.now) runs.now }
@@ -156,7 +160,8 @@ fn continues(runs: &[Run], others: &[Run]) -> bool
     touches_below(runs, runs.len(), others[0].first())
 }
 
-/// Moves the records of the first of the others to the end of the last run.
+/// Moves the first run of `others` out of that list: its records go to the end of the last of
+/// `runs`.
 fn splice_first(runs: &mut Vec<Run>, others: &mut Vec<Run>) -> Result<(), AllocError>
     requires ours { 1 ≤ length runs.old.items }
     requires theirs { 1 ≤ length others.old.items }
@@ -178,7 +183,7 @@ fn splice_first(runs: &mut Vec<Run>, others: &mut Vec<Run>) -> Result<(), AllocE
     Ok(())
 }
 
-/// Keeps the first `count` runs, and the first `len` records of the last of them.
+/// Keeps only the first `count` runs, and only the first `len` records of the last of these.
 fn cut(runs: &mut Vec<Run>, count: usize, len: usize)
     requires { count ≤ length runs.old.items }
     ensures items { runs.new.items ≡ slice_set (take count runs.old.items) (count - 1)

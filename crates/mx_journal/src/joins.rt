@@ -11,7 +11,7 @@ use crate::records::Record;
 use crate::runs::Run;
 use std::alloc::{AllocError, Global};
 
-/// Returns whether the number is at most `from`, or some record has it.
+/// Returns whether `number` is at most `from`, or a record of `known` has it.
 fn is_known(known: &[Run], from: u64, number: u64) -> bool
     requires { AreRuns 1 known.now }
     ensures known { IsTrue result → (number ≤ from) ⊎ IsThere number (flatten known.now) }
@@ -21,8 +21,8 @@ fn is_known(known: &[Run], from: u64, number: u64) -> bool
     number <= from || is_there(known, number)
 }
 
-/// Returns the runs of the listed records numbered above `from` whose numbers are new. If several
-/// have the same number, the first counts.
+/// Returns runs with copies of the listed records that are numbered above `from` and whose numbers
+/// `known` lacks. If several have the same number, only the first is copied.
 ///
 /// # Errors
 ///
@@ -52,7 +52,7 @@ pub(crate) fn runs_of_new(
     Ok(runs)
 }
 
-/// Returns whether the other runs have no new number above `from`.
+/// Returns whether `runs` has each number above `from` that `other` has.
 pub(crate) fn are_there(runs: &[Run], from: u64, other: &[Run]) -> bool
     requires runs { AreRuns 1 runs.now }
     requires other { AreRuns 1 other.now }
@@ -71,9 +71,10 @@ pub(crate) fn are_there(runs: &[Run], from: u64, other: &[Run]) -> bool
     true
 }
 
-/// Adds the records of the other runs numbered above `from`, and returns how many were new. Both
-/// agree, and all records here are above `from`. A single run that continues one of these is moved
-/// there; otherwise all are copied.
+/// Adds the records of `other` numbered above `from`, and returns how many were new. Records of the
+/// same number are equal in both, and all of `runs` are numbered above `from`. If `other` is a
+/// single run above `from` that continues a run here, with a gap to the next, it is appended there;
+/// otherwise the records of both are copied.
 ///
 /// # Errors
 ///
@@ -98,8 +99,8 @@ pub(crate) fn join_runs(runs: &mut Vec<Run>, from: u64, other: &[Run]) -> Result
     join_copies(runs, from, other)
 }
 
-/// Returns whether the run starts right after the one before the place, and at least one number is
-/// missing between it and the one at the place.
+/// Returns whether `more` starts right after the run before place `at`, and at least one number is
+/// missing between `more` and the run at place `at`, if there is one.
 fn goes_behind(runs: &[Run], at: usize, more: &Run) -> bool
     requires { at ≤ length runs.now }
     ensures touches { IsTrue result → TouchesBelow (first_number more.now) at runs.now }
@@ -117,7 +118,7 @@ fn goes_behind(runs: &[Run], at: usize, more: &Run) -> bool
     last < next && next - last > 1
 }
 
-/// Appends copies of the records of a run to the run before the place.
+/// Appends copies of the records of `more` to the run before place `at`.
 ///
 /// # Errors
 ///
@@ -138,8 +139,7 @@ fn append_run(runs: &mut Vec<Run>, at: usize, more: &Run) -> Result<(), AllocErr
     run.join(more.record(0).copy(), &mut rest)
 }
 
-/// Adds those records as `join_runs` does, for any runs: copies of all records of both replace the
-/// first runs.
+/// Does what `join_runs` does, for any runs: copies of the records of both replace those of `runs`.
 ///
 /// # Errors
 ///
@@ -157,8 +157,8 @@ fn join_copies(runs: &mut Vec<Run>, from: u64, other: &[Run]) -> Result<u64, All
     Ok(count)
 }
 
-/// Copies the records of both that are numbered above `from` up to `to`, as runs. Also returns how
-/// many of them the first does not have.
+/// Returns copies of the records of `runs` and `other` numbered above `from` and up to `to`, as
+/// runs, and how many of them `runs` lacks.
 ///
 /// # Errors
 ///
@@ -197,7 +197,8 @@ pub(crate) fn joined_up_to(
     Ok((joined, count))
 }
 
-/// Returns the record with the least number above this one in either of the two.
+/// Returns the record with the least number above `number` in `runs` or `other`; that of `runs` if
+/// both have the number.
 fn next_of_both<'a>(runs: &'a [Run], other: &'a [Run], number: u64) -> Option<&'a Record>
     requires runs { AreRuns 1 runs.now }
     requires other { AreRuns 1 other.now }
@@ -214,7 +215,7 @@ fn next_of_both<'a>(runs: &'a [Run], other: &'a [Run], number: u64) -> Option<&'
     }
 }
 
-/// Returns the record of the lower number, or the first if the numbers are equal.
+/// Returns the record with the lower number, or `here` if the numbers are equal.
 fn lower<'a>(here: &'a Record, there: &'a Record) -> &'a Record
     ensures here { here.now.number ≤ there.now.number → result.now ≡ here.now }
     ensures there { there.now.number < here.now.number → result.now ≡ there.now }

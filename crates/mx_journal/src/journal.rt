@@ -1,5 +1,5 @@
-//! The journal of a node: the sections that it knows. It has their records by number. The first
-//! ones may be settled: a base, the registers after them, replaces their records.
+//! The journal of a node: the closed sections that the node knows, as records by number. The first
+//! sections may be settled: a base, which has the registers after them, replaces their records.
 
 ghost use Rattle.std.specs.Prelude.{ℕ, suc, ◌≡◌, ◌+◌, ◌≤◌, ◌<◌, ◌↔◌, ◌++◌, ◌⊎◌, [], ◌∷◌, List, Some, None, Ok, Err, IsOk, IsTrue, IfOk, OnOk, OnErr, MatchOption, max, length, take};
 ghost use Rattle.mx_journal.specs.Agreement.{IsConsistent, IsFirstConflict, IsOther};
@@ -19,8 +19,9 @@ use arrayvec::ArrayVec;
 use std::alloc::{AllocError, Global};
 use std::marker::Model;
 
-/// A journal of sections: a base for the first ones, and the records of others by their numbers.
-/// Its base covers all sections up to the base's number, and each record has a greater number.
+/// A journal of sections: a base for the first ones, and the records of later ones by number. The
+/// journal *covers* the sections from 1 up to the base's number, and those whose records it has.
+/// Each record has a number above that of the base.
 #[derive(Drop)]
 pub struct Journal {
     base: Base,
@@ -40,7 +41,7 @@ impl Model for Journal {
 }
 
 impl Journal {
-    /// Creates a journal that covers nothing.
+    /// Creates an empty journal, which covers no section.
     pub fn new(alloc: Global) -> Journal
         ensures { result ≡ unsettled [] }
     {
@@ -50,8 +51,8 @@ impl Journal {
         }
     }
 
-    /// Puts a record, and returns whether the journal knew it already. A record whose number the
-    /// base covers is `Same`, whatever it wrote.
+    /// Puts a record into the journal, and returns whether it is new (`New`) or was known already
+    /// (`Same`). A record whose number the base covers counts as `Same`, whatever its writes.
     ///
     /// # Errors
     ///
@@ -77,7 +78,7 @@ impl Journal {
     }
 
     /// Puts all records of a list, or none, and returns how many were new. Records whose numbers
-    /// the base covers are skipped, whatever they wrote. A record may occur in the list more than
+    /// the base covers are skipped, whatever their writes. A record may occur in the list more than
     /// once.
     ///
     /// The time is that of a `put` for each record if the list ascends by number. Otherwise each
@@ -85,10 +86,10 @@ impl Journal {
     ///
     /// # Errors
     ///
-    /// Returns `ZeroNumber` if a record's number is 0. Returns `Conflict` with the least number of
-    /// two records that differ; both may be in the list, or one in the journal. Returns `Memory` if
-    /// there is no other fault, some record is new, and memory runs out. On an error the journal is
-    /// unchanged.
+    /// Returns `ZeroNumber` if a record's number is 0. Returns `Conflict` with the least number
+    /// that two different records share; both may be in the list, or one in the journal. Returns
+    /// `Memory` if there is no other fault, some record is new, and memory runs out. On an error
+    /// the journal is unchanged.
     pub fn put_all(&mut self, list: &[Record]) -> Result<u64, PutFault>
         ensures zero { (result ≡ Err PutFault.ZeroNumber) ↔ IsThere 0 list.now }
         ensures conflict { (n : ℕ) → (result ≡ Err (PutFault.Conflict n))
@@ -105,8 +106,10 @@ impl Journal {
         self.records.put_all(self.base.upto(), list)
     }
 
-    /// Adds everything that an agreeing journal covers, and returns how many numbers are newly
-    /// covered. The other base replaces this journal's own if it covers more sections.
+    /// Adds everything that `other` covers, and returns how many section numbers are newly covered.
+    /// Both journals must agree: records of the same number are equal, and so are the bases if they
+    /// cover the same sections. The base of `other` replaces this journal's own if it covers more
+    /// sections.
     ///
     /// # Errors
     ///
@@ -122,7 +125,7 @@ impl Journal {
     {
         let count = self.records.join(self.base.upto(), &other.records)?;
         let more = self.rise_to(&other.base);
-        // the call shows that the sum fits
+        // for the prover: the call shows that the sum fits into `u64`
         let _ = self.top();
         Ok(count + more)
     }
@@ -146,9 +149,9 @@ impl Journal {
     ///
     /// # Errors
     ///
-    /// Returns `Below` with the number of the base if that is above `upto`. Returns `Gap` with the
-    /// first number that the journal does not cover if that is at most `upto`. On an error the
-    /// journal is unchanged.
+    /// Returns `Below` with the number of the last section that the base covers, if that is above
+    /// `upto`. Returns `Gap` with the first number that the journal does not cover, if that is at
+    /// most `upto`. On an error the journal is unchanged.
     pub fn settle(&mut self, upto: u64) -> Result<(), SettleFault>
         ensures below { (n : ℕ) → (result ≡ Err (Below n))
             ↔ ((upto < self.old.base.upto) × (n ≡ self.old.base.upto)) }
@@ -172,13 +175,14 @@ impl Journal {
         Ok(())
     }
 
-    /// Replaces the journal's own base, and all records up to the new one, if the new base covers
-    /// more sections. Returns how many numbers are newly covered. Allocates no memory.
+    /// Takes `base` instead of the journal's own base if `base` covers more sections, and removes
+    /// the records of these. Returns how many section numbers are newly covered. Allocates no
+    /// memory.
     ///
     /// # Errors
     ///
-    /// Returns `Conflict` with the base's number if both bases cover the same sections and differ.
-    /// The journal is unchanged then.
+    /// Returns `Conflict` with the number of the last section that the bases cover, if both cover
+    /// the same sections and differ. The journal is unchanged then.
     pub fn take_base(&mut self, base: &Base) -> Result<u64, BaseFault>
         ensures conflict { (n : ℕ) → (result ≡ Err (BaseFault.Conflict n))
             ↔ ((n ≡ base.now.upto) × AreOpposed self.old.base base.now) }
@@ -217,8 +221,8 @@ impl Journal {
         self.records.get(number)
     }
 
-    /// Returns the record with the least number above this one. Calls from 0 on, each with the
-    /// number of the record found last, visit all records above the base in order.
+    /// Returns the record with the least number above `number`, if there is one. A loop that starts
+    /// with 0, and then passes the number of the record found last, visits all records in order.
     pub fn next_after(&self, number: u64) -> Option<&Record>
         ensures value { MatchOption result (above number self.now.records ≡ [])
             (λ found. above number self.now.records
@@ -245,7 +249,7 @@ impl Journal {
         self.records.is_empty()
     }
 
-    /// Returns the greatest number that it covers, or 0 if it covers none.
+    /// Returns the greatest number that the journal covers, or 0 if it covers none.
     pub fn top(&self) -> u64
         ensures value { result ≡ top_covered self.now }
         // no more numbers are covered than the greatest one
@@ -254,8 +258,8 @@ impl Journal {
         self.base.upto().max(self.records.top())
     }
 
-    /// Returns the end of the covered numbers that follow this one without a gap. Returns the
-    /// number itself, or that of the base if that is greater, if the next is not covered.
+    /// Returns the number right before the first one above `number` that the journal does not
+    /// cover. This is `number` itself if the next number is not covered.
     pub fn gapless_after(&self, number: u64) -> u64
         ensures { result + 1 ≡ first_missing (max number self.now.base.upto + 1)
             (above (max number self.now.base.upto) self.now.records) }
@@ -263,7 +267,8 @@ impl Journal {
         self.records.gapless_after(number.max(self.base.upto()))
     }
 
-    /// Returns the greatest number up to which no number is missing: it covers all of 1 to it.
+    /// Returns the greatest number up to which the journal covers all sections, or 0 if it does not
+    /// cover section 1.
     pub fn gapless_to(&self) -> u64
         ensures all { IsCovered result self.now }
         ensures next { Covers (result + 1) self.now → ⊥ }
@@ -272,8 +277,8 @@ impl Journal {
         self.records.gapless_after(self.base.upto())
     }
 
-    /// Returns the records in a range, ascending. If there are more than four, returns the least
-    /// four. None of them is covered by the base.
+    /// Returns copies of the records with numbers in the range, ascending: the first four, or all
+    /// if there are fewer. A section that the base covers has no record.
     pub fn records_in(&self, range: Range) -> ArrayVec<Record, RECORDS_AT_ONCE>
         ensures { result.items ≡ take 4 (in_range range self.now.records) }
     {

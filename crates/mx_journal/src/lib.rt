@@ -1,5 +1,6 @@
-//! Drafts of sections, the records and receipts that close them, and journals. A journal is a
-//! finite map from section numbers to records; the first records may be settled into registers.
+//! Drafts of critical sections (*sections* here), the records and receipts of closed ones, and
+//! journals. A journal is a finite map from section numbers to records; the registers after the
+//! first sections may replace their records.
 #![tactic(auto)]
 
 mod base;

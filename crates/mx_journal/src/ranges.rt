@@ -1,7 +1,7 @@
 //! Ranges of section numbers.
 
-/// The section numbers from `first` to `last`, both included. It is empty if `first` is above
-/// `last`.
+/// The section numbers from `first` to `last`, both included. The range is empty if `first` is
+/// above `last`.
 #[derive(Clone, Copy, Debug, Default, PartialEq, Eq)]
 pub struct Range {
     /// The first number of the range.

@@ -33,7 +33,7 @@ pub struct Receipt {
 }
 
 impl Receipt {
-    /// Returns the receipt without its reads.
+    /// Returns the record of the section: the receipt without its reads.
     pub fn to_record(&self) -> Record
         ensures { result ≡ record_of self.now }
     {

@@ -49,7 +49,8 @@ impl RecordMap {
         }
     }
 
-    /// Puts a record.
+    /// Puts a record into the map, and returns whether it is new (`New`) or was there already
+    /// (`Same`).
     ///
     /// # Errors
     ///
@@ -87,8 +88,8 @@ impl RecordMap {
     /// # Errors
     ///
     /// Returns `ZeroNumber` if a record's number is 0. Returns `Conflict` with the least number
-    /// above `from` of two records that differ. Returns `Memory` if there is no other fault, some
-    /// record is new, and memory runs out.
+    /// above `from` that two different records share, in the list or in list and map. Returns
+    /// `Memory` if there is no other fault, some record is new, and memory runs out.
     pub(crate) fn put_all(&mut self, from: u64, list: &[Record]) -> Result<u64, PutFault>
         ensures zero { (result ≡ Err PutFault.ZeroNumber) ↔ IsThere 0 list.now }
         ensures conflict { (n : ℕ) → (result ≡ Err (PutFault.Conflict n))
@@ -111,8 +112,9 @@ impl RecordMap {
         Ok(put_runs(&mut self.runs, &other)?)
     }
 
-    /// Adds the records of an agreeing map that are numbered above `from`, and returns how many
-    /// were new. All records here are above `from`.
+    /// Adds the records of `other` that are numbered above `from`, and returns how many were new.
+    /// Records of the same number are equal in both maps, and all records of this map are numbered
+    /// above `from`.
     ///
     /// # Errors
     ///
@@ -132,7 +134,7 @@ impl RecordMap {
         join_runs(&mut self.runs, from, &other.runs)
     }
 
-    /// Removes the records up to the number, and returns how many there were.
+    /// Removes the records numbered up to `number`, and returns how many were removed.
     pub(crate) fn drop_up_to(&mut self, number: u64) -> usize
         ensures value { self.new ≡ above number self.old }
         ensures count { length self.old ≡ length self.new + result }
@@ -158,8 +160,8 @@ impl RecordMap {
         is_there(&self.runs, number)
     }
 
-    /// Returns the record with the least number above this one. Calls from 0 on, each with the
-    /// number of the record found last, visit all records in order.
+    /// Returns the record with the least number above `number`, if there is one. A loop that starts
+    /// with 0, and then passes the number of the record found last, visits all records in order.
     pub(crate) fn next_after(&self, number: u64) -> Option<&Record>
         ensures value { MatchOption result (above number self.now ≡ [])
             (λ found. above number self.now ≡ found.now ∷ above found.now.number self.now) }
@@ -192,16 +194,16 @@ impl RecordMap {
         top_in(&self.runs)
     }
 
-    /// Returns the end of the numbers that follow this one without a gap. Returns the number itself
-    /// if the next is missing.
+    /// Returns the last of the numbers that follow `number` without a gap, or `number` itself if
+    /// the next one is missing.
     pub(crate) fn gapless_after(&self, number: u64) -> u64
         ensures { result + 1 ≡ first_missing (number + 1) (above number self.now) }
     {
         gapless_in(&self.runs, number)
     }
 
-    /// Returns the records in a range, ascending. If there are more than four, returns the least
-    /// four.
+    /// Returns copies of the records with numbers in the range, ascending: the first four, or all
+    /// if there are fewer.
     pub(crate) fn records_in(&self, range: Range) -> ArrayVec<Record, RECORDS_AT_ONCE>
         ensures { result.items ≡ take 4 (in_range range self.now) }
     {

@@ -1,4 +1,4 @@
-//! Runs: sequences of records, with consecutive numbers inside a journal.
+//! Runs: sequences of records. In a journal, the numbers of each run are consecutive.
 
 ghost use Rattle.std.specs.Prelude.{◌≡◌, ◌+◌, ◌<◌, ◌≤◌, [], ◌∷◌, ◌++◌, OnOk, OnErr, length, get_or, take, drop};
 ghost use Rattle.std.specs.VecDeque.{deque_capacity, deque_len};
@@ -10,7 +10,7 @@ use std::collections::VecDeque;
 use std::marker::Model;
 use std::mem;
 
-/// A sequence of records. It grows at both ends without moving them.
+/// A sequence of records that can grow at both ends. In a journal, their numbers are consecutive.
 #[derive(Drop)]
 pub(crate) struct Run {
     records: VecDeque<Record>,
@@ -42,7 +42,7 @@ impl Run {
         self.records.len()
     }
 
-    /// Returns the record at a place, counted from 0.
+    /// Returns the record at index `place`, counted from 0.
     pub(crate) fn record(&self, place: usize) -> &Record
         requires { place < length self.now }
         ensures { result.now ≡ get_or self.now place result.now }
@@ -50,7 +50,7 @@ impl Run {
         &self.records[place]
     }
 
-    /// Returns the first number, or 0 without records.
+    /// Returns the number of the first record, or 0 if there are no records.
     pub(crate) fn first(&self) -> u64
         ensures { result ≡ first_number self.now }
     {
@@ -60,7 +60,7 @@ impl Run {
         }
     }
 
-    /// Returns the last number, or 0 without records.
+    /// Returns the number of the last record, or 0 if there are no records.
     pub(crate) fn last(&self) -> u64
         ensures { result ≡ last_number self.now }
     {
@@ -110,7 +110,8 @@ impl Run {
         drop_first(&mut self.records, count);
     }
 
-    /// Appends the records of the next run. The shorter of the two runs is moved.
+    /// Appends the records of `next`, whose contents are unspecified afterwards. The records of the
+    /// shorter of the two runs are moved.
     ///
     /// # Errors
     ///
@@ -129,8 +130,8 @@ impl Run {
         Ok(())
     }
 
-    /// Appends the record, and then those of the next run, whose contents are unspecified
-    /// afterwards. The shorter of the two runs is moved.
+    /// Appends `entry`, and then the records of `next`, whose contents are unspecified afterwards.
+    /// The records of the shorter of the two runs are moved.
     ///
     /// # Errors
     ///
@@ -163,7 +164,7 @@ fn drop_first(records: &mut VecDeque<Record>, count: usize)
     }
 }
 
-/// Moves the other records after these, which have room for them.
+/// Moves the records of `behind` to the end of `records`, which has room for them.
 fn move_behind(records: &mut VecDeque<Record>, behind: &mut VecDeque<Record>)
     requires { deque_len records.old + deque_len behind.old ≤ deque_capacity records.old }
     ensures { records.new.items ≡ records.old.items ++ behind.old.items }
@@ -173,7 +174,7 @@ fn move_behind(records: &mut VecDeque<Record>, behind: &mut VecDeque<Record>)
     }
 }
 
-/// Moves the other records before these, which have room for them.
+/// Moves the records of `before` to the start of `records`, which has room for them.
 fn move_before(records: &mut VecDeque<Record>, before: &mut VecDeque<Record>)
     requires { deque_len records.old + deque_len before.old ≤ deque_capacity records.old }
     ensures { records.new.items ≡ before.old.items ++ records.old.items }

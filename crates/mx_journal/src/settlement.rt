@@ -1,4 +1,5 @@
-//! Settling: replacing records by a base, and why a journal may refuse that.
+//! Settling, which replaces the records of the first sections by a base, and why a journal refuses
+//! it.
 
 ghost use Rattle.std.specs.Prelude.{◌≡◌, ◌≤◌, suc};
 ghost use Rattle.mx_journal.specs.Bases.{AreCellsOf, with_sections};
@@ -12,7 +13,7 @@ use thiserror::Error;
 /// Why a journal does not settle its first sections.
 #[derive(Clone, Copy, Debug, PartialEq, Eq, Error)]
 pub enum SettleFault {
-    /// The journal's base already covers more sections: those up to this one.
+    /// The journal's base already covers more sections: those up to this number.
     #[error("sections up to {0} are settled")]
     Below(u64),
     /// This is the first number that the journal does not cover.
@@ -23,13 +24,14 @@ pub enum SettleFault {
 /// Why a journal does not take a base.
 #[derive(Clone, Copy, Debug, PartialEq, Eq, Error)]
 pub enum BaseFault {
-    /// The journal's base covers the same sections, up to this one, and differs.
+    /// The journal's own base and the new one both cover the sections up to this number, and
+    /// differ.
     #[error("two bases differ at {0}")]
     Conflict(u64),
 }
 
-/// Returns the base of the sections up to the number. A base covers the first of them, and the
-/// records have the others.
+/// Returns the base of sections 1 to `upto`, made from `base`, which covers the first of them, and
+/// from the records up to `upto`.
 pub(crate) fn settled_base(base: &Base, records: &RecordMap, upto: u64) -> Base
     requires order { base.now.upto ≤ upto }
     requires behind { Ascending (suc base.now.upto) records.now }

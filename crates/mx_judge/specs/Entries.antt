@@ -20,13 +20,13 @@ use Rattle.mx_judge.specs.declared.faults.ItemFault.TheVariants.{NotEvent, Wrong
 abbrev pub delivery : Data → Result Event ItemFault
 delivery d = and_then (number_at member.Parcel d) (λ k. Ok (Deliver k))
 
--- an object of a parcel, a node or a verdict, which has no act
+-- the object is that of a parcel, a node or a verdict; it is passed over if it has no `act`
 abbrev pub is_passed_over : Data → Bool
 is_passed_over d =
     has_member (codes "kind") d || has_member (codes "phase") d || has_member (codes "verdict") d
 
 module _ (p : Fields) (d : Data) where
-  -- the node or the register in a member
+  -- the node that a member names, and (below) the register that `register` names
   abbrev pub node_at : Member → Result ℕ ItemFault
   node_at m = ok_or (node_of p (text_at m d)) (Wrong m)
 
@@ -52,7 +52,7 @@ module _ (p : Fields) (d : Data) where
   event_at i kind.Deliver = delivery d
   event_at i kind.Restart = Ok (Restart i)
 
-  -- an event of this kind: a delivery names no node
+  -- the event of this kind. A delivery names no node; each other event does
   abbrev pub event_by : EventKind → Result Event ItemFault
   event_by kind.Deliver = delivery d
   event_by kind = and_then (node_at member.Node) (λ i. event_at i kind)
@@ -67,7 +67,7 @@ module _ (p : Fields) (d : Data) where
       and_then event_of
       (λ e. and_then (outcome_of e d) (λ outcome. Ok (record { event = e; outcome = outcome })))
 
-  -- an object with an act is an entry; some others are skipped
+  -- the entry of an object that has `act`; none, of an object that is passed over; or a fault
   unfoldable pub item_of : Result (Option Entry) ItemFault
   item_of =
       if has_member (codes "act") d then and_then entry_of (λ entry. Ok (Some entry))

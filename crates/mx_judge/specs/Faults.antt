@@ -7,12 +7,12 @@ use Rattle.mx_judge.specs.declared.faults.TraceFault.{TraceFault}
 use Rattle.mx_judge.specs.declared.faults.TraceFault.TheVariants.{NotJson, Line, Item, Memory}
 use Rattle.mx_judge.specs.Members.{message_of, key_of}
 
--- the fault of a line, unless memory ran out
+-- the fault of the k-th line, or that memory ran out
 abbrev pub line_fault : ℕ → ItemFault → TraceFault
 line_fault k item.Memory = Memory
 line_fault k fault = Line k fault
 
--- the same for an item of an array
+-- the same for the k-th item of an array
 abbrev pub list_fault : ℕ → ItemFault → TraceFault
 list_fault k item.Memory = Memory
 list_fault k fault = Item k fault

@@ -5,7 +5,7 @@ use Rattle.mx_cli.specs.Table.{line_of}
 use Rattle.mx_cli.specs.Words.{asked_of, by_name}
 use Rattle.mx_cli.specs.declared.table.CommandId.TheVariants as id
 
--- the whole command line
+-- the command line of `mx` with `judge` as its only command
 unfoldable pub judge_line : App
 judge_line = line_of (id.Judge ∷ [])
 

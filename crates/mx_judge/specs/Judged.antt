@@ -25,7 +25,7 @@ use Rattle.mx_judge.specs.declared.errors.JudgeError.TheVariants as judge_error
 use Rattle.mx_judge.specs.declared.faults.TraceFault.{TraceFault}
 use Rattle.mx_judge.specs.declared.faults.TraceFault.TheVariants as fault
 
--- why there is no verdict on a trace with a fault
+-- the error of `judge` for a trace with this fault
 abbrev pub judge_error_of : TraceFault → JudgeError
 judge_error_of fault.Memory = judge_error.Command command_error.Memory
 judge_error_of other = judge_error.Trace other
@@ -44,13 +44,13 @@ PrintsVerdict trace old new status =
     (verdict : Verdict) × IsVerdictOf trace verdict × (status ≡ verdict_status verdict)
     × Appends old new (verdict_line verdict)
 
--- why a text was not printed: memory ran out, or the output refused, which one that takes all bytes
--- never does
+-- why a text was not printed: memory ran out, or the output refused. An output that takes all bytes
+-- never refuses
 abbrev pub IsUnprinted : Bool → CommandError → Type 0
 IsUnprinted takes_all end = (end ≡ command_error.Memory) ⊎ ((end ≡ command_error.Writer) × (takes_all ≡ false))
 
--- the verdict on the trace in a text was printed; or the text lists none, for this fault; or the
--- verdict was not printed
+-- the verdict on the trace in a text was printed. Or nothing was printed: the trace has this fault,
+-- memory ran out, or the output refused
 abbrev pub JudgesText : Bool → Fields → Text → Held → Held → Result ℕ JudgeError → Type 0
 JudgesText takes_all p text old new (Ok status) =
     (trace : List Entry) × (trace_at p text ≡ Ok trace) × PrintsVerdict trace old new status
@@ -59,12 +59,12 @@ JudgesText takes_all p text old new (Err (judge_error.Trace fault)) =
 JudgesText takes_all p text old new (Err (judge_error.Command end)) =
     IsUnprinted takes_all end × Keeps old new
 
--- the same for the fault of a trace
+-- the file of the trace can be read, and the same holds of its text
 abbrev pub JudgesTold : Bool → Fields → Telling → Held → Held → Result ℕ JudgeError → Type 0
 JudgesTold takes_all p None old new ended = ⊥
 JudgesTold takes_all p (Some text) old new ended = JudgesText takes_all p text old new ended
 
--- plan or trace cannot be read, or memory ran out, and nothing was printed
+-- nothing was printed: the plan or the trace was not read, or memory ran out
 abbrev pub IsUnjudged : (Text → Option Telling) → Text × Text → Held → Held
     → Result ℕ JudgeError → Type 0
 IsUnjudged told names old new (Ok status) = ⊥
@@ -72,7 +72,8 @@ IsUnjudged told names old new (Err (judge_error.Trace fault)) = ⊥
 IsUnjudged told names old new (Err (judge_error.Command end)) =
     ((end ≡ command_error.Memory) ⊎ IsUnread told names end) × Keeps old new
 
--- the trace of the second name was judged by the plan of the first, or one of them cannot be read
+-- the trace in the second file was judged by the plan in the first; or there was no judgement, and
+-- nothing was printed
 abbrev pub JudgesNames : Bool → (Text → Option Telling) → Text × Text → Held → Held
     → Result ℕ JudgeError → Type 0
 JudgesNames takes_all told names old new ended =
@@ -80,8 +81,8 @@ JudgesNames takes_all told names old new ended =
     ⊎ ((p : Fields) × IsPlanOf (plan_told told names) p
     × IfSome (text_told told names) (λ telling. JudgesTold takes_all p telling old new ended))
 
--- the text on standard error, and the status, are as for any run; or the line of the trace's fault
--- is written, status 1. Or memory ran out, or an output refused
+-- what standard error got, and the status: those of any run; but for a trace with a fault, the line
+-- of that fault and status 1, unless memory ran out or an output refused
 abbrev pub ClosesJudged : Bool → Text × Text → Result ℕ JudgeError → Held → Held → ℕ → Type 0
 ClosesJudged takes_all names (Ok own) old new status = Closes takes_all names (Ok own) old new status
 ClosesJudged takes_all names (Err (judge_error.Command end)) old new status =

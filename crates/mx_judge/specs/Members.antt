@@ -40,11 +40,11 @@ message_of Cause = codes "no such word"
 abbrev pub has_member : Text → Data → Bool
 has_member key d = is_some (get key d)
 
--- the text of a member, empty if it is missing or no text
+-- the text of a member; empty, if the member is missing or its value is not a text
 abbrev pub text_at : Member → Data → Text
 text_at m d = unwrap_or (option_and_then as_str (get (key_of m) d)) []
 
--- the number of a member
+-- the number of a member; a fault, if the member is missing or wrong
 abbrev pub number_at : Member → Data → Result ℕ ItemFault
 number_at m d =
     ok_or (option_and_then as_u64 (option_and_then as_number (get (key_of m) d))) (Wrong m)

@@ -32,11 +32,11 @@ word_of_done kind.Want = codes "sent"
 word_of_done kind.Deliver = codes "delivered"
 word_of_done kind.Restart = codes "woken"
 
--- a request, by the number of its stamp
+-- the outcome `asked` of node i, whose stamp has the object's `number`
 abbrev pub asked : ℕ → Data → Result Outcome ItemFault
 asked i d = and_then (number_at member.Number d) (λ n. Ok (Asked (record { number = n; node = i })))
 
--- a section that was left, by its number; the receipt has no reads and writes
+-- the outcome `left` of node i. The receipt has the object's `number`, and no reads and writes
 abbrev pub left : ℕ → Data → Result Outcome ItemFault
 left i d = and_then (number_at member.Number d) (λ n. Ok (Left (receipt_of n i fresh)))
 
@@ -54,7 +54,7 @@ done (Want i other) d = and_then (number_at member.Count d) (λ count. Ok (Sent 
 done (Deliver k) d = Ok Delivered
 done (Restart i) d = Ok Woken
 
--- the cause in its words; a gap and a base have a number
+-- the cause that these words name. `gap` and `below` have a number too
 abbrev pub cause_named : Data → Text → Result Cause ItemFault
 cause_named d word =
     if bytes_eq word (codes "not idle") then Ok NotIdle

@@ -28,7 +28,7 @@ pub(crate) fn item_in(plan: &Plan, value: &Value) -> Result<Option<Entry>, ItemF
     Err(ItemFault::NotEvent)
 }
 
-/// Returns whether an object without an act is one of a parcel, a node or a verdict.
+/// Returns whether an object without `act` is that of a parcel, a node or a verdict.
 fn is_passed_over(value: &Value) -> bool
     ensures { result ≡ spec.is_passed_over (view value.now) }
 {
@@ -44,7 +44,7 @@ fn entry_in(plan: &Plan, value: &Value) -> Result<Entry, ItemFault>
     Ok(Entry { event, outcome })
 }
 
-/// Reads an event, by its act.
+/// Reads an event. Its member `act` says which kind of event it is.
 fn event_in(plan: &Plan, value: &Value) -> Result<Event, ItemFault>
     ensures { result ≡ spec.event_of plan.now (view value.now) }
 {
@@ -74,6 +74,7 @@ fn event_at(plan: &Plan, value: &Value, node: NodeId, kind: EventKind) -> Result
     }
 }
 
+/// Reads a write of this node.
 fn writing(plan: &Plan, value: &Value, node: NodeId) -> Result<Event, ItemFault>
     ensures { result ≡ spec.writing plan.now (view value.now) node }
 {
@@ -82,6 +83,7 @@ fn writing(plan: &Plan, value: &Value, node: NodeId) -> Result<Event, ItemFault>
     Ok(Event::Write(node, register, number))
 }
 
+/// Reads the delivery of a parcel.
 fn delivery(value: &Value) -> Result<Event, ItemFault>
     ensures { result ≡ spec.delivery (view value.now) }
 {

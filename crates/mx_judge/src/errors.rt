@@ -6,7 +6,7 @@ use mx_cli::CommandError;
 /// Why there is no verdict.
 #[derive(Clone, Copy)]
 pub enum JudgeError {
-    /// The run stopped because of the plan, an output or memory.
+    /// A file, the plan, an output or memory stopped the command.
     Command(CommandError),
     /// The trace has a fault.
     Trace(TraceFault),

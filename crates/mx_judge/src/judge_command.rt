@@ -1,4 +1,4 @@
-//! The command: from the arguments, named bytes and two outputs to an exit status.
+//! The command `judge`, with its files read from a source and its texts printed to two outputs.
 
 ghost use Rattle.std.specs.Prelude.{◌≡◌, ◌&&◌, IfErr, IfOk, IfSome, IsSome};
 ghost use Rattle.std.specs.Io.KnownBytes.{Appends, Keeps};
@@ -20,8 +20,8 @@ use mx_io::{Output, Source};
 use mx_plan::Plan;
 use std::alloc::Global;
 
-/// Runs a command line whose first argument is `judge`, without the program's name. Reads a plan
-/// and a trace, and prints the verdict on the trace. Returns the exit status:
+/// Runs `judge`: reads a plan and a trace, and prints the verdict on the trace. `words` is the
+/// command line without the program's name. Returns the exit status:
 ///
 /// - 0 if the trace is sound, or if help was requested;
 /// - 1 for an error in the plan, the trace, a file or an output;
@@ -48,7 +48,8 @@ pub fn judge_trace<S: Source, O: Output, E: Output>(
     }
 }
 
-/// Judges the trace of these names, closes the run, and returns the exit status.
+/// Judges the trace that `names` names, flushes `out`, and writes to `err` why there is no verdict,
+/// if there is none. Returns the exit status.
 fn judge_and_close<S: Source, O: Output, E: Output>(
     alloc: Global,
     names: &Names<'_>,
@@ -86,7 +87,7 @@ fn close_judged<O: Output, E: Output>(
     }
 }
 
-/// Reads a plan and a trace, prints the verdict, and returns its status.
+/// Reads a plan and a trace, prints the verdict, and returns the exit status for it.
 fn judge_names<S: Source, O: Output>(
     alloc: Global,
     names: &Names<'_>,
@@ -103,7 +104,7 @@ fn judge_names<S: Source, O: Output>(
     }
 }
 
-/// Prints the verdict on the trace in a text, and returns its status.
+/// Prints the verdict on the trace in `text`, and returns the exit status for it.
 fn judge_text<O: Output>(
     alloc: Global,
     plan: &Plan,
@@ -120,7 +121,7 @@ fn judge_text<O: Output>(
     }
 }
 
-/// Prints a verdict, and returns its status.
+/// Prints a verdict, and returns the exit status for it.
 fn print_verdict<O: Output>(alloc: Global, verdict: Verdict, out: &mut O) -> Result<u8, JudgeError>
     ensures ok { IfOk result (λ status. (status ≡ verdict_status verdict)
         × Appends (O.written out.old) (O.written out.new) (verdict_line verdict)) }

@@ -24,7 +24,7 @@ pub enum Member {
 }
 
 impl Member {
-    /// Returns its key.
+    /// Returns the key of the member.
     pub fn key(self) -> &'static str
         ensures { result.now ≡ spec.key_of self }
     {

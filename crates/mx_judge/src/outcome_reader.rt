@@ -13,7 +13,8 @@ use mx_stamps::{NodeId, Stamp};
 use mx_trace::{Cause, Outcome};
 use serde_json::Value;
 
-/// Reads the outcome of an event: a refusal, or an outcome that its act can have.
+/// Reads the outcome of `event` from its JSON object: a refusal, or the outcome of this kind of
+/// event if it is not refused.
 ///
 /// # Errors
 ///
@@ -69,6 +70,7 @@ fn done(event: &Event, value: &Value) -> Result<Outcome, ItemFault>
     }
 }
 
+/// Reads the outcome of an ask: the stamp of this node's request.
 fn asked(node: NodeId, value: &Value) -> Result<Outcome, ItemFault>
     ensures { result ≡ spec.asked node (view value.now) }
 {
@@ -76,8 +78,8 @@ fn asked(node: NodeId, value: &Value) -> Result<Outcome, ItemFault>
     Ok(Outcome::Asked(Stamp { number, node }))
 }
 
-/// Reads a section that was left. Its receipt has only the number, since the judge uses nothing
-/// else.
+/// Reads the outcome of a leave. Its receipt has no reads and no writes, since the judge does not
+/// use them.
 fn left(node: NodeId, value: &Value) -> Result<Outcome, ItemFault>
     ensures { result ≡ spec.left node (view value.now) }
 {
@@ -97,7 +99,7 @@ fn refusal(value: &Value) -> Result<Outcome, ItemFault>
     Ok(Outcome::Refused(cause_in(value)?))
 }
 
-/// Reads the cause from the words of a refusal. A gap and a base have a number.
+/// Reads the cause of a refusal. The causes `gap` and `below` have a number.
 fn cause_in(value: &Value) -> Result<Cause, ItemFault>
     ensures { result ≡ spec.cause_in (view value.now) }
 {

@@ -17,8 +17,9 @@ use mx_trace::Entry;
 use serde_json::Value;
 use std::alloc::Global;
 
-/// Reads a trace of at most 1,000,000 events: a JSON array if the text starts so, and otherwise
-/// lines, each a JSON object or blank. Objects of parcels, nodes and verdicts are skipped.
+/// Reads a trace of at most 1,000,000 events: a JSON array if the text begins with `[`, perhaps
+/// after blanks, and otherwise lines, each a JSON object or blank. Objects of parcels, nodes and
+/// verdicts are skipped.
 ///
 /// # Errors
 ///
@@ -34,7 +35,7 @@ pub(crate) fn read_trace(alloc: Global, text: &[u8], plan: &Plan) -> Result<Vec<
     }
 }
 
-/// Returns whether the first byte that is not blank starts an array.
+/// Returns whether the first byte that is not blank is `[`.
 fn begins_array(text: &[u8]) -> bool
     ensures { result ≡ spec.begins_array text.now }
 {
@@ -65,7 +66,7 @@ fn is_blank_line(line: &[u8]) -> bool
     line.iter().all(|byte| is_blank(*byte))
 }
 
-/// Reads the entries of an array.
+/// Reads the entries that a JSON array describes.
 fn read_array(alloc: Global, text: &[u8], plan: &Plan) -> Result<Vec<Entry>, TraceFault>
     ensures { spec.Gives (spec.array_at plan.now text.now) result }
 {
@@ -86,7 +87,7 @@ fn items_in(value: &Value) -> &[Value]
     }
 }
 
-/// Reads the entries of items.
+/// Reads the entries that these items of an array describe.
 fn read_items(alloc: Global, items: &[Value], plan: &Plan) -> Result<Vec<Entry>, TraceFault>
     ensures { spec.Gives
         (spec.entries_from list_fault [] 1 (map (item_of plan.now) (map view items.now))) result }
@@ -100,7 +101,7 @@ fn read_items(alloc: Global, items: &[Value], plan: &Plan) -> Result<Vec<Entry>,
     Ok(entries)
 }
 
-/// Reads the entries of lines.
+/// Reads the entries that the lines of a text describe.
 fn read_lines(alloc: Global, text: &[u8], plan: &Plan) -> Result<Vec<Entry>, TraceFault>
     ensures { spec.Gives (spec.lines_at plan.now text.now) result }
 {
@@ -120,7 +121,8 @@ fn read_lines(alloc: Global, text: &[u8], plan: &Plan) -> Result<Vec<Entry>, Tra
     }
 }
 
-/// Reads the entry of a line. Returns `None` for a blank one.
+/// Reads the entry that a line describes. Returns `None` for a blank line, or the object of a
+/// parcel, a node or a verdict.
 #[tactic(auto, unfolding(crate::specs::Traces::line_item))]
 fn line_in(alloc: Global, plan: &Plan, line: &[u8]) -> Result<Option<Entry>, ItemFault>
     ensures { spec.Answers (spec.line_item plan.now line.now) result }
@@ -134,7 +136,7 @@ fn line_in(alloc: Global, plan: &Plan, line: &[u8]) -> Result<Option<Entry>, Ite
     }
 }
 
-/// Parses a text.
+/// Parses a text of JSON.
 #[tactic(auto, unfolding(mx_plan::specs::Values::value_of))]
 fn parse(alloc: Global, text: &[u8]) -> Result<Value, ItemFault>
     ensures ok { IfOk result (λ v. value_of text.now ≡ Some (view v)) }
@@ -148,7 +150,8 @@ fn parse(alloc: Global, text: &[u8]) -> Result<Value, ItemFault>
     }
 }
 
-/// Adds the entry of an item, if it has one.
+/// Adds the entry of an item, if it has one. Fails if the item has a fault, or if there are
+/// 1,000,000 entries already.
 fn add_item(
     entries: &mut Vec<Entry>,
     item: Result<Option<Entry>, ItemFault>,

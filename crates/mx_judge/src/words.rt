@@ -24,6 +24,7 @@ pub(crate) fn parse<'a>(alloc: Global, words: &'a [&'a str]) -> Result<Option<Na
     Ok(from_matches(&matches))
 }
 
+/// Returns the names of the plan and of the trace, or `None` for another command.
 fn from_matches<'a>(matches: &ArgMatches<'a>) -> Option<Names<'a>>
     ensures { option_map names_of result ≡ names_in (subcommand_rows_of matches.now) }
 {
@@ -33,6 +34,7 @@ fn from_matches<'a>(matches: &ArgMatches<'a>) -> Option<Names<'a>>
     }
 }
 
+/// Returns what `judge` names: the plan, and the trace in the place of events.
 fn judge_in<'a>(matches: &ArgMatches<'a>) -> Option<Names<'a>>
     ensures { option_map names_of result ≡ judge_in (rows_of (found_of matches.now)) }
 {

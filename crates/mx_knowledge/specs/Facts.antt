@@ -1,4 +1,4 @@
--- The knowledge of a node, fact by fact.
+-- What a node knows, as a list of facts.
 use Rattle.std.specs.Prelude.{ℕ, List, [], ◌∷◌}
 use Rattle.mx_knowledge.specs.declared.fact.Fact.{Fact}
 use Rattle.mx_knowledge.specs.declared.fact.Item.{Item}
@@ -14,19 +14,19 @@ known name items = record { name = name; items = items }
 abbrev pub fact_of : Fact → Known
 fact_of f = known f.name.now f.items.items
 
--- one fact with these values
+-- a list of one fact, with these values
 abbrev pub fact : List ℕ → List Item → List Known
 fact name items = known name items ∷ []
 
--- one fact without values
+-- a list of one fact, without values
 abbrev pub word : List ℕ → List Known
 word name = fact name []
 
--- one fact with one value
+-- a list of one fact, with one value
 abbrev pub one : List ℕ → Item → List Known
 one name item = fact name (item ∷ [])
 
--- one fact with these values, if there are any
+-- a list of one fact with these values, or no fact if there are no values
 abbrev pub listed : List ℕ → List Item → List Known
 listed name [] = []
 listed name (item ∷ items) = fact name (item ∷ items)

@@ -4,12 +4,12 @@ use Rattle.mx_stamps.specs.declared.stamp.Stamp.{Stamp}
 use Rattle.mx_knowledge.specs.declared.fact.Item.{Item}
 use Rattle.mx_knowledge.specs.declared.fact.Item.TheVariants as item
 
--- the value, if there is one
+-- a list of the value, or the empty list if there is none
 abbrev pub if_some : Option Item → List Item
 if_some None = []
 if_some (Some i) = i ∷ []
 
--- the values at the nodes below n, in the order of the nodes
+-- the values of f for the nodes below n, in the order of the nodes
 abbrev pub below : (ℕ → Option Item) → ℕ → List Item
 below f zero = []
 below f (suc n) = below f n ++ if_some (f n)

@@ -1,4 +1,4 @@
-//! A fact that a node knows, and a list of them.
+//! A fact that a node knows, and a list of facts.
 
 ghost use Rattle.std.specs.Prelude.{◌≡◌, [], ◌++◌, IfOk, OnOk, map};
 ghost use Rattle.mx_knowledge.specs.Facts.{fact, fact_of, listed, one, word};
@@ -16,7 +16,7 @@ pub enum Item {
     Node(NodeId),
     /// The stamp of a request.
     Stamp(Stamp),
-    /// A node with a number, such as an arbiter with its grant.
+    /// A node with a number, such as an arbiter with the number of its grant.
     Numbered(NodeId, u64),
 }
 

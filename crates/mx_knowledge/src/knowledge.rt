@@ -11,7 +11,7 @@ pub trait Knowledge {
     // the facts that it knows, in the order in which they are shown
     ghost knows: { Self → List Known };
 
-    /// Returns the facts that it knows, in the order in which they are shown.
+    /// Returns the facts that the node knows, in the order in which they are shown.
     ///
     /// # Errors
     ///

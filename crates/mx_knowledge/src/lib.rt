@@ -1,4 +1,4 @@
-//! The knowledge of a node by its algorithm, fact by fact, so that texts and JSON can show it.
+//! What a node knows by its algorithm, as a list of facts that texts and JSON can show.
 #![tactic(auto)]
 
 mod fact;

@@ -1,4 +1,4 @@
-//! The values in a table with an entry for each node.
+//! Lists of the values in a table that has an entry for each node.
 
 ghost use Rattle.std.specs.Prelude.{◌≡◌, ◌≤◌, IfOk, length};
 ghost use Rattle.mx_stamps.specs.declared.limits.TheConstants.{MAX_NODES};
@@ -8,7 +8,7 @@ use crate::fact::Item;
 use mx_stamps::{MAX_NODES, NodeId, Stamp};
 use std::alloc::{AllocError, Global};
 
-/// Returns the nodes below `count` that a table marks.
+/// Returns those of the first `count` nodes that a table marks.
 ///
 /// # Errors
 ///
@@ -32,7 +32,7 @@ pub fn nodes_in(
     Ok(items)
 }
 
-/// Returns the stamps that a table has at the nodes below `count`.
+/// Returns the stamps that a table has for the first `count` nodes.
 ///
 /// # Errors
 ///
@@ -54,7 +54,7 @@ pub fn stamps_in(
     Ok(items)
 }
 
-/// Returns the nodes below `count` at which a table has a number, each with that number.
+/// Returns the numbers that a table has for the first `count` nodes, each with its node.
 ///
 /// # Errors
 ///

@@ -7,17 +7,17 @@ use mx_stamps::Stamp;
 pub enum MaekawaMsg {
     /// A requester asks an arbiter for its grant.
     Request(Stamp),
-    /// An arbiter grants. The first number is that of the grant, the second the highest section
-    /// number that the arbiter has received.
+    /// An arbiter grants the request. The first number is that of the grant, the second the highest
+    /// section number that the arbiter has received.
     Locked(Stamp, u64, u64),
     /// An arbiter has another request to serve first.
     Failed(Stamp),
-    /// An arbiter asks for the grant of this number back.
+    /// An arbiter asks the requester to give back the grant of this number.
     Inquire(Stamp, u64),
-    /// A requester gives the grant of this number back.
+    /// A requester gives back the grant of this number.
     Relinquish(Stamp, u64),
     /// A requester has ended its requests up to this stamp. The number is the highest section
-    /// number that it knows.
+    /// number that the requester knows.
     Release(Stamp, u64),
 }
 

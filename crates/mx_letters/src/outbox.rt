@@ -43,7 +43,7 @@ impl<M: Default + Drop> Outbox<M> {
 }
 
 impl<M: Drop> Outbox<M> {
-    /// Returns whether it holds no letter. Each call of a node requires an empty outbox.
+    /// Returns whether the outbox holds no letter. Each call of a node requires an empty outbox.
     pub fn is_empty(&self) -> bool
         ensures { IsTrue result ↔ (self.now ≡ []) }
     {
@@ -57,14 +57,14 @@ impl<M: Drop> Outbox<M> {
         self.letters.len()
     }
 
-    /// Returns how many more letters it can hold.
+    /// Returns how many more letters the outbox can hold.
     pub fn room(&self) -> usize
         ensures { result + length self.now ≡ OUTBOX_ROOM }
     {
         self.letters.remaining_capacity()
     }
 
-    /// Appends a letter.
+    /// Appends a letter to this addressee.
     pub fn add(&mut self, to: NodeId, letter: M)
         requires { length self.old < OUTBOX_ROOM }
         ensures { self.new ≡ self.old ++ (to, letter) ∷ [] }
@@ -72,7 +72,8 @@ impl<M: Drop> Outbox<M> {
         self.letters.push((to, letter));
     }
 
-    /// Returns the k-th letter, counted from 0, or `None` from the length on.
+    /// Returns the letter at position `k`, counted from 0, with its addressee, or `None` if `k` is
+    /// not below the length.
     pub fn get(&self, k: usize) -> Option<&(NodeId, M)>
         ensures { MatchOption result
             (slice_get self.now k ≡ None)
@@ -81,7 +82,7 @@ impl<M: Drop> Outbox<M> {
         self.letters.as_slice().get(k)
     }
 
-    /// Returns the letters, in order.
+    /// Returns the letters with their addressees, in order.
     pub fn as_slice(&self) -> &[(NodeId, M)]
         ensures value { result.now ≡ self.now }
         ensures bound { length self.now ≤ OUTBOX_ROOM }

@@ -3,12 +3,12 @@
 /// A letter of Raymond's algorithm (1989).
 #[derive(Clone, Copy, Debug, PartialEq, Eq)]
 pub enum RaymondMsg {
-    /// A node wants the privilege. The number counts the requests of its sender.
+    /// A node wants the privilege (token). The number counts the requests of the sender.
     Request(u64),
-    /// The privilege moves to the addressee. The first number is that of this move, its hop; the
-    /// second is the highest section number that the sender knows.
+    /// The privilege moves to the addressee. The first number is the hop, the number of this move;
+    /// the second is the highest section number that the sender knows.
     Privilege(u64, u64),
-    /// The privilege has arrived with this hop.
+    /// The privilege with this hop has arrived.
     Got(u64),
 }
 

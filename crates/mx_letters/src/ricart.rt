@@ -9,7 +9,7 @@ pub enum RicartMsg {
     /// A node asks for the section.
     Request(Stamp),
     /// The sender permits the request of this stamp. The number is the highest section number that
-    /// it knows.
+    /// the sender knows.
     Reply(Stamp, u64),
 }
 

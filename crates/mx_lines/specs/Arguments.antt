@@ -1,4 +1,4 @@
--- Which event has these arguments.
+-- The event of a kind with given arguments.
 use Rattle.std.specs.Prelude.{ℕ, List, Option, Some, None, option_map, option_and_then, slice_get}
 use Rattle.mx_events.specs.declared.argument.Argument.{Argument}
 use Rattle.mx_events.specs.declared.argument.Argument.TheVariants as argument
@@ -7,7 +7,7 @@ use Rattle.mx_events.specs.declared.event.Event.TheVariants as event
 use Rattle.mx_events.specs.declared.kind.EventKind.{EventKind}
 use Rattle.mx_events.specs.declared.kind.EventKind.TheVariants.{Ask, Enter, Read, Write, Leave, Cancel, Settle, Tick, Want, Deliver, Restart}
 
--- the node, the register or the number at a place
+-- the node, the register or the number in an argument, if it has one
 abbrev pub node_in : Option Argument → Option ℕ
 node_in (Some (argument.Node node)) = Some node
 node_in _ = None

@@ -16,12 +16,12 @@ use Rattle.mx_lines.specs.declared.errors.OwnWord.{OwnWord}
 use Rattle.mx_lines.specs.declared.errors.OwnWord.TheVariants.{Show, Undo, Redo, Events, Mark, Help, End}
 use Rattle.mx_lines.specs.declared.lines.Line.{Line}
 
--- the words that end a session
+-- whether this word ends a session
 abbrev pub is_end : Text → Bool
 is_end text =
     bytes_eq text (codes "end") || (bytes_eq text (codes "quit") || bytes_eq text (codes "exit"))
 
--- the word of a session that a text is
+-- which word of a session (and not of a script) this text is, if it is one
 abbrev pub own_word : Text → Option OwnWord
 own_word text =
     if bytes_eq text (codes "show") then Some Show
@@ -33,7 +33,7 @@ own_word text =
     else if is_end text then Some End
     else None
 
--- what a word of a session asks for alone
+-- what a word of a session asks for if no word follows it
 abbrev pub alone : OwnWord → Result SessionCommand LineError
 alone Show = Ok (command.Show None)
 alone Undo = Ok (command.Undo 1)
@@ -43,38 +43,40 @@ alone Mark = refused fault.WordCount 0 (expected.OwnArguments Mark)
 alone Help = Ok command.Help
 alone End = Ok command.End
 
--- this many lines are undone
+-- the command that undoes this number of lines, or the fault that the text is no number
 abbrev pub taken_back : Text → Result SessionCommand LineError
 taken_back count =
     option_map_or (λ number. Ok (command.Undo number)) (number_of count)
     (refused fault.NotNumber 1 expected.Number)
 
 module _ (names : Known) where
-  -- a node is shown
+  -- the command that shows the node of this name, or the fault that there is no such node
   abbrev pub shown : Text → Result SessionCommand LineError
   shown name =
       option_map_or (λ node. Ok (command.Show (Some node)))
       (position (bytes_eq name) names.nodes) (refused fault.NoNode 1 expected.Node)
 
-  -- what a word of a session asks for with another, after which there are some more, or none
+  -- what a word of a session asks for with this text after it; the flag says whether that is the
+  -- last word
   abbrev pub with_one : OwnWord → Text → Bool → Result SessionCommand LineError
   with_one Show name true = shown name
   with_one Undo count true = taken_back count
   with_one Mark text true = Ok command.Mark
   with_one word text is_last = refused fault.WordCount 0 (expected.OwnArguments word)
 
-  -- what it asks for with those after it
+  -- what a word of a session asks for with the words after it
   abbrev pub own_command : OwnWord → List Text → Result SessionCommand LineError
   own_command word [] = alone word
   own_command word (text ∷ more) = with_one word text (length more == 0)
 
--- what is done that a line of a script asks for
+-- the command that does a script line, or `Nothing` if the line has no words
 abbrev pub doing : Option Line → SessionCommand
 doing None = command.Nothing
 doing (Some line) = command.Does line
 
 module _ (names : Known) where
-  -- what a line asks for whose first word is one of a session, or none
+  -- what a line asks for: if its first word is one of a session (and not of a script), what that
+  -- asks for; otherwise what the line asks for in a script
   abbrev pub command_by : List Text → Text → List Text → Result SessionCommand LineError
   command_by words word arguments =
       option_map_or (λ own. own_command names own arguments) (own_word word)

@@ -1,6 +1,7 @@
--- Names (those that a line may have), Words (those of a line), Numbers, Arguments (of events), Verbs
--- (the first words), Orders (what words ask for, once), Lines (and how often), Commands (of a
--- session), Texts (of faults).
+-- Names: the names that a line may use. Words: the words of a line. Numbers: the numbers of a line.
+-- Arguments: the arguments of events. Verbs: the first words of a line. Orders: what the words of a
+-- line ask for, apart from how often. Lines: whole lines of a script. Commands: lines of a session.
+-- Texts: the texts of faults.
 pub mod Names
 pub mod Words
 pub mod Numbers

@@ -12,7 +12,7 @@ use Rattle.mx_lines.specs.declared.errors.LineError.{LineError}
 use Rattle.mx_lines.specs.declared.errors.LineFault.TheVariants as fault
 use Rattle.mx_lines.specs.declared.lines.Line.{Line}
 
--- how often a line is done: at most a million times
+-- the number of times that a line is done, at most a million
 abbrev pub times_of : Text → Result ℕ LineError
 times_of text =
     option_map_or
@@ -20,23 +20,23 @@ times_of text =
     (number_of text) (refused fault.NotNumber 1 expected.Times)
 
 module _ (names : Known) where
-  -- a line that is done so often, where its first word has this number
+  -- the line that is done this number of times; its first word is at this place
   abbrev pub line_at : ℕ → ℕ → Text → List Text → Result (Option Line) LineError
   line_at times place word words =
       and_then (order_at names place word words)
       (λ order. Ok (Some (record { times = times; order = order })))
 
-  -- after the number of times
+  -- what the words after the number of times ask for
   abbrev pub done_times : List Text → ℕ → Result (Option Line) LineError
   done_times [] times = refused fault.WordCount 0 expected.Repetition
   done_times (word ∷ words) times = line_at times 2 word words
 
-  -- after the word `times`
+  -- what the words after `times` ask for
   abbrev pub repeated : List Text → Result (Option Line) LineError
   repeated [] = refused fault.WordCount 0 expected.Repetition
   repeated (count ∷ words) = and_then (times_of count) (done_times words)
 
-  -- what the words of a line ask for; none where there are no words
+  -- what the words of a line ask for, or `None` if there are no words
   abbrev pub line_of : List Text → Result (Option Line) LineError
   line_of [] = Ok None
   line_of (word ∷ words) =

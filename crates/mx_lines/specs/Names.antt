@@ -1,4 +1,4 @@
--- The names that a line may have.
+-- The names of nodes and registers that a line may use.
 use Rattle.std.specs.Prelude.{ℕ, List, map, take}
 use Rattle.std.specs.Borrow.{Bor}
 use Rattle.mx_plan.specs.Text.{Text}
@@ -9,11 +9,11 @@ pub record Known : Type 0 where
   pub nodes : List Text
   pub registers : List Text
 
--- those of a plan
+-- the names of a plan
 abbrev pub known_of : Fields → Known
 known_of p = record { nodes = p.nodes; registers = p.registers }
 
--- what texts say
+-- the texts that the references point to
 abbrev pub texts_of : List (Bor Text) → List Text
 texts_of = map (λ text. text.now)
 

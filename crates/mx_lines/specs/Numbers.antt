@@ -10,7 +10,8 @@ is_number digits =
     nat_lt 0 (length digits)
     && (all_ascii_digits digits && nat_lt (digits_value 10 digits) (2 ^ 64))
 
--- the whole number of 64 bits that a text is. A plus may stand before its digits
+-- the number of 64 bits that a text writes, or `None` if it writes none. A plus may come before the
+-- digits
 abbrev pub number_of : Text → Option ℕ
 number_of text =
     if is_number (without_leading_plus text)

@@ -1,4 +1,5 @@
--- What the words of a line ask for, once, or which of them is wrong.
+-- What the words of a line ask for, apart from how often, or which word is wrong. Words have
+-- numbers from 0, which are their places in the line.
 use Rattle.std.specs.Prelude.{◌≡◌, ◌==◌, ℕ, ◌+◌, List, [], ◌∷◌, Option, Some, Result, Ok, Err, codes, length, position, if◌then◌else◌, option_map, option_and_then, slice_get}
 use Rattle.std.specs.Option.{option_map_or}
 use Rattle.std.specs.Str.{bytes_eq}
@@ -24,24 +25,24 @@ use Rattle.mx_lines.specs.declared.orders.Scope.TheVariants as scope
 use Rattle.mx_lines.specs.declared.verbs.Verb.{Verb}
 use Rattle.mx_lines.specs.declared.verbs.Verb.TheVariants as verb
 
--- the word of this number is wrong
+-- the error that the word of this number is wrong
 abbrev pub refused : {T : Type 0} → LineFault → ℕ → Expected → Result T LineError
 refused fault word expected = Err (record { fault = fault; word = word; expected = expected })
 
--- goes on where nothing was wrong
+-- continues if nothing was wrong
 abbrev pub and_then : {A B : Type 0} → Result A LineError → (A → Result B LineError)
     → Result B LineError
 and_then (Ok a) f = f a
 and_then (Err e) f = Err e
 
--- a number, the word of this number in its line
+-- the number that the word at this place of its line is, or the error that it is none
 abbrev pub number_at : ℕ → Text → Expected → Result Argument LineError
 number_at place word wanted =
     option_map_or (λ number. Ok (argument.Number number)) (number_of word)
     (refused fault.NotNumber place wanted)
 
 module _ (names : Known) where
-  -- an argument of this kind
+  -- the argument of this kind in the word at this place of its line
   abbrev pub argument_at : ArgumentKind → ℕ → Text → Result Argument LineError
   argument_at kind.Node place word =
       option_map_or (λ node. Ok (argument.Node node)) (position (bytes_eq word) names.nodes)
@@ -54,7 +55,7 @@ module _ (names : Known) where
   argument_at kind.Section place word = number_at place word expected.Number
   argument_at kind.Parcel place word = number_at place word expected.Parcel
 
-  -- arguments of these kinds, from this word on: the first wrong one decides
+  -- arguments of these kinds in the words from this place on, or the error of the first wrong one
   abbrev pub arguments_at : List ArgumentKind → ℕ → List Text → Result (List Argument) LineError
   arguments_at [] place words = Ok []
   arguments_at (kind ∷ kinds) place [] = Ok []
@@ -71,7 +72,7 @@ order_between verb.Again from to = ArrivesAgain from to
 order_between verb.CutLink from to = LinksChange (change.Cut from to)
 order_between _ from to = Arrives from to
 
--- the same of the two nodes that are the arguments
+-- the order of a verb between the two nodes in its arguments
 abbrev pub between : Verb → List Argument → Option Order
 between verb arguments =
     option_and_then (λ from. option_map (order_between verb from) (node_in (slice_get arguments 1)))
@@ -88,8 +89,8 @@ order_by verb.CutNode arguments =
 order_by verb arguments = between verb arguments
 
 module _ (names : Known) where
-  -- what a verb asks for, whose last word has this number: its arguments have to be as many as it
-  -- wants
+  -- what a verb asks for with these words as its arguments; `place` is that of the verb's last
+  -- word. A wrong number of arguments is an error of this word
   abbrev pub order_with : ℕ → Verb → List Text → Result Order LineError
   order_with place verb words =
       if length (kinds_of verb) == length words
@@ -98,26 +99,26 @@ module _ (names : Known) where
       (refused fault.WordCount place (expected.Arguments verb)))
       else refused fault.WordCount place (expected.Arguments verb)
 
-  -- what a word of this number asks for before its arguments
+  -- what the word at this place asks for if its arguments come right after it
   abbrev pub order_of : ℕ → Text → List Text → Result Order LineError
   order_of place word arguments =
       option_map_or (λ verb. order_with place verb arguments) (verb_of word (length arguments))
       (refused fault.NoWord place expected.Word)
 
-  -- the same before others, the first of which may be `all`
+  -- the same, or with `all` between the word and its arguments
   abbrev pub order_before : ℕ → Text → List Text → Result Order LineError
   order_before place word [] = order_of place word []
   order_before place word (next ∷ more) =
       option_map_or (λ verb. order_with (place + 1) verb more)
       (verb_of_all word next (length more)) (order_of place word (next ∷ more))
 
-  -- what a word of this number asks for with those after it
+  -- what the word at this place asks for with the words after it; `times` is an error here
   abbrev pub order_at : ℕ → Text → List Text → Result Order LineError
   order_at place word arguments =
       if bytes_eq word (codes "times") then refused fault.WordCount place expected.Single
       else order_before place word arguments
 
--- the arguments were read, or this is wrong
+-- the arguments, or the error, are the wanted ones
 abbrev pub Gives : Result (List Argument) LineError → Result (ArrayVec Argument) LineError
     → Type 0
 Gives wanted (Ok read) = wanted ≡ Ok read.items

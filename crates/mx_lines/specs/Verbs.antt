@@ -1,4 +1,4 @@
--- The words with which a line of a script begins, and what stands after them.
+-- The first words of a line of a script (its verb), and the arguments after them.
 use Rattle.std.specs.Prelude.{ℕ, ◌==◌, ◌&&◌, List, [], ◌∷◌, Option, Some, None, codes, if◌then◌else◌, not, option_map}
 use Rattle.std.specs.Str.{bytes_eq}
 use Rattle.mx_events.specs.Words.{kind_named}
@@ -9,11 +9,11 @@ use Rattle.mx_events.specs.declared.argument.ArgumentKind.TheVariants.{Node}
 use Rattle.mx_lines.specs.declared.verbs.Verb.{Verb}
 use Rattle.mx_lines.specs.declared.verbs.Verb.TheVariants.{Event, Deliver, DeliverAll, DeliverLink, Lose, LoseAll, LoseLink, Again, CutLink, CutNode, Heal}
 
--- what `cut` asks for before this many others
+-- the verb of `cut` if this number of words follows it
 abbrev pub verb_of_cut : ℕ → Verb
 verb_of_cut count = if count == 2 then CutLink else CutNode
 
--- what a word asks for that stands before this many others
+-- the verb of a word if this number of words follows it
 abbrev pub verb_of : Text → ℕ → Option Verb
 verb_of word count =
     if bytes_eq word (codes "lose") then Some Lose
@@ -23,12 +23,12 @@ verb_of word count =
     else if bytes_eq word (codes "deliver") && (count == 2) then Some Deliver
     else option_map Event (kind_named word)
 
--- one verb before no more words, another before two
+-- the first verb if no more words follow, the second if two do
 abbrev pub by_count : Verb → Verb → ℕ → Option Verb
 by_count of_all of_link count =
     if count == 0 then Some of_all else if count == 2 then Some of_link else None
 
--- what a word asks for that stands before `all`, and perhaps two nodes
+-- the verb of a word and the next one, if that is `all` and this number of words may follow it
 abbrev pub verb_of_all : Text → Text → ℕ → Option Verb
 verb_of_all word next count =
     if not (bytes_eq next (codes "all")) then None
@@ -36,7 +36,7 @@ verb_of_all word next count =
     else if bytes_eq word (codes "lose") then by_count LoseAll LoseLink count
     else None
 
--- what stands after it: the arguments of an event, nothing, one node, or two
+-- the kinds of the arguments that a verb takes: those of an event, none, one node, or two
 abbrev pub kinds_of : Verb → List ArgumentKind
 kinds_of (Event kind) = arguments_of kind
 kinds_of DeliverAll = []

@@ -7,11 +7,11 @@ use Rattle.std.specs.Str.Iter.{split_whitespace_rest, split_whitespace_steps}
 use Rattle.std.specs.declared.str.SplitWhitespace.{SplitWhitespace}
 use Rattle.mx_plan.specs.Text.{Text}
 
--- what stands before a comment, which begins with `#`
+-- the part of a line before its comment, which begins with `#`
 abbrev pub before_comment : Text → Text
 before_comment line = before_first (λ byte. byte == 35) line
 
--- the words of a text: what its white space separates
+-- the words of a text: the parts that white space separates
 abbrev pub AreWords : Text → List (Bor Text) → Type 0
 AreWords text words =
     (it : SplitWhitespace) × (split_whitespace_rest it ≡ text)

@@ -13,30 +13,31 @@ use mx_stamps::NodeId;
 /// What a line of a session asks for.
 #[derive(Clone, Copy)]
 pub enum SessionCommand {
-    /// What a line of a script asks for.
+    /// Does what this script line asks for.
     Does(Line),
-    /// This many lines are undone.
+    /// Undoes this many lines, the last ones that were done.
     Undo(u64),
-    /// One node is shown, or all.
+    /// Shows this node, or all nodes.
     Show(Option<NodeId>),
-    /// The last undo is taken back.
+    /// Takes the last undo back.
     Redo,
-    /// The events are shown as a file.
+    /// Shows the events so far, as a file of events.
     Events,
-    /// The line shows itself: `mark` and its second word.
+    /// Shows `mark` and the second word of this line.
     Mark,
-    /// The words are shown.
+    /// Shows which lines a session may have.
     Help,
     End,
     /// The line has no words.
     Nothing,
 }
 
-/// What the words of a line of a session ask for: as of a script, or by a word of its own.
+/// Parses the words of a line of a session: a script line, or one that begins with a word of
+/// sessions alone.
 ///
 /// # Errors
 ///
-/// As of `read_line`.
+/// Returns the first wrong word, as `read_line` does.
 pub fn read_command<N: Names>(names: &N, words: &[&str]) -> Result<SessionCommand, LineError>
     ensures { result ≡ command_of (N.known names.now) (texts_of words.now) }
 {
@@ -52,7 +53,7 @@ pub fn read_command<N: Names>(names: &N, words: &[&str]) -> Result<SessionComman
     }
 }
 
-/// The word of a session that a text is.
+/// Returns which word of sessions alone a text is, or `None` if it is none.
 fn own_word(text: &str) -> Option<OwnWord>
     ensures { result ≡ own_word text.now }
 {
@@ -80,14 +81,14 @@ fn own_word(text: &str) -> Option<OwnWord>
     None
 }
 
-/// Whether a text ends a session.
+/// Whether a word ends a session.
 fn is_end(text: &str) -> bool
     ensures { result ≡ is_end text.now }
 {
     text == "end" || text == "quit" || text == "exit"
 }
 
-/// What a word of a session asks for with those after it.
+/// Returns the command of a word of sessions alone, with the words after it.
 fn own_command<N: Names>(
     names: &N,
     word: OwnWord,
@@ -106,7 +107,7 @@ fn own_command<N: Names>(
     }
 }
 
-/// What a word of a session asks for alone.
+/// Returns the command of a word of sessions alone, without words after it.
 fn alone(word: OwnWord) -> Result<SessionCommand, LineError>
     ensures { result ≡ alone word }
 {
@@ -121,7 +122,7 @@ fn alone(word: OwnWord) -> Result<SessionCommand, LineError>
     }
 }
 
-/// A node is shown.
+/// Returns the command that shows the node of this name.
 fn shown<N: Names>(names: &N, name: &str) -> Result<SessionCommand, LineError>
     ensures { result ≡ shown (N.known names.now) name.now }
 {
@@ -131,7 +132,7 @@ fn shown<N: Names>(names: &N, name: &str) -> Result<SessionCommand, LineError>
     }
 }
 
-/// This many lines are undone.
+/// Returns the command that undoes as many lines as the word `count` says.
 fn taken_back(count: &str) -> Result<SessionCommand, LineError>
     ensures { result ≡ taken_back count.now }
 {

@@ -1,4 +1,4 @@
-//! The name that was meant.
+//! The known name that is nearest to a wrong one.
 
 ghost use Rattle.std.specs.Prelude.{IfOk, IfSome};
 ghost use Rattle.std.specs.List.{Contains};
@@ -6,14 +6,14 @@ ghost use Rattle.std.specs.List.{Contains};
 use std::alloc::{AllocError, Global};
 use strsim::osa_distance;
 
-/// A name to which more edits lead is not near.
+/// A name is near only if at most this many edits lead to it.
 const MAX_EDITS: usize = 3;
 
-/// A longer name is not looked at.
+/// A name of more bytes is near to none.
 const MAX_BYTES: usize = 64;
 
-/// The first of these names to which the fewest edits lead: at most three, and fewer than the
-/// longer name has bytes.
+/// Returns the first of the `known` names that the fewest edits of characters make of `name`: at
+/// most three, and fewer than the longer of both names has bytes.
 pub fn nearest<'a>(
     alloc: Global,
     name: &str,
@@ -33,7 +33,8 @@ pub fn nearest<'a>(
     Ok(best)
 }
 
-/// How many edits lead from a name to another. Letters of the other case count for none.
+/// Returns how many edits lead from a name to another: characters added, removed, changed or
+/// swapped. Returns 0 if only ASCII case differs, and 64 if a name is too long to be near.
 fn edits(alloc: Global, name: &str, other: &str) -> Result<usize, AllocError> {
     if name.len() > MAX_BYTES || other.len() > MAX_BYTES {
         return Ok(MAX_BYTES);

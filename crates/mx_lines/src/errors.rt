@@ -10,9 +10,9 @@ use std::fmt;
 /// Why a line is refused.
 #[derive(Clone, Copy, PartialEq, Eq)]
 pub enum LineFault {
-    /// It is not in UTF-8.
+    /// The line is not in UTF-8.
     NotText,
-    /// No line begins with such a word.
+    /// No line begins with this word.
     NoWord,
     /// Words are missing, or there are too many.
     WordCount,
@@ -20,7 +20,7 @@ pub enum LineFault {
     NoNode,
     /// The plan has no such register.
     NoRegister,
-    /// It is no whole number of 64 bits.
+    /// The word is no whole number of 64 bits.
     NotNumber,
     /// No parcel of this number was sent.
     NoParcel,
@@ -30,7 +30,7 @@ pub enum LineFault {
     NotDelivered,
     /// The link that bears the parcel is cut.
     LinkCut,
-    /// The script has more than 1,000,000 events, or repeats a line more often.
+    /// The script has more than 1,000,000 events, or a line is to be done more often.
     TooMany,
 }
 
@@ -54,7 +54,7 @@ impl fmt::Display for LineFault {
     }
 }
 
-/// A word with which a line of a session begins, and none of a script.
+/// A word with which a line of a session may begin, but no line of a script.
 #[derive(Clone, Copy)]
 pub enum OwnWord {
     Show,
@@ -66,7 +66,7 @@ pub enum OwnWord {
     End,
 }
 
-/// What is expected of a word, or after it.
+/// What is expected in place of a wrong word, or after it.
 #[derive(Clone, Copy)]
 pub enum Expected {
     /// A word with which a line may begin.
@@ -91,17 +91,17 @@ pub enum Expected {
     OwnArguments(OwnWord),
 }
 
-/// A word of a line that is wrong.
+/// A wrong word of a line, with its fault and what was expected.
 #[derive(Clone, Copy)]
 pub struct LineError {
     pub fault: LineFault,
     /// Which word of the line it is, counted from 0.
     pub word: usize,
-    /// What was expected of this word, or after it.
+    /// What was expected in place of this word, or after it.
     pub expected: Expected,
 }
 
-/// The error of this word.
+/// Returns the error of the word numbered `word` in its line, from 0.
 pub(crate) fn refuse<T: Drop>(
     fault: LineFault,
     word: usize,

@@ -1,5 +1,5 @@
-//! The lines of scripts and of sessions: what a line asks for, or which of its words is wrong, and
-//! what was expected there.
+//! The lines of scripts, and of sessions, which `play` runs: what a line asks for, or which of its
+//! words is wrong, and what was expected there.
 #![tactic(auto)]
 
 mod arguments;

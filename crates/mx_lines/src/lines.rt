@@ -21,8 +21,8 @@ pub struct Line {
 ///
 /// # Errors
 ///
-/// Returns the first wrong word, from the left. A wrong number of words comes first, as an error of
-/// the word that takes them.
+/// Returns the first wrong word, from the left. A wrong number of arguments goes before a wrong
+/// argument, as an error of the word that takes the arguments.
 pub fn read_line<N: Names>(names: &N, words: &[&str]) -> Result<Option<Line>, LineError>
     ensures { result ≡ line_of (N.known names.now) (texts_of words.now) }
 {
@@ -36,7 +36,7 @@ pub fn read_line<N: Names>(names: &N, words: &[&str]) -> Result<Option<Line>, Li
     Ok(Some(Line { times: 1, order }))
 }
 
-/// What a line asks for that has these words after `times`.
+/// Parses the words after `times`: a number, and the words of the line that is repeated.
 fn repeated<N: Names>(names: &N, words: &[&str]) -> Result<Option<Line>, LineError>
     ensures { result ≡ repeated (N.known names.now) (texts_of words.now) }
 {
@@ -51,7 +51,7 @@ fn repeated<N: Names>(names: &N, words: &[&str]) -> Result<Option<Line>, LineErr
     Ok(Some(Line { times, order }))
 }
 
-/// How often a line is done.
+/// Parses how often a line is done: 0 to 1,000,000 times.
 fn times_of(text: &str) -> Result<u64, LineError>
     ensures { result ≡ times_of text.now }
 {
@@ -74,8 +74,8 @@ pub fn first_error<N: Names>(names: &N, words: &[&str]) -> Option<LineError>
     }
 }
 
-/// The next word that is wrong after that of an error. Where the number of words is wrong, there is
-/// none.
+/// Returns the next wrong word of a line after that of `error`. After an unknown verb, or a wrong
+/// number of words, there is none.
 pub fn next_error<N: Names>(names: &N, words: &[&str], error: &LineError) -> Option<LineError> {
     match error.expected {
         Expected::Times => error_after_times(names, words),
@@ -87,7 +87,7 @@ pub fn next_error<N: Names>(names: &N, words: &[&str], error: &LineError) -> Opt
     }
 }
 
-/// The error of a line that is repeated.
+/// Returns the error of what stands after `times` and its number, if there is one.
 fn error_after_times<N: Names>(names: &N, words: &[&str]) -> Option<LineError> {
     match words.get(2..)?.split_first() {
         Some((first, rest)) => order_at(names, 2, first, rest).err(),

@@ -1,4 +1,4 @@
-//! What is reported of a line that is refused.
+//! The messages about lines that are refused.
 
 use crate::edits::nearest;
 use crate::errors::{Expected, LineError, LineFault, OwnWord};
@@ -10,17 +10,18 @@ use std::alloc::{AllocError, Global};
 use std::fmt;
 use std::fmt::Display;
 
-/// A longer word is not shown.
+/// A word of more bytes is not shown, only its length.
 const MAX_BYTES: usize = 40;
 
-/// The words of scripts that are none of events, and those of sessions alone.
+/// The words with which lines of scripts may begin, beside the words of events.
 const SCRIPT_WORDS: [&str; 5] = ["lose", "again", "cut", "heal", "times"];
 
+/// The words with which only lines of sessions may begin.
 const SESSION_WORDS: [&str; 9] = [
     "show", "undo", "redo", "events", "mark", "help", "end", "quit", "exit",
 ];
 
-/// With which words a line may begin.
+/// With which words a line may begin: those of scripts, or those of sessions too.
 #[derive(Clone, Copy, PartialEq, Eq)]
 pub enum FirstWords {
     OfScripts,
@@ -28,7 +29,7 @@ pub enum FirstWords {
 }
 
 impl FirstWords {
-    /// The words, as they are listed for a reader.
+    /// Returns the words in the order in which a message lists them.
     fn listed(self, alloc: Global) -> Result<Vec<&'static str>, AllocError> {
         let mut words = Vec::new(alloc);
         for kind in &EVENT_KINDS {
@@ -42,7 +43,7 @@ impl FirstWords {
     }
 }
 
-/// The message for a wrong word of a line with these words. It begins with a space.
+/// Returns the message about the wrong word of a line with these words. It begins with a space.
 pub fn message<N: Names>(
     alloc: Global,
     names: &N,
@@ -70,7 +71,8 @@ pub fn message<N: Names>(
     Ok(text)
 }
 
-/// The message for a line whose words are as they should be: what it says. It begins with a space.
+/// Returns the message about a line whose words are right, but that can't be done: a space, and the
+/// line without its comment.
 pub fn message_of_line(alloc: Global, line: &str) -> Result<String, AllocError> {
     let mut text = String::new(alloc);
     text.push_str(" ")?;
@@ -78,7 +80,7 @@ pub fn message_of_line(alloc: Global, line: &str) -> Result<String, AllocError> 
     Ok(text)
 }
 
-/// How many words stand after a word, if that is what is wrong with it.
+/// Returns how many words stand after the word of an error, if their number is what is wrong.
 fn words_after(words: &[&str], error: &LineError) -> Option<usize> {
     match error.expected {
         Expected::Repetition | Expected::Arguments(_) | Expected::OwnArguments(_) => {
@@ -88,7 +90,8 @@ fn words_after(words: &[&str], error: &LineError) -> Option<usize> {
     }
 }
 
-/// What is expected, in words. The words with which a line may begin are listed instead.
+/// Returns what is expected, as a phrase; an empty one for `Expected::Word`, whose words are listed
+/// instead.
 fn expected_text(expected: Expected) -> &'static str {
     match expected {
         Expected::Word => "",
@@ -111,7 +114,7 @@ fn expected_text(expected: Expected) -> &'static str {
     }
 }
 
-/// What stands after the word of an event, in words.
+/// Returns what is expected after the word of an event, as a phrase.
 fn arguments_text(kind: EventKind) -> &'static str {
     match kind {
         EventKind::Ask
@@ -128,15 +131,17 @@ fn arguments_text(kind: EventKind) -> &'static str {
     }
 }
 
-/// A word that is wrong, or after which there are too few or too many, with what was expected.
+/// The message about a wrong word, or about a wrong number of words after one.
 #[derive(Clone, Copy)]
 struct Wrong<'a> {
     word: &'a str,
+    /// How many words stand after the word, if their number is wrong.
     after: Option<usize>,
     expected: &'a str,
+    /// The names or words that are right in this place, if there is a list of them.
     known: &'a [&'a str],
     nearest: Option<&'a str>,
-    /// Whether what was expected is one of the known words.
+    /// Whether the message lists the known words, in place of `expected`.
     is_list: bool,
 }
 
@@ -153,7 +158,7 @@ impl Display for Wrong<'_> {
     }
 }
 
-/// How many words stand after one, if that is wrong.
+/// The text that says how many words stand after one; empty if their number is not wrong.
 #[derive(Clone, Copy)]
 struct WordsAfter(Option<usize>);
 
@@ -182,7 +187,7 @@ impl Display for Listed<'_> {
     }
 }
 
-/// What a sentence has before the k-th of this many words.
+/// Returns the text before word `k`, counted from 0, of `count` words in a list.
 fn separator(k: usize, count: usize) -> &'static str {
     match count.saturating_sub(k) {
         _ if k == 0 => "",
@@ -191,7 +196,7 @@ fn separator(k: usize, count: usize) -> &'static str {
     }
 }
 
-/// A word in quotes, or how long it is.
+/// A word in quotes; if it has more than 40 bytes, its length.
 #[derive(Clone, Copy)]
 struct Quoted<'a>(&'a str);
 
@@ -205,7 +210,7 @@ impl Display for Quoted<'_> {
     }
 }
 
-/// The word that was meant, if one is near.
+/// The text that suggests the nearest word; empty if none is near.
 #[derive(Clone, Copy)]
 struct Nearest<'a>(Option<&'a str>);
 

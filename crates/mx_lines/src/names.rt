@@ -1,4 +1,4 @@
-//! The names that a line may have.
+//! The names of nodes and registers that a line may have.
 
 ghost use Rattle.std.specs.Prelude.{◌≡◌, position, IfSome, ◌<◌};
 ghost use Rattle.std.specs.Str.{bytes_eq};
@@ -57,7 +57,7 @@ impl Names for Plan {
     }
 }
 
-/// Names that are not those of a plan. Names beyond 21 nodes and 32 registers are not known.
+/// Lists of names, in place of a plan. Only the first 21 nodes and 32 registers are found by name.
 #[derive(Clone, Copy)]
 pub struct NameLists<'a> {
     pub nodes: &'a [&'a str],
@@ -92,7 +92,7 @@ impl Names for NameLists<'_> {
     }
 }
 
-/// The place of a name among the first names of a list.
+/// Returns the place of a name among the first `most` names of a list.
 fn place_in(names: &[&str], name: &str, most: u8) -> Option<u8>
     ensures value { result ≡ position (bytes_eq name.now) (first_texts most names.now) }
     ensures within { IfSome result (λ place. place < most) }

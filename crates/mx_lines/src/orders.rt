@@ -1,4 +1,4 @@
-//! What a line asks for, once.
+//! What a line of a script asks for, apart from how often.
 
 ghost use Rattle.std.specs.Prelude.{◌≡◌, ◌≤◌, length};
 ghost use Rattle.mx_lines.specs.Orders.{Gives, argument_at, arguments_at, number_at, order_at, order_before, order_between, order_by, order_of, order_with};
@@ -13,19 +13,20 @@ use arrayvec::ArrayVec;
 use mx_events::{Argument, ArgumentKind, Event, EventKind};
 use mx_stamps::NodeId;
 
-/// What a line asks for, once. The parcels under way are those that were neither delivered nor
-/// lost.
+/// What a line of a script asks for, apart from how often. A parcel is under way if it was neither
+/// delivered nor lost.
 #[derive(Clone, Copy)]
 pub enum Order {
+    /// The event happens.
     Happens(Event),
-    /// The oldest parcel from the first node to the second that is under way is delivered.
+    /// The oldest parcel under way from the first node to the second is delivered.
     Arrives(NodeId, NodeId),
-    /// All parcels under way over links that are not cut are delivered, and those that they bring
-    /// about.
+    /// All parcels of the scope that are under way over links that are not cut are delivered, also
+    /// those that are sent meanwhile.
     AllArrive(Scope),
-    /// The oldest parcel from the first node to the second that is under way is lost.
+    /// The oldest parcel under way from the first node to the second is lost.
     IsLost(NodeId, NodeId),
-    /// All parcels under way are lost.
+    /// All parcels of the scope that are under way are lost.
     AllAreLost(Scope),
     /// The parcel from the first node to the second that was delivered last is delivered again.
     ArrivesAgain(NodeId, NodeId),
@@ -33,7 +34,7 @@ pub enum Order {
     LinksChange(LinkChange),
 }
 
-/// Which parcels `all` speaks of.
+/// Which parcels `all` means in a line.
 #[derive(Clone, Copy)]
 pub enum Scope {
     All,
@@ -52,7 +53,7 @@ pub enum LinkChange {
     Heal,
 }
 
-/// What a word and those after it ask for, where it is the word of this number in its line.
+/// Returns the order of `word`, at `place` (from 0) in its line, with the words after it.
 pub(crate) fn order_at<N: Names>(
     names: &N,
     place: usize,
@@ -68,7 +69,7 @@ pub(crate) fn order_at<N: Names>(
     order_before(names, place, word, arguments)
 }
 
-/// What a word asks for before others, the first of which may be `all`.
+/// Returns the order of a word that is not `times`; the words after it may begin with `all`.
 fn order_before<N: Names>(
     names: &N,
     place: usize,
@@ -87,7 +88,7 @@ fn order_before<N: Names>(
     }
 }
 
-/// What a word asks for before its arguments.
+/// Returns the order of a word whose arguments begin right after it.
 fn order_of<N: Names>(
     names: &N,
     place: usize,
@@ -103,7 +104,7 @@ fn order_of<N: Names>(
     }
 }
 
-/// What a verb asks for with these arguments.
+/// Returns the order of a verb with these arguments; `place` is that of the verb's last word.
 fn order_with<N: Names>(
     names: &N,
     place: usize,
@@ -124,7 +125,7 @@ fn order_with<N: Names>(
     }
 }
 
-/// The order of a verb with these arguments.
+/// Returns the order of a verb with these arguments; `None` if one is missing or of a wrong kind.
 fn order_by(verb: Verb, arguments: &[Argument]) -> Option<Order>
     ensures { result ≡ order_by verb arguments.now }
 {
@@ -141,7 +142,7 @@ fn order_by(verb: Verb, arguments: &[Argument]) -> Option<Order>
     }
 }
 
-/// The order of a verb between two nodes.
+/// Returns the order of a verb that takes two nodes.
 fn order_between(verb: Verb, from: NodeId, to: NodeId) -> Order
     ensures { result ≡ order_between verb from to }
 {
@@ -155,7 +156,7 @@ fn order_between(verb: Verb, from: NodeId, to: NodeId) -> Order
     }
 }
 
-/// The words as arguments of these kinds, where the first is the word of this number in its line.
+/// Parses words as arguments of these kinds; `place` is that of the first word in its line.
 fn arguments_at<N: Names>(
     names: &N,
     kinds: &[ArgumentKind],
@@ -175,7 +176,7 @@ fn arguments_at<N: Names>(
     Ok(read)
 }
 
-/// A word as an argument of this kind, where it is the word of this number in its line.
+/// Parses a word, at `place` in its line, as an argument of this kind.
 fn argument_at<N: Names>(
     names: &N,
     kind: ArgumentKind,
@@ -198,7 +199,7 @@ fn argument_at<N: Names>(
     }
 }
 
-/// A word as a number.
+/// Parses a word, at `place` in its line, as a number. An error says what was `expected`.
 fn number_at(place: usize, word: &str, expected: Expected) -> Result<Argument, LineError>
     ensures { result ≡ number_at place word.now expected }
 {
@@ -208,8 +209,8 @@ fn number_at(place: usize, word: &str, expected: Expected) -> Result<Argument, L
     }
 }
 
-/// The next argument that is wrong after a word, where the verb of the line is the word of this
-/// number.
+/// Returns the error of the first wrong argument after the word at `place`, in a line whose verb
+/// begins at word `first`; both count from 0.
 pub(crate) fn error_after<N: Names>(
     names: &N,
     words: &[&str],
@@ -228,7 +229,7 @@ pub(crate) fn error_after<N: Names>(
     None
 }
 
-/// The verb of a word before its arguments, and how many words it has itself.
+/// Returns the verb of `word` with the words after it, and how many words the verb itself has.
 fn verb_before(word: &str, arguments: &[&str]) -> Option<(Verb, usize)> {
     if let Some((next, more)) = arguments.split_first()
         && let Some(verb) = verb_of_all(word, next, more.len())

@@ -5,9 +5,10 @@ ghost use Rattle.mx_lines.specs.Verbs.{by_count, kinds_of, verb_of, verb_of_all,
 
 use mx_events::{ArgumentKind, EventKind};
 
-/// What the first word of a line asks for.
+/// What the first word of a line asks for, together with `all` if that is the second word.
 #[derive(Clone, Copy)]
 pub enum Verb {
+    /// The word of an event, such as `ask`, or `deliver` with the number of a parcel.
     Event(EventKind),
     /// `deliver`, with two nodes.
     Deliver,
@@ -15,11 +16,13 @@ pub enum Verb {
     DeliverAll,
     /// `deliver all`, with two nodes.
     DeliverLink,
+    /// `lose`, with two nodes.
     Lose,
     /// `lose all`.
     LoseAll,
     /// `lose all`, with two nodes.
     LoseLink,
+    /// `again`, with two nodes.
     Again,
     /// `cut`, with two nodes.
     CutLink,
@@ -28,7 +31,7 @@ pub enum Verb {
     Heal,
 }
 
-/// What a word asks for that stands before this many others.
+/// Returns the verb of `word` if `count` words follow it, or `None` if no verb has this word.
 pub(crate) fn verb_of(word: &str, count: usize) -> Option<Verb>
     ensures { result ≡ verb_of word.now count }
 {
@@ -53,7 +56,7 @@ pub(crate) fn verb_of(word: &str, count: usize) -> Option<Verb>
     }
 }
 
-/// What `cut` asks for before this many others.
+/// Returns the verb of `cut` if `count` words follow it.
 fn verb_of_cut(count: usize) -> Verb
     ensures { result ≡ verb_of_cut count }
 {
@@ -64,7 +67,7 @@ fn verb_of_cut(count: usize) -> Verb
     }
 }
 
-/// What a word asks for before another, which may be `all`, and this many more.
+/// Returns the verb of `word` and `next`, if `next` is `all` and `count` more words suit the verb.
 pub(crate) fn verb_of_all(word: &str, next: &str, count: usize) -> Option<Verb>
     ensures { result ≡ verb_of_all word.now next.now count }
 {
@@ -80,7 +83,7 @@ pub(crate) fn verb_of_all(word: &str, next: &str, count: usize) -> Option<Verb>
     None
 }
 
-/// One verb before no more words, another before two.
+/// Returns `of_all` if no more words follow, `of_link` if two do, else `None`.
 fn by_count(of_all: Verb, of_link: Verb, count: usize) -> Option<Verb>
     ensures { result ≡ by_count of_all of_link count }
 {
@@ -92,7 +95,7 @@ fn by_count(of_all: Verb, of_link: Verb, count: usize) -> Option<Verb>
 }
 
 impl Verb {
-    /// What stands after the word, in order.
+    /// Returns the kinds of the arguments that the verb takes, in order.
     pub(crate) fn arguments(self) -> &'static [ArgumentKind]
         ensures value { result.now ≡ kinds_of self }
         ensures few { length result.now ≤ 3 }

@@ -5,7 +5,7 @@ ghost use Rattle.mx_lines.specs.Words.{AreWords, before_comment};
 
 use std::alloc::{AllocError, Global};
 
-/// What a line says before its comment, which begins with `#`.
+/// Returns the part of a line before its comment, which begins with `#`.
 pub(crate) fn before_comment(line: &str) -> &str
     ensures { result.now ≡ before_comment line.now }
 {
@@ -15,7 +15,7 @@ pub(crate) fn before_comment(line: &str) -> &str
     }
 }
 
-/// The words of a line, in order: what white space separates before its comment.
+/// Returns the words of a line, in order: the parts before its comment that white space separates.
 pub fn words_in(alloc: Global, line: &str) -> Result<Vec<&str>, AllocError>
     ensures { IfOk result (λ words. AreWords (before_comment line.now) words.items) }
 {

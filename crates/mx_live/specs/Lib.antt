@@ -1,6 +1,7 @@
--- Stations: the stations of a plan. Workers: what workers are told, and what they leave. Progress:
--- the lines of how far they are. Together: what all have together. Shown: what a live run prints.
--- Halts: why one ends without a journal. Lives: what comes of the words of a live run.
+-- Stations: the stations of a plan. Workers: the orders of workers, and what they return. Progress:
+-- the printed lines of progress. Together: the receipts and the journal of all stations. Shown:
+-- what a live run prints. LiveErrors: why a live run ends without a journal. Lives: what the
+-- command `live` does.
 pub mod Stations
 pub mod Workers
 pub mod Progress

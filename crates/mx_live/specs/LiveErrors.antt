@@ -1,4 +1,4 @@
--- Why a live run ends without a journal, with the line and the status of that.
+-- Why a live run ends without a journal, the line that reports this, and the exit status.
 use Rattle.std.specs.Prelude.{◌≡◌, ◌≢◌, ◌⊎◌, Bool, true, false, ℕ, List, [], ◌++◌, codes, slice_get, Some, take}
 use Rattle.std.specs.Io.KnownBytes.{Appends, Keeps}
 use Rattle.mx_nodelaws.specs.Core.{Core}
@@ -24,7 +24,7 @@ use Rattle.mx_live.specs.declared.live_error.LiveError.TheVariants.{Plan, TooFew
 use Rattle.mx_live.specs.declared.threads.WorkerConfig.{WorkerConfig}
 use Rattle.mx_live.specs.Workers.{AreDone, HaveRun}
 
--- the line of an error, where the plan has this name
+-- the line that reports an error; `name` is the name of the plan's file
 abbrev pub error_line : Text → LiveError → Text
 error_line name (Plan fault) = fault_line (name, name) fault
 error_line name TooFewSections = codes "mx: too few sections" ++ line_feed
@@ -41,20 +41,20 @@ error_status GateShut = 3
 error_status Writer = 1
 error_status Memory = 5
 
--- the line of an error was written, or memory ran out, or the output refused
+-- the line that reports the error was printed, or memory ran out, or the output refused the line
 abbrev pub ReportsError : Bool → Text → LiveError → Held → Held → ℕ → Type 0
 ReportsError takes_all name error old new status =
     ((status ≡ error_status error) × Appends old new (error_line name error))
     ⊎ ((status ≡ 5) × MayReport old new)
     ⊎ ((status ≡ error_status error) × (takes_all ≡ false) × Keeps old new)
 
--- why a worker that ended so is not done
+-- the error of a worker that is not done, but ended in this way
 abbrev pub IsWhy : Worked → LiveError → Type 0
 IsWhy worked.Done error = ⊥
 IsWhy (worked.NotYet n) error = error ≡ TurnsSpent
 IsWhy worked.GateShut error = error ≡ GateShut
 
--- the first of these workers that is not done, and why
+-- some worker is not done, and this is the error of the first such worker
 pub record FirstNotDone {X : Type 0} (left : List (X × Worked)) (error : LiveError) : Type 0 where
   pub place : ℕ
   pub one : X × Worked
@@ -62,38 +62,39 @@ pub record FirstNotDone {X : Type 0} (left : List (X × Worked)) (error : LiveEr
   pub before : AreDone (take place left)
   pub why : IsWhy one.1 error
 
--- what threads left can't be gathered: the first that is not done says why; or all are done, and
--- memory ran out
+-- why the stations that workers returned are not gathered: the error of the first worker that is
+-- not done; or, if all are done, that memory ran out
 abbrev pub EndInVain : {X : Type 0} → List (X × Worked) → LiveError → Type 0
 EndInVain left error = FirstNotDone left error ⊎ (AreDone left × (error ≡ Memory))
 
--- The threads of a run of this plan left a worker that is not done, and the one of the least node
--- says why.
+-- In a run of this plan some worker is not done, and this is the error of the first such worker, in
+-- order of the nodes.
 pub record RunsInVain {H S M : Type 0} (core : Core H S M) (shape : H) (p : Fields)
     (orders : WorkerConfig) (error : LiveError) : Type 0 where
   pub left : List (Station core × Worked)
   pub run : HaveRun core shape p orders left
   pub first : FirstNotDone left error
 
--- the same, by the algorithm of this shape
+-- the same, with the algorithm of this shape
 abbrev pub InVainBy : Shape → Fields → WorkerConfig → LiveError → Type 0
 InVainBy (planned.Ricart count) p orders error = RunsInVain ricart_core count p orders error
 InVainBy (planned.Maekawa family) p orders error = RunsInVain maekawa_core family p orders error
 InVainBy (planned.Raymond tree) p orders error = RunsInVain raymond_core tree p orders error
 
--- by the plan's own
+-- the same, with the plan's shape
 abbrev pub InVain : Fields → WorkerConfig → LiveError → Type 0
 InVain p orders error = InVainBy p.shape p orders error
 
--- a run of this plan came to no journal: a worker was not done, or memory ran out
+-- why a run of this plan has no journal: a worker is not done, or memory ran out
 abbrev pub HasNone : Fields → WorkerConfig → LiveError → Type 0
 HasNone p orders error = InVain p orders error ⊎ (error ≡ Memory)
 
--- an output failed to take what was printed, which one that takes all does only for want of memory
+-- the error of an output that failed: it refused, which an output that takes all never does, or
+-- memory ran out
 abbrev pub Fails : Bool → LiveError → Type 0
 Fails takes error = ((error ≡ Writer) × (takes ≢ true)) ⊎ (error ≡ Memory)
 
--- the error of a plan that was not read
+-- the error of a live run whose plan was not read for this reason
 abbrev pub live_error_of : CommandError → LiveError
 live_error_of (command_error.Fault fault) = Plan fault
 live_error_of command_error.Writer = Writer

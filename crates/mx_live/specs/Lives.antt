@@ -1,4 +1,4 @@
--- What comes of the words of a live run.
+-- What the command `live` does.
 use Rattle.std.specs.Prelude.{◌≡◌, ◌≢◌, ◌⊎◌, Bool, true, false, ℕ, ◌*◌, ◌≤◌, ◌<◌, List, [], Option, None, Result, Ok, Err, length, IfSome}
 use Rattle.std.specs.Io.KnownBytes.{Appends, Keeps}
 use Rattle.mx_journal.specs.declared.receipts.Receipt.{Receipt}
@@ -21,13 +21,13 @@ use Rattle.mx_live.specs.Shown.{live_text}
 use Rattle.mx_live.specs.Together.{ComeOf, HaveSections}
 use Rattle.mx_live.specs.Workers.{orders_in}
 
--- each node's sections fit into the plan
+-- the plan allows the requested sections of all nodes together
 abbrev pub Fits : LiveRequest → Fields → Type 0
 Fits request p = length p.nodes * request.sections ≤ p.sections
 
--- What was printed is the text of a whole run: the plan allows that many sections, the threads left
--- each worker done, and the receipts and the journal that were gathered from their stations are one
--- serial order, in which each node has its sections.
+-- The output got the text of a whole run: the plan allows all its sections, all workers are done,
+-- and the receipts and the journal gathered from their stations are one serial order, in which each
+-- node has its sections.
 abbrev pub Shows : Option Telling → LiveRequest → Held → Held → Type 0
 Shows told request old new =
     (p : Fields) × (receipts : List Receipt) × (journal : JournalState)
@@ -35,9 +35,9 @@ Shows told request old new =
     × AreSerial receipts journal × HaveSections (length p.nodes) request.sections receipts
     × Appends old new (live_text p (length receipts) journal)
 
--- why the run has no journal: the plan can't be read or is refused; else it has too few sections;
--- else its threads left a worker that is not done, and the one of the least node says why. An
--- output that takes all is no reason, and want of memory may always be one
+-- why the run has no journal: the plan cannot be read or is refused; or it allows too few sections;
+-- or some worker is not done, and the first such worker, in order of the nodes, decides the error.
+-- `Writer` needs an output that may refuse. `Memory` is possible for every run
 abbrev pub Halts : Bool → Option Telling → LiveRequest → LiveError → Type 0
 Halts takes told request (Plan fault) =
     IfSome told (λ telling. Reads telling (Err (command_error.Fault fault)))
@@ -50,14 +50,15 @@ Halts takes told request GateShut =
 Halts takes told request Writer = takes ≢ true
 Halts takes told request Memory = Unit {0}
 
--- nothing was printed; or, if memory or an output failed, perhaps the whole text, not all of which
--- need have been passed on
+-- nothing was printed; or, if memory ran out or the output refused, perhaps the whole text, which
+-- the output need not have passed on completely
 abbrev pub Prints : Option Telling → LiveRequest → LiveError → Held → Held → Type 0
 Prints told request Writer old new = Keeps old new ⊎ Shows told request old new
 Prints told request Memory old new = Keeps old new ⊎ Shows told request old new
 Prints told request error old new = Keeps old new
 
--- a journal was printed and passed on: the output keeps nothing back; or there is none
+-- how the run ended: `Ok` if its journal was printed, and the output has passed all of it on; `Err`
+-- if it ended with this error
 abbrev pub Ends : Bool → Option Telling → LiveRequest → Held → Held → Bool → Result (Unit {0}) LiveError
     → Type 0
 Ends takes told request old new kept_back (Ok done) =
@@ -65,13 +66,14 @@ Ends takes told request old new kept_back (Ok done) =
 Ends takes told request old new kept_back (Err error) =
     Halts takes told request error × Prints told request error old new
 
--- the status and the line of that, by a standard error that takes all or not
+-- after a run that ended in this way, standard error got the error's line, if there is an error,
+-- and this is the exit status. `takes` says that standard error takes all bytes
 abbrev pub Closes : Bool → Text → Result (Unit {0}) LiveError → Held → Held → ℕ → Type 0
 Closes takes name (Ok done) old new status = (status ≡ 0) × Keeps old new
 Closes takes name (Err error) old new status = ReportsError takes name error old new status
 
--- A live run, by what is seen of the outputs before and after it. Standard error gets the lines of
--- progress that were asked for, and then the line of why there is no journal, if there is none.
+-- A live run, by its outputs before and after it. Standard error gets the lines of progress that
+-- were requested, and then, if there is no journal, the line that says why.
 pub record Lives (takes takes_err : Bool) (told : Option Telling) (request : LiveRequest)
     (old new : Seen) (status : ℕ) : Type 0 where
   pub ended : Result (Unit {0}) LiveError
@@ -79,9 +81,9 @@ pub record Lives (takes takes_err : Bool) (told : Option Telling) (request : Liv
   pub after_progress : Held
   pub progress : TellsProgress request.progress old.err after_progress
   pub closes : Closes takes_err request.plan ended after_progress new.err status
-  -- so whatever the status, nothing was printed, or the whole text
+  -- so, whatever the status, standard output got nothing or the whole text
   pub whole : Keeps old.out new.out ⊎ Shows told request old.out new.out
 
--- the words have no fault, and ask for no run
+-- the words of the command line have no fault, and request no live run
 abbrev pub AskNothing : List Text → Type 0
 AskNothing words = (fault_of live_line words ≡ []) × (request_asked words ≡ None)

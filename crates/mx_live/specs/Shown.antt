@@ -7,7 +7,7 @@ use Rattle.mx_plan.specs.Fields.{Fields}
 use Rattle.mx_format.specs.Lines.{texts_from}
 use Rattle.mx_format.specs.NodeTexts.{register_in}
 
--- a name, what stands behind it, and a number
+-- a line with a name, a text after the name, and a number
 abbrev pub number_line : Text → Text → ℕ → Text
 number_line name sign number = name ++ sign ++ decimal number ++ line_feed
 
@@ -22,7 +22,8 @@ abbrev pub value_lines : Fields → JournalState → Text
 value_lines p journal =
     texts_from (λ register name. value_line name (register_in register journal).value) 0 p.registers
 
--- how many receipts there are, up to which number the journal has no gap, and what it shows
+-- the lines with the number of receipts, the number up to which the journal has no gap, and the
+-- value of each register
 abbrev pub live_text : Fields → ℕ → JournalState → Text
 live_text p receipts journal =
     count_line (codes "receipts") receipts

@@ -10,7 +10,7 @@ use Rattle.mx_stations.specs.Running.{fresh}
 use Rattle.mx_stations.specs.Turns.{Station}
 
 module _ {H S M : Type 0} (core : Core H S M) (shape : H) (p : Fields) where
-  -- The station of node i of this table, at rest: its node did nothing yet, no parcel waits in it,
+  -- The new station of node i at this table: its node has done nothing yet, no parcel waits in it,
   -- and its member was started with the plan's origin, last section number and registers.
   pub record IsAtRest (table : TableId) (i : ℕ) (s : Station core) : Type 0 where
     pub here : s.table ≡ table

@@ -1,4 +1,4 @@
--- What the stations of a live run have together.
+-- The receipts and the journal of all stations of a live run.
 use Rattle.std.specs.Prelude.{◌≡◌, ℕ, ◌*◌, ◌<◌, List, length, ◌==◌}
 use Rattle.std.specs.List.{count_by}
 use Rattle.mx_journal.specs.declared.receipts.Receipt.{Receipt}
@@ -16,13 +16,13 @@ use Rattle.mx_stations.specs.Turns.{Station}
 use Rattle.mx_live.specs.declared.threads.WorkerConfig.{WorkerConfig}
 use Rattle.mx_live.specs.Workers.{AreDone, HaveRun, stations_of}
 
--- each of these nodes has just this many sections among the receipts, and there are no others
+-- each of these nodes has exactly this number of the receipts, and there are no others
 pub record HaveSections (nodes sections : ℕ) (receipts : List Receipt) : Type 0 where
   pub each : (i : ℕ) → i < nodes → count_by (λ (r : Receipt). r.node == i) receipts ≡ sections
   pub all : length receipts ≡ nodes * sections
 
--- The threads of a run of this plan left each worker done, and receipts and journal were gathered
--- from their stations.
+-- All workers of a run of this plan are done, and the receipts and the journal were gathered from
+-- their stations.
 pub record AreGathered {H S M : Type 0} (core : Core H S M) (shape : H) (p : Fields)
     (orders : WorkerConfig) (receipts : List Receipt) (journal : JournalState) : Type 0 where
   pub left : List (Station core × Worked)
@@ -30,7 +30,7 @@ pub record AreGathered {H S M : Type 0} (core : Core H S M) (shape : H) (p : Fie
   pub done : AreDone left
   pub gathered : IsGathered (stations_of left) journal receipts
 
--- the same, by the algorithm of this shape
+-- the same, with the algorithm of this shape
 abbrev pub GatheredBy : Shape → Fields → WorkerConfig → List Receipt → JournalState → Type 0
 GatheredBy (planned.Ricart count) p orders receipts journal =
     AreGathered ricart_core count p orders receipts journal
@@ -39,6 +39,6 @@ GatheredBy (planned.Maekawa family) p orders receipts journal =
 GatheredBy (planned.Raymond tree) p orders receipts journal =
     AreGathered raymond_core tree p orders receipts journal
 
--- by the plan's own
+-- the same, with the plan's shape
 abbrev pub ComeOf : Fields → WorkerConfig → List Receipt → JournalState → Type 0
 ComeOf p orders receipts journal = GatheredBy p.shape p orders receipts journal

@@ -1,4 +1,4 @@
--- What workers are told, and what they leave.
+-- The orders of workers, and what they return.
 use Rattle.std.specs.Prelude.{◌≡◌, ℕ, ◌+◌, ◌%◌, ◌^◌, ◌≤◌, List, length, map}
 use Rattle.std.specs.List.{All, AllZip}
 use Rattle.mx_explorer.specs.Weather.{Climate, generator_of}
@@ -15,7 +15,7 @@ use Rattle.mx_live.specs.declared.threads.WorkerConfig.{WorkerConfig}
 use Rattle.mx_live.specs.declared.threads.WorkAt.{WorkAt}
 use Rattle.mx_live.specs.Stations.{AreAtRest}
 
--- what the words order of each worker
+-- the orders that a request has for each worker
 abbrev pub orders_in : LiveRequest → WorkerConfig
 orders_in request =
     record {
@@ -25,50 +25,50 @@ orders_in request =
       settle = request.settle;
     }
 
--- the weather of the links to node i, by the seed plus i, wrapping: of 256 parcels they lose 16 and
--- repeat 16
+-- the weather (the source of fates) of the links to node i, whose seed is `seed` plus i, modulo
+-- 2^64. Of the 256 values of a random byte, 16 lose a parcel and 16 repeat it
 abbrev pub weather_of : ℕ → ℕ → Climate
 weather_of seed i = record { words = generator_of ((seed + i) % 2 ^ 64); lost = 16; doubled = 16 }
 
--- a station, and what is ordered of its worker
+-- a station with the orders of its worker
 abbrev pub ordered : {X : Type 0} → X → WorkerConfig → X × WorkerConfig
 ordered x orders = (x, orders)
 
--- the same of a worker
+-- the station and the orders in the promise of a worker's thread
 abbrev pub told : {X : Type 0} → WorkAt X → X × WorkerConfig
 told promise = ordered promise.at.value promise.orders
 
 module _ {H S M : Type 0} (core : Core H S M) where
-  -- What a worker of the first register left of a station, and how it ended. In at most the turns
-  -- ordered it led from the one to the other, and it settled as ordered.
+  -- What a worker that started with the station `from` returned: its station, and how it ended. The
+  -- worker used register 0 alone, made at most the ordered number of turns, and settled as ordered.
   pub record IsLeft (orders : WorkerConfig) (from : Station core) (ended : Station core × Worked)
       : Type 0 where
     pub works : WorksAtMost core 0 orders.settle orders.turns from ended.0
-    -- from rest, it left no section too many
+    -- if `from` was a new station, no more sections were left than ordered
     pub most : (shape : H) (i origin limit registers : ℕ)
         → from.me ≡ fresh i (start_of core shape i origin limit registers)
         → length ended.0.me.receipts ≤ orders.sections
-    -- done, it has its sections
+    -- if the worker is done, at least the ordered number of sections was left
     pub done : ended.1 ≡ Done → orders.sections ≤ length ended.0.me.receipts
-    -- not done, it made all its turns
+    -- if its turns were spent, it made exactly the ordered number of turns
     pub spent : (n : ℕ) → ended.1 ≡ NotYet n
         → (n ≡ orders.turns) × WorksFor core 0 orders.settle orders.turns from ended.0
-    -- and where the gate was shut, it did nothing
+    -- if the gate was shut, it did nothing
     pub shut : ended.1 ≡ GateShut → ended.0 ≡ from
 
-  -- what workers with these orders left of these stations, each of its own, in order
+  -- what workers with these orders, one for each of these stations, returned, in order
   abbrev pub AreLeft : WorkerConfig → List (Station core) → List (Station core × Worked) → Type 0
   AreLeft orders stations left = AllZip (IsLeft orders) stations left
 
-  -- what the threads of a run of this plan left: of each node in order its station, to which its
-  -- worker led from rest, and how the worker ended
+  -- what the workers of a run of this plan returned, in order of the nodes: each started with the
+  -- new station of its node
   pub record HaveRun (shape : H) (p : Fields) (orders : WorkerConfig)
       (left : List (Station core × Worked)) : Type 0 where
     pub stations : List (Station core)
     pub rested : AreAtRest core shape p stations
     pub worked : AreLeft orders stations left
 
--- the stations that were left
+-- the stations that the workers returned
 abbrev pub stations_of : {X : Type 0} → List (X × Worked) → List X
 stations_of = map (λ ended. ended.0)
 

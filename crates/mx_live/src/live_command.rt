@@ -1,4 +1,5 @@
-//! `live`: from words, named bytes and two outputs to a status, by threads.
+//! The command `live`: runs the nodes of a plan in threads, prints their merged journal, and
+//! returns the exit status.
 
 ghost use Rattle.std.specs.Prelude.{◌≡◌, ◌⊎◌, Option, false, length, IfErr, IfSome, OnErr, OnOk};
 ghost use Rattle.std.specs.Io.KnownBytes.{Appends, Keeps};
@@ -32,8 +33,8 @@ use std::thread::Threads;
 /// - 3 if turns were spent, or if the gate was shut;
 /// - 5 if memory ran out, or if a thread could not be started.
 ///
-/// A status says of the threads only that there is such an outcome. Which one it was is said by
-/// `run_stations` and `gather_left`, which return it.
+/// Of the threads, the contract says only that some outcome of theirs leads to this status. The
+/// outcome itself is returned by `run_stations` and `gather_left`.
 pub fn live<R: Threads + Clock, S: Source, O: Output, E: Output>(
     rt: &R,
     alloc: Global,
@@ -57,7 +58,8 @@ pub fn live<R: Threads + Clock, S: Source, O: Output, E: Output>(
     }
 }
 
-/// Runs the request, or reports why there is no journal. Returns the status.
+/// Runs the request and prints the journal, or reports on `err` why there is none. Returns the exit
+/// status.
 fn run_live<R: Threads + Clock, S: Source, O: Output, E: Output>(
     rt: &R,
     alloc: Global,
@@ -76,7 +78,7 @@ fn run_live<R: Threads + Clock, S: Source, O: Output, E: Output>(
     }
 }
 
-/// Runs the nodes of a plan from its source, and prints what their journals have together.
+/// Reads a plan from `source`, runs its nodes, and prints their merged journal.
 fn live_and_show<R: Threads + Clock, S: Source, O: Output, E: Output>(
     rt: &R,
     alloc: Global,
@@ -96,7 +98,7 @@ fn live_and_show<R: Threads + Clock, S: Source, O: Output, E: Output>(
     live_plan(rt, alloc, &plan, request, out, err)
 }
 
-/// Runs the nodes of a plan, if it has enough sections, and prints their gathered journal.
+/// Runs the nodes of a plan, if it allows enough sections, and prints their merged journal.
 fn live_plan<R: Threads + Clock, O: Output, E: Output>(
     rt: &R,
     alloc: Global,
@@ -119,7 +121,7 @@ fn live_plan<R: Threads + Clock, O: Output, E: Output>(
     show(alloc, plan, &gathered, out)
 }
 
-/// Prints what the nodes have together, whole or not at all.
+/// Prints the number of receipts and the merged journal of the nodes, whole or not at all.
 fn show<O: Output>(
     alloc: Global,
     plan: &Plan,

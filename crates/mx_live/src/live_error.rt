@@ -21,11 +21,12 @@ pub enum LiveError {
     GateShut,
     /// An output refused a text.
     Writer,
+    /// Memory ran out, or a thread could not be started.
     Memory,
 }
 
 impl LiveError {
-    /// Returns the status of the run.
+    /// Returns the exit status of a run that ends with this error.
     pub(crate) fn status(self) -> u8
         ensures { result ≡ error_status self }
     {
@@ -74,7 +75,7 @@ impl From<AllocError> for LiveError {
     }
 }
 
-/// The message for an error; the plan has this file name.
+/// The message for an error. `plan` is the name of the plan's file.
 #[derive(Clone, Copy)]
 pub(crate) struct LiveErrorLine<'a> {
     pub(crate) error: LiveError,
@@ -96,7 +97,7 @@ impl fmt::Display for LiveErrorLine<'_> {
     }
 }
 
-/// Returns the message for a fault of the plan with this file name.
+/// Returns the message for a fault of the plan. `plan` is the name of its file.
 fn fault_line<'a>(fault: Fault, plan: &'a str) -> FaultLine<'a>
     ensures fault { result.fault ≡ fault }
     ensures plan { result.names.plan.now ≡ plan.now }
@@ -106,7 +107,8 @@ fn fault_line<'a>(fault: Fault, plan: &'a str) -> FaultLine<'a>
     FaultLine { fault, names }
 }
 
-/// Reports why a run has no journal, and returns the status. A writer that refuses gets nothing.
+/// Prints to `err` why a run has no journal, and returns the exit status. For `Writer`, prints
+/// nothing.
 pub fn report_error<E: Output>(alloc: Global, error: LiveError, plan: &str, err: &mut E) -> u8
     ensures { ReportsError (E.takes_all err.old) plan.now error
         (E.written err.old) (E.written err.new) result }

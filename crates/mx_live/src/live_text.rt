@@ -10,7 +10,7 @@ use mx_registers::view;
 use std::alloc::AllocError;
 use std::fmt;
 
-/// A name, the text after it, and a number.
+/// A line of a name, the text after this name, and a number.
 #[derive(Clone, Copy)]
 struct NumberLine<'a> {
     name: &'a str,
@@ -26,7 +26,8 @@ impl fmt::Display for NumberLine<'_> {
     }
 }
 
-/// Appends how many receipts there are, and what the journal has and shows.
+/// Appends a line with the number of receipts, a line with the number of the section up to which
+/// the journal has no gap, and a line for each register.
 pub fn add_journal(
     plan: &Plan,
     receipts: u64,
@@ -49,7 +50,7 @@ pub fn add_journal(
     add_values(plan, journal, text)
 }
 
-/// Appends a line for each register.
+/// Appends a line for each register, with its value after the sections of the journal.
 fn add_values(plan: &Plan, journal: &Journal, text: &mut String) -> Result<(), AllocError>
     ensures { OnOk result (string_bytes text.new
         ≡ string_bytes text.old ++ value_lines plan.now journal.now) }

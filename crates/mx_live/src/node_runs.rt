@@ -25,7 +25,7 @@ use std::alloc::{AllocError, Global};
 use std::rt::Clock;
 use std::thread::Threads;
 
-/// Runs the nodes of a plan, by its algorithm, and gathers them.
+/// Runs the nodes of a plan, by its algorithm, and gathers their journals and receipts.
 pub(crate) fn live_by_shape<R: Threads + Clock, E: Output>(
     rt: &R,
     alloc: Global,
@@ -59,7 +59,7 @@ pub(crate) fn live_by_shape<R: Threads + Clock, E: Output>(
     }
 }
 
-/// Runs the nodes of a plan, from its stations.
+/// Runs the nodes of a plan from their new idle stations, and gathers their journals and receipts.
 fn live_at<C: Exclusion + Send + 'static, R: Threads + Clock, E: Output>(
     rt: &R,
     alloc: Global,
@@ -92,7 +92,7 @@ where
     }
 }
 
-/// Creates the stations of a plan, each at rest.
+/// Creates new idle stations for the nodes of a plan, one for each, in order.
 pub fn stations_in<C: Exclusion>(
     alloc: Global,
     plan: &Plan,
@@ -136,7 +136,7 @@ where
     join_all(rt, workers)
 }
 
-/// Returns the orders for each worker.
+/// Returns what the request orders of each worker.
 fn orders_of(request: &LiveRequest<'_>) -> WorkerConfig
     ensures { result ≡ orders_in (request_of request.now) }
 {
@@ -148,8 +148,8 @@ fn orders_of(request: &LiveRequest<'_>) -> WorkerConfig
     }
 }
 
-/// Gathers the stations that the workers left, if all are done. Otherwise returns why the first
-/// that is not done is not.
+/// Gathers the journals and receipts of the stations that the workers left, if all workers are
+/// done. Otherwise returns the error of the first worker that is not done.
 pub fn gather_left<C: Exclusion>(alloc: Global, left: Vec<Ended<C>>) -> Result<Gathered, LiveError>
     requires { OfOneTable (stations_of left.items) }
     ensures serial { IfOk result (λ all. AreSerial all.receipts.items all.journal) }
@@ -167,7 +167,7 @@ pub fn gather_left<C: Exclusion>(alloc: Global, left: Vec<Ended<C>>) -> Result<G
     }
 }
 
-/// Returns the stations that were left.
+/// Returns the stations, without how their workers ended.
 fn only_stations<C: Exclusion>(
     alloc: Global,
     left: Vec<Ended<C>>,
@@ -189,7 +189,7 @@ fn watch_over<C: Exclusion>(stations: &[Station<C>]) -> Result<Option<Watch<C>>,
     }
 }
 
-/// Returns why the first worker that is not done is not.
+/// Returns the error of the first worker that is not done, or `None` if all are done.
 fn first_error<S>(left: &[(S, Worked)]) -> Option<LiveError>
     ensures some { IfSome result (FirstNotDone left.now) }
     ensures none { IfNone result (AreDone left.now) }
@@ -204,7 +204,7 @@ fn first_error<S>(left: &[(S, Worked)]) -> Option<LiveError>
     None
 }
 
-/// Gathers the stations.
+/// Gathers the journals and receipts of the stations. Each failure is returned as `Memory`.
 fn gather_all<C: Exclusion>(alloc: Global, stations: Vec<Station<C>>) -> Result<Gathered, LiveError>
     requires { OfOneTable stations.items }
     ensures serial { IfOk result (λ all. AreSerial all.receipts.items all.journal) }

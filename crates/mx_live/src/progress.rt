@@ -1,4 +1,4 @@
-//! How far a live run has come.
+//! Reports how far a live run has come.
 
 ghost use Rattle.std.specs.Prelude.{◌≡◌, Some};
 ghost use Rattle.mx_live.specs.Progress.{Progresses, TellsProgress, progress_line};
@@ -14,10 +14,10 @@ use std::rt::Clock;
 use std::thread::sleep;
 use std::time::Duration;
 
-/// How often in a second it is looked whether the run is over.
+/// How often in a second `is_over` looks whether all workers have ended.
 const LOOKS_A_SECOND: u32 = 20;
 
-/// The number of sections left so far.
+/// The line of progress, with the number of sections completed so far.
 #[derive(Clone, Copy)]
 struct ProgressLine(u64);
 
@@ -49,8 +49,8 @@ pub(crate) fn report_if_asked<C: Exclusion, K: Clock, E: Output>(
     }
 }
 
-/// Prints the number of sections left so far about once a second, until all workers have ended. A
-/// line that cannot be written is skipped.
+/// Prints the number of sections completed so far about once a second, until all workers have
+/// ended. A line that cannot be written is skipped.
 fn report_progress<C: Exclusion, K: Clock, E: Output>(
     clock: &K,
     alloc: Global,
@@ -69,7 +69,7 @@ fn report_progress<C: Exclusion, K: Clock, E: Output>(
     }
 }
 
-/// Prints the number of sections left so far, or nothing.
+/// Prints the number of sections completed so far, or nothing if the line cannot be written.
 fn report_sections<E: Output>(alloc: Global, sections: u64, err: &mut E)
     ensures progress { Progresses (E.written err.old) (E.written err.new) }
     ensures stays { E.takes_all err.new ≡ E.takes_all err.old }

@@ -13,26 +13,30 @@ use std::alloc::{AllocError, Global};
 use std::snapshot::Snapshot;
 use std::thread::{Promise, Threads};
 
-/// How many of 256 parcels a link loses, and how many it repeats.
+/// How many of 256 parcels a link loses, on average.
 const LOST: u16 = 16;
 
+/// How many of 256 parcels a link repeats, on average.
 const DOUBLED: u16 = 16;
 
-/// What each worker is to do, the seed of the first one's links, and after how many of its sections
-/// each settles its journal, 0 for never.
+/// What each worker is to do.
 #[derive(Clone, Copy)]
 pub(crate) struct WorkerConfig {
+    /// The number of sections of each node.
     pub(crate) sections: u64,
+    /// The seed of the links to node 0. That of the links to node i is greater by i (modulo 2^64).
     pub(crate) seed: u64,
+    /// The greatest number of turns of each worker.
     pub(crate) turns: u64,
+    /// After how many of its own sections each station settles its journal, or 0 for never.
     pub(crate) settle: u64,
 }
 
 /// What a worker leaves: its station, and how it ended.
 pub type Ended<C> = (Station<C>, Worked);
 
-/// The promise of a worker: it leads from this station to the one that it leaves, as it was
-/// ordered.
+/// The promise of a worker's thread: with these orders, its work leads from this station to the one
+/// that it leaves.
 #[derive(Drop)]
 pub(crate) struct WorkAt<S> {
     at: Snapshot<S>,
@@ -48,8 +52,8 @@ impl<C: Exclusion> Promise<Ended<C>> for WorkAt<Station<C>> {
 /// The threads of a live run.
 pub(crate) type Workers<C> = ThreadGroup<Ended<C>, WorkAt<Station<C>>>;
 
-/// Works at a station, with links of its own seed. The station settles after each given number of
-/// its sections; with 0 never.
+/// Takes a station through its sections as ordered, adding 1 to register 0 in each. Returns the
+/// station, and how the worker ended. The links to each node have a seed of their own.
 fn work_at<C: Exclusion>(station: Station<C>, gate: &StartGate, orders: WorkerConfig) -> Ended<C>
     ensures { IsLeft C.core orders station result }
 {
@@ -61,7 +65,8 @@ fn work_at<C: Exclusion>(station: Station<C>, gate: &StartGate, orders: WorkerCo
     work_settling(station, script, orders.settle, gate, weather, orders.turns)
 }
 
-/// Returns the weather of the links to a node.
+/// Returns the weather (the source of fates) of the links to a node. Its seed is `seed` plus the
+/// node's number.
 fn weather_at(seed: u64, node: NodeId) -> Weather
     ensures { result ≡ weather_of seed node }
 {
@@ -69,7 +74,7 @@ fn weather_at(seed: u64, node: NodeId) -> Weather
     Weather::of(own, LOST, DOUBLED)
 }
 
-/// Starts a thread for a station beside the others.
+/// Adds a thread to `workers`, which takes the station through its sections as ordered.
 fn start_one<C: Exclusion + Send + 'static, R: Threads>(
     rt: &R,
     workers: &mut Workers<C>,
@@ -114,7 +119,7 @@ where
     Ok(())
 }
 
-/// Starts a thread for each station, with one gate for this number of nodes. If one cannot be
+/// Starts a thread for each station, with one gate for this number of nodes. If a thread cannot be
 /// started, those before it are joined.
 pub(crate) fn start_all<C: Exclusion + Send + 'static, R: Threads>(
     rt: &R,
@@ -140,7 +145,8 @@ where
     }
 }
 
-/// Joins all threads. Where memory runs out what they leave is dropped.
+/// Joins all threads, and returns what they left, in order. If memory runs out, what they left is
+/// dropped.
 pub(crate) fn join_all<C: Exclusion, R: Threads>(
     rt: &R,
     workers: Workers<C>,

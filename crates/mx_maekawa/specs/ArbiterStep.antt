@@ -22,11 +22,11 @@ start_arbiter count origin = record {
   last = 0;
 }
 
--- the request of node j that waits for a grant
+-- the request of node j, if it waits for a grant
 abbrev pub waiting_at : ArbiterState → ℕ → Option Stamp
 waiting_at a j = slice_index_or a.waiting j None
 
--- the greatest of node j's stamp numbers that are known to have ended
+-- the greatest number of a stamp of node j that is known to have ended
 abbrev pub ended_at : ArbiterState → ℕ → ℕ
 ended_at a j = slice_index_or a.ended j 0
 
@@ -43,12 +43,12 @@ IsLeastOf f n (Some u) =
     ((j : ℕ) × (j < n) × (f j ≡ Some u))
     × ((j : ℕ) (v : Stamp) → j < n → f j ≡ Some v → Before v u → ⊥)
 
--- the same, found by going through the nodes
+-- the least of these requests, found by going through the nodes
 abbrev pub least_of : (ℕ → Option Stamp) → ℕ → Option Stamp
 least_of f zero = None
 least_of f (suc n) = lesser (least_of f n) (f n)
 
--- the waiting requests, except that of one node
+-- the waiting request of node j; for the node `but`, none
 abbrev pub others_at : ArbiterState → ℕ → ℕ → Option Stamp
 others_at a but j = if nat_eq j but then None else waiting_at a j
 
@@ -56,7 +56,7 @@ others_at a but j = if nat_eq j but then None else waiting_at a j
 abbrev pub ArbiterDone : Type 0
 ArbiterDone = Done ArbiterState (Unit {0}) MaekawaMsg
 
--- the grant of the lock, if there is a lock
+-- the LOCKED of the lock, if there is a lock
 abbrev pub lock_letter : Option Lock → List (ℕ × MaekawaMsg)
 lock_letter None = []
 lock_letter (Some lock) = (lock.stamp.node, Locked lock.stamp lock.grant lock.last) ∷ []
@@ -64,8 +64,8 @@ lock_letter (Some lock) = (lock.stamp.node, Locked lock.stamp lock.grant lock.la
 -- Grant: if there is no lock, the least of the waiting requests gets the next grant.
 -- Published: an arbiter that is not locked locks for the waiting request that precedes all others,
 -- and sends LOCKED.
--- Added: the grant's number, and `last`, the highest section number that it has received; nothing
--- is granted if no number remains.
+-- Added: the grant's number, and `last`, the highest section number that the arbiter has received;
+-- nothing is granted if no number remains.
 abbrev pub locking : ArbiterState → Stamp → ArbiterState
 locking a u = record a {
   waiting = slice_set a.waiting u.node None;
@@ -87,7 +87,7 @@ grant_in (Some lock) a = becoming a
 abbrev pub grant : ArbiterState → ArbiterDone
 grant a = grant_in a.lock a
 
--- there is a waiting request that comes before s
+-- there is another request, and it comes before s
 abbrev pub is_below : Option Stamp → Stamp → Bool
 is_below None s = false
 is_below (Some u) s = is_before_of u s
@@ -98,13 +98,14 @@ fail_least (Some u) = (u.node, Failed u) ∷ []
 
 -- Rank: the request s, which has to wait, is compared with the lock, and with the least of the
 -- other waiting requests.
--- Published: if the lock's request or a waiting one precedes s, FAILED to the node of s. Otherwise
--- INQUIRE to the lock's node, which need not be sent again while one is unanswered.
+-- Published: if the lock's request or a waiting one precedes s, FAILED goes to the node of s.
+-- Otherwise INQUIRE goes to the node of the lock's request; it need not be sent again while there
+-- is no reply to the one before.
 -- Added: INQUIRE is sent each time, as the one before may have been lost. A repeated reply does no
 -- harm: the lock ends only for a RELINQUISH of the same stamp and grant. If the lock is for an
--- older stamp of the node of s, INQUIRE to that node, as the release of the older stamp may have
--- been lost. FAILED also goes to the least of the other waiting requests, which s has overtaken, as
--- it may have had no reply so far.
+-- older stamp of the node of s, INQUIRE goes to that node, as the release of the older stamp may
+-- have been lost. If s precedes the lock's request and all waiting ones, FAILED also goes to the
+-- least of the other waiting requests, as that one may have had no reply so far.
 abbrev pub overtaking : Lock → Option Stamp → List (ℕ × MaekawaMsg)
 overtaking lock other = (lock.stamp.node, Inquire lock.stamp lock.grant) ∷ fail_least other
 
@@ -124,10 +125,10 @@ abbrev pub rank : Lock → Stamp → ArbiterState → ArbiterDone
 rank lock s a = sending a (rank_by lock s (least_of (others_at a s.node) a.count))
 
 -- REQUEST with stamp s.
--- Published: if there is no lock it is granted; otherwise it waits, and is ranked.
+-- Published: if there is no lock, the request is granted; otherwise it waits, and Rank follows.
 -- Added: the request is ignored if s has ended, or if a later stamp of the same node has the lock
--- or waits. If the lock is for s, its LOCKED is sent again. Requests are sent again, and may come
--- late.
+-- or waits. If the lock is for s, its LOCKED is sent again. The reason is that requests are sent
+-- again, and may come late.
 abbrev pub waiting_for : ArbiterState → Stamp → ArbiterState
 waiting_for a s = record a { waiting = slice_set a.waiting s.node (Some s) }
 
@@ -159,10 +160,11 @@ take_live s a = if is_for a.lock s then sending a (lock_letter a.lock) else take
 abbrev pub take_request : Stamp → ArbiterState → ArbiterDone
 take_request s a = if nat_lt (ended_at a s.node) s.number then take_live s a else becoming a
 
--- RELINQUISH from the node of s: if the lock is for exactly this stamp and grant it ends, and the
--- request waits again.
+-- RELINQUISH from the node of s: if the lock is for exactly this stamp and grant, the lock ends,
+-- and its request waits again.
 -- Published: the same, and the first of the waiting requests is granted.
--- Added: the tests of stamp and grant number. A later request of the node that waits stays.
+-- Added: the tests of stamp and grant number. If a later request of the same node waits already,
+-- that one stays.
 abbrev pub is_exactly : Option Lock → Stamp → ℕ → Bool
 is_exactly None s g = false
 is_exactly (Some lock) s g = is_same_as lock.stamp s && nat_eq lock.grant g
@@ -182,8 +184,9 @@ take_relinquish s g a = if is_exactly a.lock s g then grant (taking_back s a) el
 
 -- RELEASE from the node of s: all its requests up to s have ended, and a lock for one of them ends.
 -- Published: the lock ends, and the first of the waiting requests is granted.
--- Added: the release carries s. So it ends no later request, and an older request that comes late
--- is known to have ended. `last` takes in the section number of the release.
+-- Added: the release carries s. So the release ends no later request, and an older request that
+-- comes late is known to have ended. `last` rises to the section number of the release, if that is
+-- higher.
 abbrev pub drop_up_to : Option Stamp → ℕ → Option Stamp
 drop_up_to None number = None
 drop_up_to (Some u) number = if nat_lt number u.number then Some u else None

@@ -1,4 +1,4 @@
--- The worlds that are reached from the start.
+-- What holds in every world that is reached from the start.
 use Rattle.std.specs.Prelude.{ℕ, ◌<◌, ◌≤◌, ◌≡◌, ◌⊎◌, true, false, Some, length, Bool, List, slice_index_or}
 use Rattle.mx_stamps.specs.declared.limits.TheConstants.{MAX_NODES}
 use Rattle.mx_stamps.specs.declared.stamp.Stamp.{Stamp}
@@ -22,36 +22,39 @@ NodeWorld = World Node MaekawaMsg
 abbrev pub IsBusy : RequesterState → Type 0
 IsBusy r = is_busy r.phase ≡ true
 
--- its stamp of this number has ended: it is not current, and never will be again
+-- the requester's stamp of this number has ended: it is not current, and will not be again
 abbrev pub IsEnded : RequesterState → ℕ → Type 0
 IsEnded r number = (number ≤ r.issued) × (IsBusy r → number < r.issued)
 
--- no grant up to g of arbiter a will be held for this stamp again
+-- no grant of arbiter a up to g will be held for this stamp again: the stamp has ended, grant g or
+-- a later one was given back, or a later one is held
 abbrev pub IsGiven : RequesterState → ℕ → Stamp → ℕ → Type 0
 IsGiven r a stamp g =
     IsEnded r stamp.number ⊎ ((g ≤ back_at r a) ⊎ ((h : ℕ) × (held_at r a ≡ Some h) × (g < h)))
 
--- some node has entered a section of this number or a later one
+-- some node has entered section n or a later one, or n is 0
 abbrev pub IsReached : NodeWorld → ℕ → Type 0
 IsReached w n = IsReachedBy (λ (s : Node). s.requester.mine) w n
 
--- arbiter a was sent a letter that gives node i's grant back, or that ends its request
+-- node i has sent a letter to arbiter a that gives grant g back, or that ends the request with this
+-- stamp
 abbrev pub IsOver : NodeWorld → ℕ → ℕ → Stamp → ℕ → Type 0
 IsOver w a i stamp g =
     WasSent w i a (Relinquish stamp g)
     ⊎ ((later : Stamp) × (t : ℕ) × WasSent w i a (Release later t) × (stamp.number ≤ later.number))
 
--- the arbiter is locked for exactly this
+-- node s, as an arbiter, is locked for this stamp, with this grant and this section number
 abbrev pub IsLockedFor : Node → Stamp → ℕ → ℕ → Type 0
 IsLockedFor s stamp g c = s.arbiter.lock ≡ Some (record { stamp = stamp; grant = g; last = c })
 
 -- the entry of node i into its last section
 pub record IsEntered (w : NodeWorld) (i : ℕ) (s : Node) : Type 0 where
-  -- its stamp, and its grant of each arbiter
+  -- the stamp of this entry, and the number of the grant of each arbiter for it
   pub stamp : Stamp
   pub grant_of : ℕ → ℕ
   pub node : stamp.node ≡ i
-  -- while it is inside, its stamp and its number are current; once it has left, the stamp has ended
+  -- while the node is inside, the stamp is the current one, and these grants are held; after that,
+  -- the stamp has ended
   pub inside : (n : ℕ) → s.requester.phase ≡ Inside n → (stamp ≡ s.requester.ours)
       × ((a : ℕ) → is_own s.requester a ≡ true → held_at s.requester a ≡ Some (grant_of a))
   pub ended : ((n : ℕ) → s.requester.phase ≡ Inside n → ⊥) → IsEnded s.requester stamp.number
@@ -63,7 +66,8 @@ pub record IsEntered (w : NodeWorld) (i : ℕ) (s : Node) : Type 0 where
   -- each release of the stamp or a later one carries the section's number or a higher one
   pub released : (a : ℕ) (later : Stamp) (t : ℕ) → WasSent w i a (Release later t) →
       stamp.number ≤ later.number → s.requester.mine ≤ t
-  -- an arbiter is still locked for it, or knows the section's number
+  -- each of its arbiters is still locked for this grant, or has received the section's number or a
+  -- higher one
   pub locked : (a : ℕ) (arbiter : Node) → is_own s.requester a ≡ true → IsNode w a arbiter →
       ((c : ℕ) × IsLockedFor arbiter stamp (grant_of a) c)
       ⊎ (s.requester.mine ≤ arbiter.arbiter.last)
@@ -71,7 +75,7 @@ pub record IsEntered (w : NodeWorld) (i : ℕ) (s : Node) : Type 0 where
   pub after : (a b : ℕ) (other : Stamp) (g c : ℕ) → is_own s.requester a ≡ true →
       WasSent w a b (Locked other g c) → grant_of a < g → s.requester.mine ≤ c
 
--- a grant that is held is its arbiter's lock
+-- what holds for a grant that is held: its arbiter is locked for it
 pub record IsHeldOk (w : NodeWorld) (s : Node) (a g : ℕ) : Type 0 where
   pub own : is_own s.requester a ≡ true
   pub back : back_at s.requester a < g
@@ -79,8 +83,8 @@ pub record IsHeldOk (w : NodeWorld) (s : Node) (a g : ℕ) : Type 0 where
   pub top : c ≤ s.requester.top
   pub lock : (arbiter : Node) → IsNode w a arbiter → IsLockedFor arbiter s.requester.ours g c
 
--- node i has its own name, the count, and its own set; the set's arbiters are nodes, and it meets
--- each other set
+-- what holds for the name, the count and the set of node i: the name is i, the count is at most 21,
+-- the members of the set are nodes, and the set meets that of every node
 pub record IsPlaced (w : NodeWorld) (i name count : ℕ) (row : List Bool) : Type 0 where
   pub me : name ≡ i
   pub few : count ≤ MAX_NODES
@@ -94,16 +98,15 @@ pub record IsNodeOk (w : NodeWorld) (i : ℕ) (s : Node) : Type 0 where
   pub placed : IsPlaced w i s.requester.me s.requester.count s.requester.own
   pub back_places : length s.requester.back ≡ MAX_NODES
   pub held_places : length s.requester.held ≡ MAX_NODES
-  -- a current stamp is its last one, and the clock has seen it
+  -- a current stamp is the node's latest one, and the clock has seen it
   pub issued : s.requester.issued ≤ s.requester.highest
   pub ours_node : IsBusy s.requester → s.requester.ours.node ≡ i
   pub ours_number : IsBusy s.requester → s.requester.ours.number ≡ s.requester.issued
-  -- `top` is at least the number of the node's last section, and at most one that some node has
-  -- entered
+  -- `top` is at least `mine`; `top` and `last` are at most the greatest `mine` of all nodes
   pub mine_top : s.requester.mine ≤ s.requester.top
   pub top_reached : IsReached w s.requester.top
   pub last_reached : IsReached w s.arbiter.last
-  -- the lock is the last grant, and was sent
+  -- the lock is for the last grant, and its LOCKED was sent
   pub lock_last : (lock : Lock) → s.arbiter.lock ≡ Some lock → (lock.grant ≡ s.arbiter.granted)
       × WasSent w i lock.stamp.node (Locked lock.stamp lock.grant lock.last)
   pub held : IsBusy s.requester → (a g : ℕ) → held_at s.requester a ≡ Some g → IsHeldOk w s a g
@@ -121,10 +124,10 @@ pub record IsLockedOk (w : NodeWorld) (a b : ℕ) (stamp : Stamp) (g c : ℕ) : 
   pub granted : (s : Node) → IsNode w a s → g ≤ s.arbiter.granted
   -- it carries a section number that some node has reached
   pub reached : IsReached w c
-  -- no other LOCKED of its arbiter has its grant
+  -- each LOCKED of this arbiter with the same grant has the same stamp and section number
   pub same : (other_b : ℕ) (other : Stamp) (other_c : ℕ) →
       WasSent w a other_b (Locked other g other_c) → (other ≡ stamp) × (other_c ≡ c)
-  -- the arbiter is locked for it, or was sent a letter that ends it
+  -- the arbiter is locked for this grant, or was sent a letter that ends the lock
   pub ends : (s : Node) → IsNode w a s → IsLockedFor s stamp g c ⊎ IsOver w a b stamp g
 
 -- what holds for each RELINQUISH that was sent: the grant will not be held again
@@ -152,7 +155,8 @@ IsLetterOk w a b (Release stamp t) = IsReleaseOk w a stamp t
 abbrev pub IsSound : NodeWorld → Type 0
 IsSound w = IsEachOk IsNodeOk IsLetterOk w
 
--- no inquiry is remembered while an arbiter has failed. A whole step keeps this, its parts do not
+-- no inquiry is remembered while an arbiter has failed. A whole step keeps this, but its parts may
+-- not
 abbrev pub HasNoOverdueInquiry : RequesterState → Type 0
 HasNoOverdueInquiry r =
     (a g b : ℕ) → b < r.count → remembered_at r a ≡ Some g → has_failed r b ≡ false

@@ -9,25 +9,26 @@ pub record RequesterState : Type 0 where
   pub me : ℕ
   -- for each node, whether it is one of this node's arbiters
   pub own : List Bool
-  -- the number of nodes
+  -- the number of nodes in the cluster
   pub count : ℕ
-  -- the greatest section number
+  -- the greatest number that a section may have
   pub limit : ℕ
   pub phase : Phase
   -- the highest stamp number that it has seen or drawn
   pub highest : ℕ
   -- the number of its latest stamp
   pub issued : ℕ
-  -- the stamp of its request, current while it waits or is inside
+  -- the stamp of its latest request, current while the node waits or is inside
   pub ours : Stamp
-  -- for each arbiter, its grant that is held for the current request
+  -- for each arbiter, the number of its grant, if one is held for the current request
   pub held : List (Option ℕ)
-  -- for each arbiter, the highest grant that it gave back
+  -- for each arbiter, the number of the highest grant that was given back to it
   pub back : List ℕ
   -- for each arbiter, whether it has failed the current request or got its grant back, and has not
-  -- granted it since
+  -- granted the request since
   pub failed : List Bool
-  -- for each arbiter, the grant that it has asked back, while the inquiry is remembered
+  -- for each arbiter, the number of the grant that it has asked back, while this inquiry is
+  -- remembered
   pub remembered : List (Option ℕ)
   -- the highest section number that it knows
   pub top : ℕ
@@ -35,15 +36,15 @@ pub record RequesterState : Type 0 where
   pub mine : ℕ
 
 pub record ArbiterState : Type 0 where
-  -- the number of nodes
+  -- the number of nodes in the cluster
   pub count : ℕ
-  -- the request that it is locked for, with the grant
+  -- the request that the arbiter is locked for, with the grant
   pub lock : Option Lock
   -- the number of its last grant
   pub granted : ℕ
-  -- for each node, its request that waits for a grant
+  -- for each node, the stamp of its request, if it waits for a grant
   pub waiting : List (Option Stamp)
-  -- for each node, the greatest number of its stamps that are known to have ended
+  -- for each node, the greatest number of a stamp of that node that is known to have ended
   pub ended : List ℕ
   -- the highest section number received in a release
   pub last : ℕ

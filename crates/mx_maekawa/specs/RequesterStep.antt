@@ -42,7 +42,7 @@ start_requester me own count origin limit = record {
 abbrev pub is_own : RequesterState → ℕ → Bool
 is_own r a = slice_index_or r.own a false
 
--- the grant of arbiter a that is held
+-- the grant of arbiter a that is held, if there is one
 abbrev pub held_at : RequesterState → ℕ → Option ℕ
 held_at r a = slice_index_or r.held a None
 
@@ -57,11 +57,12 @@ holds r a = is_some (held_at r a)
 abbrev pub back_at : RequesterState → ℕ → ℕ
 back_at r a = slice_index_or r.back a 0
 
--- arbiter a has failed the current request or got its grant back, and has not granted it since
+-- arbiter a has failed the current request or got its grant back, and has not granted the request
+-- since
 abbrev pub has_failed : RequesterState → ℕ → Bool
 has_failed r a = slice_index_or r.failed a false
 
--- the grant that arbiter a has asked back, while its inquiry is remembered
+-- the grant that arbiter a has asked back, if its inquiry is remembered
 abbrev pub remembered_at : RequesterState → ℕ → Option ℕ
 remembered_at r a = slice_index_or r.remembered a None
 
@@ -69,14 +70,14 @@ remembered_at r a = slice_index_or r.remembered a None
 abbrev pub HoldsAll : RequesterState → Type 0
 HoldsAll r = (a : ℕ) → a < r.count → is_own r a ≡ true → holds r a ≡ true
 
--- the same as a test
+-- the permission as a test, node by node
 abbrev pub is_held : RequesterState → ℕ → Bool
 is_held r a = not (is_own r a) || holds r a
 
 abbrev pub holds_all : RequesterState → Bool
 holds_all r = all_below (is_held r) r.count
 
--- some arbiter has failed the current request
+-- `has_failed` holds for some arbiter
 abbrev pub HasFailed : RequesterState → Type 0
 HasFailed r = (a : ℕ) × (a < r.count) × (has_failed r a ≡ true)
 
@@ -85,7 +86,7 @@ abbrev pub has_failed_below : RequesterState → ℕ → Bool
 has_failed_below r zero = false
 has_failed_below r (suc n) = has_failed_below r n || has_failed r n
 
--- the stamp is that of the current request of a waiting node
+-- the node waits, and the stamp is that of its request
 abbrev pub is_current_wait : RequesterState → Stamp → Bool
 is_current_wait r stamp = is_waiting r.phase && is_same_as stamp r.ours
 
@@ -102,7 +103,7 @@ RequesterDone A = Done RequesterState A MaekawaMsg
 abbrev pub saying : RequesterState → ℕ → MaekawaMsg → RequesterDone (Unit {0})
 saying r a letter = sending r ((a, letter) ∷ [])
 
--- the grant of a remembered inquiry of arbiter b, if there is one, is given back
+-- the grant that arbiter b has asked back is given back, if its inquiry is remembered
 abbrev pub giving_remembered : RequesterState → ℕ → ℕ → RequesterState
 giving_remembered r b g = record r {
   back = slice_set r.back b g;
@@ -160,15 +161,16 @@ abbrev pub ask_in : Phase → RequesterState → RequesterDone (Result Stamp Ask
 ask_in p r = ask_by (λ (x : RequesterState). x.highest) asked p r
 
 -- the reply to a LOCKED or INQUIRE for an ended stamp is a release.
--- Added: the release of that stamp may have been lost, and the arbiter would stay locked for it.
+-- Added, since the release of that stamp may have been lost, and the arbiter would stay locked for
+-- the stamp.
 abbrev pub release_ended : RequesterState → Stamp → ℕ → RequesterDone (Unit {0})
 release_ended r stamp a = if has_ended r stamp then saying r a (Release stamp r.top) else becoming r
 
--- LOCKED from arbiter a, for the current request, whose grant is missing.
+-- LOCKED from arbiter a, for the current request, while no grant of a is held.
 -- Published: the grant is held.
 -- Added: the tests of stamp and grant number, since a LOCKED may come late or twice. A grant that
 -- was given back does not count again and is given back again, as the RELINQUISH may have been
--- lost. `top` takes in the section number of the grant.
+-- lost. `top` rises to the section number of the grant, if that is higher.
 abbrev pub holding : RequesterState → ℕ → ℕ → ℕ → RequesterState
 holding r a g c = record r {
   held = slice_set r.held a (Some g);
@@ -187,14 +189,15 @@ abbrev pub take_locked : ℕ → Stamp → ℕ → ℕ → RequesterState → Re
 take_locked a stamp g c r =
     if is_current_wait r stamp then locked_current a stamp g c r else release_ended r stamp a
 
--- FAILED from arbiter a, for the current request, whose grant is missing.
--- Published: the node then knows that it does not get every grant yet, which is Fail.
--- Added: the test of the stamp, and that no grant of a is held, since a FAILED may come late.
+-- FAILED from arbiter a, for the current request, while no grant of a is held.
+-- Published: the node then knows that it does not get every grant yet: this is Fail.
+-- Added: the test of the stamp, and the test that no grant of a is held, since a FAILED may come
+-- late.
 abbrev pub take_failed : ℕ → Stamp → RequesterState → RequesterDone (Unit {0})
 take_failed a stamp r = if is_current_wait r stamp && not (holds r a) then fail a r else becoming r
 
--- INQUIRE from arbiter a for the grant that is held: it is given back if some arbiter has failed,
--- and otherwise the inquiry is remembered.
+-- INQUIRE from arbiter a for the grant that is held: the grant is given back if some arbiter has
+-- failed, and otherwise the inquiry is remembered.
 -- Published: the same, with RELINQUISH for a grant that is given back.
 -- Added: the tests of stamp and grant number.
 abbrev pub giving_now : RequesterState → ℕ → ℕ → RequesterState
@@ -221,8 +224,8 @@ declining r a g = record r { back = slice_set r.back a (max (back_at r a) g) }
 abbrev pub inquired_missing : ℕ → Stamp → ℕ → RequesterState → RequesterDone (Unit {0})
 inquired_missing a stamp g r = and_then (saying (declining r a g) a (Relinquish stamp g)) (fail a)
 
--- INQUIRE, by the grant that is held. If another grant of a is held, the one asked for is given
--- back, and nothing else happens.
+-- INQUIRE from arbiter a for grant g, by the grant of a that is held: none, g or another. If it is
+-- another, g is given back, and nothing else happens.
 -- Added, since an INQUIRE may come late.
 abbrev pub inquired : Option ℕ → ℕ → Stamp → ℕ → RequesterState → RequesterDone (Unit {0})
 inquired None a stamp g r = inquired_missing a stamp g r
@@ -255,7 +258,7 @@ enter_in p r =
 -- leave: each of its arbiters is sent a release.
 -- Published: the same.
 -- Added: the release carries the stamp that has ended, and `top`.
--- cancel: the same, for a waiting node. Added: its request has ended, and it enters nothing.
+-- cancel: the same, for a waiting node. Added: its request ends, and the node does not enter.
 abbrev pub ending : RequesterState → RequesterState
 ending r = record r {
   phase = Idle;

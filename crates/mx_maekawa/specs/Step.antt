@@ -12,7 +12,7 @@ use Rattle.mx_maekawa.specs.Node.{RequesterState, ArbiterState, Node}
 use Rattle.mx_maekawa.specs.RequesterStep.{start_requester, is_own, holds_all, asked, take_locked, take_failed, take_inquire, entering, ended, request_again}
 use Rattle.mx_maekawa.specs.ArbiterStep.{start_arbiter, take_request, take_relinquish, take_release, lock_letter}
 
--- a step of only the requester, or of only the arbiter
+-- a step of the requester, or of the arbiter, as a step of the node; the other role does not change
 abbrev pub by_requester : {A : Type 0} → Node → Done RequesterState A MaekawaMsg →
     Done Node A MaekawaMsg
 by_requester s did = record {
@@ -37,17 +37,18 @@ start_of shape me origin limit = record {
   arbiter = start_arbiter shape.count origin;
 }
 
--- the requester takes a letter from its arbiters about its stamps. Added: any other letter to it is
--- ignored
+-- the requester takes a letter if it is from one of its arbiters, and about a stamp of this node.
+-- Added: any other letter to the requester is ignored
 abbrev pub is_answer : Node → ℕ → Stamp → Bool
 is_answer s from stamp = is_own s.requester from && nat_eq stamp.node s.requester.me
 
--- the arbiter takes a letter of a node in whose set it is, about a stamp of that node. Added: any
--- other letter to it is ignored
+-- the arbiter takes a letter if it is from a node in whose set this node is, and about a stamp of
+-- the sender.
+-- Added: any other letter to the arbiter is ignored
 abbrev pub is_call : Node → ℕ → Stamp → Bool
 is_call s from stamp = has_of s.quorums from s.requester.me && nat_eq stamp.node from
 
--- the clock sees the number of a request, also of one that the arbiter ignores
+-- the clock sees the number of a request, even if the request has ended or a later one has come
 abbrev pub seeing : Node → ℕ → Node
 seeing s number = record s {
   requester = record (s.requester) { highest = max s.requester.highest number };

@@ -1,8 +1,8 @@
 -- Places and Tests: lemmas. Changes and Frame: what any step may change, and what it does not.
 -- Parts, LockParts, GrantParts, SectionParts and Cascades: the parts of a step. RequesterKeeps,
 -- ArbiterKeeps and Keeps: each row keeps a world safe. RequesterBounds, ArbiterBounds and Bounds:
--- each number stays a u64 value. Safety: exclusion and numbering. Laws: all together, with the
--- promises on phases.
+-- each number is a u64 value, and each name that of a node. Safety: at most one node is inside, and
+-- sections are numbered in order. Laws: the promises on phases, and all laws together.
 pub mod Places
 pub mod Tests
 pub mod Changes

@@ -11,7 +11,7 @@ use Rattle.mx_member.specs.declared.parcel.Parcel.{Parcel}
 use Rattle.mx_member.specs.Member.{BringsUnknown, MemberState}
 use Rattle.mx_member.specs.Steps.{IsTakeable, LacksItsRecord, ask_of, enter_of, read_of, write_of, leave_of, cancel_of, settle_of, tick_of, want_of, take_of, restart_of}
 
--- the step of a member by an act
+-- the step of a member that does this act
 abbrev pub act_of : {H S M : Type 0} → Core H S M → Act M → MemberState S →
     Done (MemberState S) Answer (Parcel M)
 act_of core act.Ask m = answering (ask_of core m) (answer.Asked (ask_of core m).answer)
@@ -32,7 +32,7 @@ act_of core (act.Deliver from parcel) m = answering (take_of core from parcel m)
 act_of core act.Restart m =
     record { state = restart_of core m; answer = answer.Woken; letters = [] }
 
--- the member can do this: it takes a parcel that is delivered
+-- the member can do this act: if the act is a delivery, the member can take the parcel
 abbrev pub IsDoable : {S M : Type 0} → Act M → MemberState S → Type 0
 IsDoable act.Ask m = Unit {0}
 IsDoable act.Enter m = Unit {0}
@@ -46,8 +46,8 @@ IsDoable (act.Want to) m = Unit {0}
 IsDoable (act.Deliver from parcel) m = IsTakeable from parcel m
 IsDoable act.Restart m = Unit {0}
 
--- the act may need memory: the node's own record joins the journal, or a delivered record is of a
--- section that the journal does not cover
+-- the act may need memory: the node leaves a section that its journal does not cover, or a
+-- delivered parcel has a record of such a section
 abbrev pub NeedsMemory : {H S M : Type 0} → Core H S M → Act M → MemberState S → Type 0
 NeedsMemory core act.Ask m = ⊥
 NeedsMemory core act.Enter m = ⊥
@@ -72,8 +72,8 @@ IsRefusal (answer.Cancelled (Err fault)) = Unit {0}
 IsRefusal (answer.Settled (Err fault)) = Unit {0}
 IsRefusal _ = ⊥
 
--- node i of a given number of nodes may do this: a delivered parcel was sent to it, a want goes to
--- a node
+-- node i may do this act, in a cluster with this number of nodes and these parcels sent: a
+-- delivered parcel was sent to node i, and a want goes to one of the nodes
 abbrev pub Arrives : {M : Type 0} → ℕ → List (ℕ × ℕ × Parcel M) → ℕ → Act M → Type 0
 Arrives nodes sent i act.Ask = Unit {0}
 Arrives nodes sent i act.Enter = Unit {0}
@@ -87,6 +87,6 @@ Arrives nodes sent i (act.Want to) = to < nodes
 Arrives nodes sent i (act.Deliver from parcel) = IsIn (from, i, parcel) sent
 Arrives nodes sent i act.Restart = Unit {0}
 
--- everything that was sent before, what node i sends now, and nothing else, in any order
+-- `grown` has exactly what was sent before and what node i sends now, in any order
 abbrev pub Grows : {P : Type 0} → List (ℕ × ℕ × P) → ℕ → List (ℕ × P) → List (ℕ × ℕ × P) → Type 0
 Grows {P} sent i letters grown = (x : ℕ × ℕ × P) → IsIn x (sent ++ sent_by i letters) ↔ IsIn x grown

@@ -1,8 +1,8 @@
 -- Member: a member's state. Steps: the step of each call. Acts: the step of each act. Faults: the
--- faults of a member for those of its journal. Told: the marks of an act. Journals: when bases,
--- journals and parcels are of the sections. World: whole worlds, and what holds in each of them.
--- Receipts: the receipts of sections that were left. Running: nodes with their own receipts.
--- Shared: views of them.
+-- fault of a delivery, by the fault of the journal. Told: the mark of an act. Journals: when bases,
+-- journals and parcels are of given sections. World: whole worlds, and what holds in each of them.
+-- Receipts: the receipts of closed sections. Running: nodes with their own receipts. Shared: nodes
+-- that are divided among views.
 pub mod Member
 pub mod Steps
 pub mod Acts

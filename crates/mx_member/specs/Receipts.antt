@@ -1,4 +1,4 @@
--- Receipts of sections that were left: all of them, those of one node, and their order.
+-- Receipts of closed sections: those of all nodes, those of one node, and their order.
 use Rattle.std.specs.Prelude.{ℕ, suc, ◌≡◌, ◌++◌, List, [], ◌∷◌, Ok, length, nat_eq, if◌then◌else◌}
 use Rattle.mx_stamps.specs.Lists.{IsIn}
 use Rattle.mx_journal.specs.declared.records.Record.{Record}
@@ -11,35 +11,35 @@ use Rattle.mx_member.specs.declared.acts.Answer.TheVariants as answer
 use Rattle.mx_trace.specs.Sections.{Section, section_receipt}
 use Rattle.mx_trace.specs.Serial.{IsSerialRead}
 
--- the receipt in a result, if it is that of an accepted leave
+-- the receipt in the result of an accepted leave; none in any other result
 abbrev pub closed_by : Answer → List Receipt
 closed_by (answer.Left (Ok receipt)) = receipt ∷ []
 closed_by _ = []
 
--- the receipts of the sections that were left, the newest first
+-- the receipts of the closed sections, the newest first
 abbrev pub receipts_in : List Section → List Receipt
 receipts_in [] = []
 receipts_in (s ∷ ss) =
     if s.closed then section_receipt (suc (length ss)) s ∷ receipts_in ss else receipts_in ss
 
--- those of node i among receipts with the newest first, in order
+-- the receipts of node i, the oldest first; the given receipts are listed with the newest first
 abbrev pub own_in : ℕ → List Receipt → List Receipt
 own_in i [] = []
 own_in i (r ∷ rs) = if nat_eq r.node i then own_in i rs ++ r ∷ [] else own_in i rs
 
--- the writes of receipts with the newest first, in order
+-- the writes of the receipts, in order; the receipts are listed with the newest first
 abbrev pub receipt_writes : List Receipt → List Write
 receipt_writes [] = []
 receipt_writes (r ∷ rs) = receipt_writes rs ++ r.writes.items
 
--- their records, in order
+-- the records of the receipts, the oldest first; the receipts are listed with the newest first
 abbrev pub records_of : List Receipt → List Record
 records_of [] = []
 records_of (r ∷ rs) = records_of rs ++ record_of r ∷ []
 
--- receipts, listed with the newest first, are in order: they have the numbers from 1 on. Each read
--- has the register's value after the writes of those before it and the receipt's own writes before
--- the read
+-- receipts, listed with the newest first: the oldest has the number 1, the next 2, and so on. Each
+-- value read is that of the register after the writes of all earlier receipts and the receipt's own
+-- earlier writes
 abbrev pub StandInOrder : List Receipt → Type 0
 StandInOrder [] = Unit {0}
 StandInOrder (r ∷ rs) =

@@ -1,4 +1,4 @@
--- The step of a member by each call.
+-- The step of a member for each call.
 use Rattle.std.specs.Prelude.{ℕ, ◌≡◌, ◌<◌, ◌++◌, ◌⊎◌, Bool, List, [], ◌∷◌, Result, Ok, Err, length, max, min, nat_lt, nat_le, take, unwrap_or, if◌then◌else◌}
 use Rattle.std.specs.List.{list_any}
 use Rattle.mx_stamps.specs.declared.stamp.Stamp.{Stamp}
@@ -43,7 +43,7 @@ core_step m done =
 abbrev pub refusing : {S A F : Type 0} → MemberState S → F → Quiet (MemberState S) (Result A F)
 refusing m fault = record { state = m; answer = Err fault }
 
--- a section starts with an empty draft
+-- the member after an enter with this result: if the node entered, the draft is empty
 abbrev pub entered : {S : Type 0} → Result ℕ EnterFault → MemberState S → MemberState S
 entered (Ok n) m = with_draft fresh m
 entered (Err fault) m = m
@@ -53,17 +53,19 @@ abbrev pub register_below : ℕ → ℕ → JournalState → Content
 register_below register n journal =
     after_records register (below n journal.records) (cell_in register journal.base)
 
--- the value of a register inside section n: that of the draft's last write to it, or otherwise that
--- after the sections below n
+-- the value of a register inside section n: that of the draft's last write to the register, or
+-- otherwise the register's value after the sections below n
 abbrev pub shown_inside : {S : Type 0} → ℕ → ℕ → MemberState S → ℕ
 shown_inside register n m =
     unwrap_or (last_value register m.draft.writes) (register_below register n m.journal).value
 
--- why a read of a settled section is refused, if the draft has this many reads
+-- the fault of a read inside a section that the base covers: Full if the draft has eight reads, and
+-- otherwise Settled
 abbrev pub settled_fault : ℕ → ℕ → ReadFault
 settled_fault reads upto = if nat_le 8 reads then read.Full else read.Settled upto
 
--- a read inside section n, which needs all sections below n, and a base that does not cover n
+-- a read inside section n: the journal must cover all sections below n, and its base must not cover
+-- n
 abbrev pub read_inside : {S : Type 0} → ℕ → ℕ → MemberState S →
     Quiet (MemberState S) (Result ℕ ReadFault)
 read_inside register n m =
@@ -76,7 +78,7 @@ read_inside register n m =
       answer = Ok (shown_inside register n m);
     })))
 
--- a write inside
+-- a write of a node that is inside
 abbrev pub write_inside : {S : Type 0} → ℕ → ℕ → MemberState S →
     Quiet (MemberState S) (Result (Unit {0}) WriteFault)
 write_inside register value m =
@@ -84,7 +86,7 @@ write_inside register value m =
     else (if nat_le 8 (length m.draft.writes) then refusing m write.Full
     else record { state = with_draft (with_write register value m.draft) m; answer = Ok tt })
 
--- the parcel to node i, if any range is missing
+-- a want of these ranges to node i; none if there are no ranges
 abbrev pub want_to : {M : Type 0} → ℕ → List Range → List (ℕ × Parcel M)
 want_to i [] = []
 want_to i (r ∷ rs) = (i, Want (record { items = r ∷ rs })) ∷ []
@@ -93,23 +95,23 @@ abbrev pub records_to : {M : Type 0} → ℕ → List Record → List (ℕ × Pa
 records_to i [] = []
 records_to i (r ∷ rs) = (i, Records (record { items = r ∷ rs })) ∷ []
 
--- the range has one of the numbers 1 to k
+-- whether the range contains one of the numbers 1 to k
 abbrev pub reaches : ℕ → Range → Bool
 reaches k range = nat_le (max range.first 1) (min range.last k)
 
--- the base to node i, if it has a number in the ranges
+-- a parcel with the base to node i, if the base covers a number in the ranges
 abbrev pub base_to : {M : Type 0} → ℕ → List Range → JournalState → List (ℕ × Parcel M)
 base_to i ranges journal =
     if list_any (reaches journal.base.upto) ranges then (i, Base journal.base) ∷ [] else []
 
--- the reply of the journal to a want of node i: its base, and then records above it, if there are
--- any
+-- the reply to a want of node i: the base, if it covers a number in the ranges, and then up to four
+-- records with numbers in the ranges
 abbrev pub answers_to : {M : Type 0} → ℕ → List Range → JournalState → List (ℕ × Parcel M)
 answers_to i ranges journal =
     base_to i ranges journal ++ records_to i (take 4 (in_ranges ranges journal.records))
 
--- the records can be put: none has the number 0, and those above the base agree with the journal
--- and with one another
+-- the records can be put into the journal: none has the number 0, and those above the base agree
+-- with the journal and with one another
 abbrev pub ArePuttable : List Record → JournalState → Type 0
 ArePuttable records journal =
     IsNumbered records × IsConsistent (journal.records ++ beyond journal.base.upto records)
@@ -121,8 +123,9 @@ IsAcceptable (Want ranges) journal = Unit {0}
 IsAcceptable (Base base) journal = journal.base.upto ≡ base.upto → journal.base ≡ base
 IsAcceptable (Records records) journal = ArePuttable records.items journal
 
--- it cannot, and n says why: the number of a base that differs; 0 if a record has the number 0;
--- otherwise the least number of two records that differ
+-- the journal cannot take the contents of the parcel, and n says why: n is the `upto` of a base
+-- that differs from the journal's base of the same sections; 0 if a record has the number 0;
+-- otherwise the least number that two differing records share
 abbrev pub IsDisputed : {M : Type 0} → ℕ → Parcel M → JournalState → Type 0
 IsDisputed n (Guard letter) journal = ⊥
 IsDisputed n (Want ranges) journal = ⊥
@@ -132,13 +135,13 @@ IsDisputed n (Records records) journal =
     ⊎ (IsNumbered records.items
     × IsFirstConflict n (journal.records ++ beyond journal.base.upto records.items))
 
--- the member takes this parcel of that sender: it is no stranger, and the journal can take the
--- contents
+-- the member can take this parcel from this sender: the sender is a node of the cluster, and the
+-- journal can take the contents
 abbrev pub IsTakeable : {S M : Type 0} → ℕ → Parcel M → MemberState S → Type 0
 IsTakeable from parcel m = (from < m.setting.nodes) × IsAcceptable parcel m.journal
 
--- the registers after sections 1 to k replace their records, if none of these is missing and no
--- more are settled
+-- settle: the registers after sections 1 to k replace the records of these sections. It is refused
+-- if the base covers more sections than these, or if the journal lacks one of these
 abbrev pub settle_of : {S : Type 0} → ℕ → MemberState S →
     Quiet (MemberState S) (Result (Unit {0}) SettleFault)
 settle_of k m =
@@ -181,8 +184,8 @@ module _ {H S M : Type 0} (core : Core H S M) where
   abbrev pub write_of : ℕ → ℕ → MemberState S → Quiet (MemberState S) (Result (Unit {0}) WriteFault)
   write_of register value m = write_at register value m (core.phase m.core)
 
-  -- section n is left: its receipt is the draft's, and its record joins the journal, unless that
-  -- covers n already
+  -- the node leaves section n: the result is the receipt of the draft, and its record joins the
+  -- journal, unless the journal covers n already
   abbrev pub left : ℕ → MemberState S → Done (MemberState S) (Result Receipt LeaveFault) (Parcel M)
   left n m = record {
     state = record {
@@ -195,7 +198,7 @@ module _ {H S M : Type 0} (core : Core H S M) where
     letters = guarded (core.leave m.core).letters;
   }
 
-  -- it is inside, and its journal does not cover the number of its section
+  -- the member is inside, and its journal does not cover the section
   abbrev pub LacksItsRecord : MemberState S → Type 0
   LacksItsRecord m = (n : ℕ) × (core.phase m.core ≡ Inside n) × (Covers n m.journal → ⊥)
 
@@ -208,7 +211,7 @@ module _ {H S M : Type 0} (core : Core H S M) where
   abbrev pub leave_of : MemberState S → Done (MemberState S) (Result Receipt LeaveFault) (Parcel M)
   leave_of m = leave_at m (core.phase m.core)
 
-  -- the node asks another for all sections that it lacks
+  -- the node asks node `to` for the sections that the journal lacks, in at most eight ranges
   abbrev pub want_of : ℕ → MemberState S → Done (MemberState S) (Unit {0}) (Parcel M)
   want_of to m =
       record {
@@ -217,8 +220,8 @@ module _ {H S M : Type 0} (core : Core H S M) where
         letters = want_to to (take 8 (gaps_in m.setting.limit m.journal));
       }
 
-  -- a parcel that the member takes: a letter goes to the core. The reply to a want is the base and
-  -- records, if there are any. A base and records join the journal
+  -- the member takes a parcel: a letter goes to the core; a want gets a reply (answers_to); a base
+  -- or records join the journal
   abbrev pub take_of : ℕ → Parcel M → MemberState S → Done (MemberState S) (Unit {0}) (Parcel M)
   take_of from (Guard letter) m = core_step m (core.deliver from letter m.core)
   take_of from (Want ranges) m =
@@ -236,7 +239,7 @@ module _ {H S M : Type 0} (core : Core H S M) where
   abbrev pub restart_of : MemberState S → MemberState S
   restart_of m = with_draft fresh m
 
-  -- an idle member
+  -- a member at the start: idle, with an empty journal and an empty draft
   abbrev pub start_of : H → ℕ → ℕ → ℕ → ℕ → MemberState S
   start_of shape me origin limit registers = record {
     setting = record { me = me; nodes = core.count shape; limit = limit; registers = registers };

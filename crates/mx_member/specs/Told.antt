@@ -1,4 +1,4 @@
--- The marks of an act: what it does in sections.
+-- The mark of an act: what the act does in a section.
 use Rattle.std.specs.Prelude.{ℕ, List, [], ◌∷◌, Ok}
 use Rattle.mx_trace.specs.Sections.{Mark, Came, Got, Wrote, Went, Woke}
 use Rattle.mx_member.specs.declared.acts.Act.{Act}
@@ -6,7 +6,8 @@ use Rattle.mx_member.specs.declared.acts.Act.TheVariants as act
 use Rattle.mx_member.specs.declared.acts.Answer.{Answer}
 use Rattle.mx_member.specs.declared.acts.Answer.TheVariants as answer
 
--- the mark of an act of node i, by its result. A refused act has none
+-- the mark of an act of node i, by its result: only a restart and an accepted enter, read, write or
+-- leave have one
 abbrev pub told : {M : Type 0} → ℕ → Act M → Answer → List Mark
 told i act.Enter (answer.Entered (Ok n)) = Came i n ∷ []
 told i (act.Read register) (answer.Read (Ok value)) = Got i register value ∷ []

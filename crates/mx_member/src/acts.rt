@@ -17,20 +17,22 @@ use std::alloc::AllocError;
 pub enum Act<M> {
     Ask,
     Enter,
-    /// The register.
+    /// Reads the register of this number.
     Read(u8),
-    /// The register, and the value.
+    /// Writes a value, the second number, to the register of the first number.
     Write(u8, u64),
     Leave,
-    /// A waiting node withdraws its request.
+    /// Withdraws the request of a waiting node.
     Cancel,
-    /// The registers after the sections up to this number replace their records.
+    /// Replaces the records of sections 1 to this number by the registers after them.
     Settle(u64),
+    /// Sends the outstanding letters again.
     Tick,
-    /// The node that is asked for the missing sections.
+    /// Asks this node for the sections that the journal lacks.
     Want(NodeId),
-    /// The sender, and its parcel.
+    /// Takes this parcel from this sender.
     Deliver(NodeId, Parcel<M>),
+    /// Restarts the node: its draft is emptied.
     Restart,
 }
 
@@ -47,15 +49,17 @@ pub enum Answer {
     Ticked,
     Wanted,
     Delivered,
+    /// The node has restarted.
     Woken,
 }
 
-/// Performs one act of a member, and returns its result. The member has to take a delivered parcel,
-/// so that only memory can be missing.
+/// Performs one act of a member, and returns the result of the act. A delivered parcel must come
+/// from a node of the cluster and lead to no conflict (see `DeliverFault`), so that only memory can
+/// be missing.
 ///
 /// # Errors
 ///
-/// Returns `AllocError` if memory runs out.
+/// Returns `AllocError` if memory runs out. The member is unchanged then.
 pub fn perform<C: Exclusion>(
     member: &mut Member<C>,
     act: Act<C::Msg>,

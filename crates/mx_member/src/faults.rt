@@ -13,15 +13,15 @@ pub enum ReadFault {
     /// There is no such register.
     #[error("no register")]
     NoRegister,
-    /// The journal does not cover this section, the first that it lacks. Its number is below that
-    /// of the section that reads.
+    /// The journal lacks the section of this number, which comes before the section that reads. It
+    /// is the first one missing.
     #[error("gap {0}")]
     Gap(u64),
     /// The draft has eight reads already.
     #[error("full")]
     Full,
-    /// The journal's base covers the sections up to this one, and the section that reads is among
-    /// them. Only a forged base leads to this.
+    /// The journal's base covers the sections up to this number, and the section that reads is
+    /// among them. Only a forged base leads to this.
     #[error("settled {0}")]
     Settled(u64),
 }
@@ -79,9 +79,9 @@ pub enum DeliverFault {
     /// The sender is no node of the cluster.
     #[error("stranger")]
     Stranger,
-    /// Two records of this number differ, and it is the least such number; or a record has the
-    /// number 0. Or the member's base and the delivered one both cover the sections up to this
-    /// number, and differ. No parcel of a member of the cluster leads to this.
+    /// Two records of this number differ, and it is the least such number. Or this number is 0, and
+    /// a record has it. Or the member's base and the delivered one both cover the sections up to
+    /// this number, and differ. No parcel of a member of the cluster leads to this.
     #[error("conflict {0}")]
     Conflict(u64),
     /// Memory ran out.

@@ -1,4 +1,5 @@
-//! The exchange of parcels with other members: letters of the core, wants, bases, and records.
+//! The exchange of parcels with other members: letters of the core, wants (requests for missing
+//! sections), bases, and records.
 
 ghost use Rattle.std.specs.Prelude.{ℕ, ◌≡◌, ◌≤◌, ◌<◌, ◌↔◌, ◌⊎◌, ◌++◌, [], List, length, Err, IfOk, IsOk, OnErr, OnOk};
 ghost use Rattle.std.specs.List.{list_any};
@@ -26,8 +27,9 @@ use mx_registers::{View, view};
 use mx_stamps::NodeId;
 
 impl<C: Exclusion> Member<C> {
-    /// Asks another node for the missing sections, by the least eight ranges of their numbers.
-    /// Sends nothing if no section up to the limit is missing.
+    /// Asks node `to` for the sections that the journal lacks, by the first eight ranges of their
+    /// numbers. Sends nothing if the journal covers all sections up to the limit, the greatest
+    /// section number.
     pub fn want(&self, to: NodeId, out: &mut Outbox<Parcel<C::Msg>>)
         requires { out.old ≡ [] }
         ensures letters { out.new ≡ (want_of C.core to self.now).letters }
@@ -38,10 +40,10 @@ impl<C: Exclusion> Member<C> {
         }
     }
 
-    /// Delivers a parcel of a node of the cluster, which may be this one. A letter goes to the
-    /// core. The reply to a want is the base if it has a number in the ranges, and up to four
-    /// records in them. The journal takes all delivered records or none. A delivered base replaces
-    /// the member's own if it covers more sections.
+    /// Delivers a parcel from node `from`, which may be this node itself. A letter goes to the
+    /// core. The reply to a want is the base, if it covers a number in the ranges, and up to four
+    /// records with numbers in the ranges. The journal takes all delivered records or none. A
+    /// delivered base replaces the member's own if it covers more sections.
     ///
     /// # Errors
     ///
@@ -119,7 +121,8 @@ impl<C: Exclusion> Member<C> {
         Ok(())
     }
 
-    /// Delivers a letter to the core.
+    /// Delivers a letter from node `from` to the core, and puts the letters that the core sends
+    /// into `out`.
     fn hear(&mut self, from: NodeId, letter: C::Msg, out: &mut Outbox<Parcel<C::Msg>>)
         requires { out.old ≡ [] }
         ensures state { self.new
@@ -131,8 +134,8 @@ impl<C: Exclusion> Member<C> {
         guard_all(&mut self.letters, out);
     }
 
-    /// Replies to a want with the base, if it has a number in the ranges, and then with the records
-    /// in the ranges, the least four.
+    /// Replies to a want of node `from` with the base, if it covers a number in the ranges, and
+    /// then with the first records in the ranges, at most four.
     fn answer_want(&self, from: NodeId, ranges: &[Range], out: &mut Outbox<Parcel<C::Msg>>)
         requires { out.old ≡ [] }
         ensures { out.new ≡ answers_to from ranges.now self.now.journal }
@@ -141,8 +144,8 @@ impl<C: Exclusion> Member<C> {
         send_records(from, answer(&self.journal, ranges), out);
     }
 
-    /// Returns the value of a register after all sections that this member knows, which may lack
-    /// earlier ones. Returns `None` if there is no such register.
+    /// Returns the value of a register after all sections that the journal covers; earlier ones may
+    /// be missing there. Returns `None` if there is no such register.
     #[tactic(auto, unfolding(crate::specs::Member::IsViewOf))]
     pub fn value(&self, register: u8) -> Option<u64>
         ensures { result ≡ value_in register
@@ -152,7 +155,7 @@ impl<C: Exclusion> Member<C> {
     }
 }
 
-/// Returns whether a base of the sections up to this number has a number in one of the ranges.
+/// Returns whether one of the numbers 1 to `upto`, which a base covers, lies in one of the ranges.
 fn is_wanted(upto: u64, ranges: &[Range]) -> bool
     ensures { result ≡ list_any (reaches upto) ranges.now }
 {
@@ -161,7 +164,7 @@ fn is_wanted(upto: u64, ranges: &[Range]) -> bool
         .any(|range| range.first.max(1) <= range.last.min(upto))
 }
 
-/// Sends the base, if it has a number in one of the ranges.
+/// Sends the journal's base, if it covers a number in one of the ranges.
 fn send_base<M: Copy + Default>(
     to: NodeId,
     ranges: &[Range],
@@ -176,7 +179,7 @@ fn send_base<M: Copy + Default>(
     }
 }
 
-/// Sends these records in one parcel, if there are any. The outbox has at most one parcel before.
+/// Sends the records in one parcel, if there are any. At most one parcel is in `out` before.
 fn send_records<M: Copy + Default>(
     to: NodeId,
     records: ArrayVec<Record, 4>,
@@ -190,7 +193,8 @@ fn send_records<M: Copy + Default>(
     }
 }
 
-/// Takes a base into the journal, and keeps the view of the journal up to date.
+/// Lets the journal take a base, and renews `shown`, the view of the journal's first `registers`
+/// registers.
 ///
 /// # Errors
 ///
@@ -218,7 +222,7 @@ fn take_base(
     Ok(())
 }
 
-/// Applies the records of a list that are numbered above a number, one after the other.
+/// Applies the records that are numbered above `upto` to the view `shown`, one after the other.
 fn take_all(shown: &mut View, upto: u64, records: &[Record])
     ensures { (base : BaseState) (count : ℕ) (before : List Record)
         → shown.old ≡ registers_from base count before

@@ -1,7 +1,7 @@
-//! A member of a cluster: the core of an exclusion algorithm, the draft of the section that its
-//! node is inside, and the journal of the sections that it knows. The specs define whole worlds,
-//! and prove that an act of a member preserves what holds in every world. They name no algorithm,
-//! and no cluster.
+//! A member of a cluster: its core (the node's state in an exclusion algorithm), the draft of the
+//! section that the node is inside, and the journal of the sections that it knows. The specs define
+//! whole worlds (all members, parcels and sections), and prove that an act of a member preserves
+//! what holds in every world. They name no algorithm, and no cluster.
 #![tactic(auto)]
 
 mod acts;

@@ -20,12 +20,15 @@ use std::marker::Model;
 #[derive(Drop)]
 pub struct Member<C: Exclusion> {
     pub(crate) me: NodeId,
+    /// The number of nodes in the cluster.
     pub(crate) nodes: u8,
+    /// The greatest section number.
     pub(crate) limit: u64,
+    /// The number of registers.
     pub(crate) registers: u8,
     pub(crate) core: C,
     pub(crate) journal: Journal,
-    /// The registers of the journal.
+    /// The registers after the sections that the journal covers.
     pub(crate) shown: View,
     pub(crate) draft: Draft,
     /// The core's letters before they are sent. Empty between calls.
@@ -52,8 +55,9 @@ impl<C: Exclusion> Model for Member<C> {
 }
 
 impl<C: Exclusion> Member<C> {
-    /// Creates an idle member with an empty journal. The numbers of its requests count on from
-    /// `origin`, `limit` is the greatest section number, and `registers` the number of registers.
+    /// Creates an idle member with an empty journal. The core's stamps, grants or hops get numbers
+    /// above `origin`, `limit` is the greatest section number, and `registers` the number of
+    /// registers.
     pub fn start(
         alloc: Global,
         shape: &C::Shape,
@@ -163,14 +167,14 @@ impl<C: Exclusion> Member<C> {
         self.core.mine()
     }
 
-    /// Returns the core: the node of its algorithm.
+    /// Returns the core: the node's state in its algorithm.
     pub fn core(&self) -> &C
         ensures { result.now ≡ self.now.core }
     {
         &self.core
     }
 
-    /// Returns the journal of the sections that it knows.
+    /// Returns the journal of the sections that the member knows.
     pub fn journal(&self) -> &Journal
         ensures { result.now ≡ self.now.journal }
     {

@@ -13,7 +13,7 @@ pub enum Parcel<M> {
     Guard(M),
     /// The ranges of section numbers that the sender lacks.
     Want(ArrayVec<Range, 8>),
-    /// The registers after the first sections, in case the receiver lacks some of these.
+    /// The registers after the first sections, in case the receiver lacks some of these sections.
     Base(Base),
     /// Records that the receiver may lack.
     Records(ArrayVec<Record, 4>),
@@ -45,6 +45,7 @@ impl<M: Copy> Parcel<M> {
     }
 }
 
+/// Returns a parcel with copies of the records.
 fn copy_of_gossip<M>(records: &ArrayVec<Record, 4>) -> Parcel<M>
     ensures { result ≡ Records records.now }
 {

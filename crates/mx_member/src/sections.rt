@@ -1,4 +1,5 @@
-//! The calls of a member in its section: reads, writes and leaving; and restarting.
+//! The calls of a member inside its section (`read`, `write` and `leave`), and `restart` and
+//! `settle`.
 
 ghost use Rattle.std.specs.Prelude.{ℕ, ◌≡◌, ◌≤◌, ◌<◌, ◌↔◌, [], ◌∷◌, Err, IfOk, Ok, OnErr, OnOk, length};
 ghost use Rattle.mx_journal.specs.Settled.{Covers, with_list};
@@ -16,15 +17,15 @@ use mx_nodelaws::{Exclusion, Phase};
 use mx_registers::{View, view_below};
 
 impl<C: Exclusion> Member<C> {
-    /// Reads a register inside, and adds the read to the draft. Returns the value that this section
-    /// wrote last, or otherwise that of the sections before it.
+    /// Reads a register inside the section, and adds the read to the draft. Returns the value that
+    /// this section wrote last to the register, or otherwise the value after the sections before.
     ///
     /// # Errors
     ///
     /// Returns the first fault, in the order of `ReadFault`: `NotInside` if the node is not inside,
-    /// and `NoRegister` if there is no such register. `Gap` has the first section before this one
-    /// that the journal does not cover. `Full` means eight reads already, and `Settled` a base that
-    /// covers this section.
+    /// and `NoRegister` if there is no such register. `Gap` has the number of the first section
+    /// before this one that the journal does not cover. `Full` means that the draft has eight reads
+    /// already, and `Settled` that the journal's base covers this section.
     pub fn read(&mut self, register: u8) -> Result<u64, ReadFault>
         ensures state { self.new ≡ (read_of C.core register self.old).state }
         ensures answer { result ≡ (read_of C.core register self.old).answer }
@@ -48,7 +49,8 @@ impl<C: Exclusion> Member<C> {
         Ok(value)
     }
 
-    /// Returns why a read of a settled section is refused.
+    /// Returns why section `number`, which the journal's base covers, cannot read: `Full` if the
+    /// draft has eight reads, otherwise `Settled`.
     fn settled_or_full(&self, number: u64) -> ReadFault
         ensures { result ≡ settled_fault (length self.now.draft.reads) self.now.journal.base.upto }
     {
@@ -59,8 +61,8 @@ impl<C: Exclusion> Member<C> {
         }
     }
 
-    /// Writes a register inside. The write is added to the draft, and no other node sees it before
-    /// this one leaves.
+    /// Writes a value to a register inside the section. The write is added to the draft, and no
+    /// other node sees it before this one leaves.
     ///
     /// # Errors
     ///
@@ -80,8 +82,9 @@ impl<C: Exclusion> Member<C> {
         Ok(())
     }
 
-    /// Leaves the section, adds its record to the journal, and returns its receipt. No record is
-    /// added if a forged record or base covers its number already, and no memory is needed then.
+    /// Leaves the section, adds its record to the journal, and returns its receipt. If a forged
+    /// record or base covers the section's number already, no record is added, and no memory is
+    /// needed.
     ///
     /// # Errors
     ///
@@ -110,7 +113,7 @@ impl<C: Exclusion> Member<C> {
         Ok(receipt)
     }
 
-    /// Restarts the node: core and journal are unchanged, and the draft is emptied.
+    /// Restarts the node: the draft is emptied, and core and journal are unchanged.
     pub fn restart(&mut self)
         ensures { self.new ≡ restart_of C.core self.old }
     {
@@ -122,8 +125,9 @@ impl<C: Exclusion> Member<C> {
     ///
     /// # Errors
     ///
-    /// Returns `Below` with the number of the base if that is above `upto`, and `Gap` with the
-    /// first number up to `upto` that the journal does not cover.
+    /// Returns `Below` with the number of the last section that the base covers, if that is above
+    /// `upto`. Returns `Gap` with the first number that the journal does not cover, if that is at
+    /// most `upto`.
     pub fn settle(&mut self, upto: u64) -> Result<(), SettleFault>
         ensures state { self.new ≡ (settle_of upto self.old).state }
         ensures answer { result ≡ (settle_of upto self.old).answer }
@@ -134,8 +138,8 @@ impl<C: Exclusion> Member<C> {
         self.journal.settle(upto)
     }
 
-    /// Returns the value of a register after the sections below a number. If the journal knows no
-    /// others, it is in the view.
+    /// Returns the value of a register after the journal's sections numbered below `number`. If the
+    /// journal covers no others, the view `shown` has this value.
     fn value_below(&self, number: u64, register: u8) -> u64
         requires { register < self.now.setting.registers }
         ensures { result ≡ (register_below register number self.now.journal).value }
@@ -149,7 +153,8 @@ impl<C: Exclusion> Member<C> {
     }
 }
 
-/// Puts the record, unless its number is covered, and keeps the view of the journal up to date.
+/// Adds the record to the journal and to the view `shown`, unless the journal covers the record's
+/// number.
 ///
 /// # Errors
 ///

@@ -17,8 +17,8 @@ pub record IsLeastJournal (a b j : JournalState) : Type 0 where
   pub right : IsWithin b j
   pub least : (m : JournalState) → IsWithin a m → IsWithin b m → IsWithin j m
 
--- n is the least number at which the journals differ: that of both bases, or the number of two
--- records
+-- n is the least number at which the journals differ: the `upto` of two differing bases of the same
+-- sections, or otherwise the least number that two differing records share
 abbrev pub IsFirstDifference : ℕ → JournalState → JournalState → Type 0
 IsFirstDifference n a b =
     (AreOpposed a.base b.base × (n ≡ a.base.upto))

@@ -6,8 +6,8 @@ use Rattle.mx_journal.specs.declared.records.Record.{Record}
 use Rattle.mx_journal.specs.declared.ranges.Range.{Range}
 use Rattle.mx_journal.specs.Settled.{Covers, JournalState}
 
--- a widest range of missing numbers: it is not empty, lies between 1 and the limit, and contains no
--- covered number. It can be extended neither to the left nor to the right
+-- a range of missing numbers, as wide as possible: it is not empty, lies between 1 and the limit,
+-- and contains no covered number. It can be extended neither downwards nor upwards
 pub record IsGap (limit : ℕ) (journal : JournalState) (range : Range) : Type 0 where
   pub low : 1 ≤ range.first
   pub some : range.first ≤ range.last
@@ -21,13 +21,13 @@ abbrev pub AscendingRanges : ℕ → List Range → Type 0
 AscendingRanges least [] = Unit {0}
 AscendingRanges least (r ∷ rs) = (least ≤ r.first) × AscendingRanges (r.last + 1) rs
 
--- the gap is left out: there are `count` ranges, the greatest number, and it comes after all of
--- them
+-- the gap is missing in the list because the list is full: there are `count` ranges, and the gap
+-- comes after all of them
 abbrev pub IsLeftOut : ℕ → Range → List Range → Type 0
 IsLeftOut count gap ranges =
     (length ranges ≡ count) × ((r : Range) → IsIn r ranges → r.last < gap.first)
 
--- the ranges are gaps, ascending; each gap is among them, or is left out
+-- the ranges are gaps, ascending; each gap is among them, or is missing because the list is full
 pub record IsListOfGaps (count limit : ℕ) (journal : JournalState) (ranges : List Range)
     : Type 0 where
   pub gaps : (r : Range) → IsIn r ranges → IsGap limit journal r
@@ -46,11 +46,11 @@ gaps_above before limit (x ∷ xs) =
     if nat_lt limit x.number then gap_after before limit
     else gap_after before (x.number - 1) ++ gaps_above x.number limit xs
 
--- all gaps of a map of records, ascending
+-- all gaps of a map of records, from 1 to the limit, ascending
 abbrev pub gaps_of : ℕ → List Record → List Range
 gaps_of limit journal = gaps_above 0 limit journal
 
--- all gaps of a journal, ascending: its base covers all numbers up to its own
+-- all gaps of a journal, up to the limit, ascending; the base covers all numbers up to its `upto`
 abbrev pub gaps_in : ℕ → JournalState → List Range
 gaps_in limit journal = gaps_above journal.base.upto limit journal.records
 

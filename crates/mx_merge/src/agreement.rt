@@ -11,8 +11,8 @@ ghost use Rattle.mx_merge.specs.Join.{IsFirstDifference};
 use mx_journal::{Base, Journal, Record};
 
 /// Returns whether the journals agree: records of the same number are equal, and so are the bases
-/// if they cover the same sections. Two journals of the same sections always agree. The time is
-/// that of one search for each record of the other.
+/// if they cover the same sections. Journals whose bases and records come from the same sections
+/// always agree. The time is that of one search in `journal` for each record of `other`.
 pub fn agree(journal: &Journal, other: &Journal) -> bool
     ensures agreeing { IsTrue result ↔ DoAgree journal.now other.now }
     ensures submaps { AreOfOneMap journal.now other.now → IsTrue result }
@@ -28,7 +28,7 @@ pub(crate) fn first_difference(journal: &Journal, other: &Journal) -> Option<u64
     ensures there { Ascending (suc other.now.base.upto) other.now.records }
 {
     if are_opposed(journal.base(), other.base()) {
-        // the call shows that the numbers of the journal ascend
+        // for the prover: the calls show that the numbers of both journals ascend
         let _ = (journal.is_empty(), other.is_empty());
         return Some(journal.base().upto());
     }
@@ -51,7 +51,7 @@ fn first_conflict(journal: &Journal, other: &Journal) -> Option<u64>
     ensures here { Ascending (suc journal.now.base.upto) journal.now.records }
     ensures there { Ascending (suc other.now.base.upto) other.now.records }
 {
-    // both calls are made, since they show that the numbers of the journals ascend
+    // for the prover: both calls are made, since they show that the numbers of the journals ascend
     let (nothing_here, nothing_there) = (journal.is_empty(), other.is_empty());
     if nothing_here || nothing_there {
         return None;
@@ -66,7 +66,7 @@ fn first_conflict(journal: &Journal, other: &Journal) -> Option<u64>
     None
 }
 
-/// Returns whether the journal has this record, or none of its number.
+/// Returns whether the journal has the record `entry`, or no record of its number.
 fn agrees_with(journal: &Journal, entry: &Record) -> bool
     requires { Ascending 1 journal.now.records }
     ensures agrees { IsTrue result → AgreesWith entry.now journal.now.records }

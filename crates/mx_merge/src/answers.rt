@@ -12,8 +12,8 @@ use mx_journal::{Journal, Range, Record};
 /// The greatest number of records in one reply.
 const RECORDS_AT_ONCE: usize = 4;
 
-/// Returns the records above the base whose numbers lie in one of the ranges, ascending. If there
-/// are more than four, returns the least four.
+/// Returns copies of the journal's records with numbers in one of the ranges, ascending: the first
+/// four, or all if there are fewer. Sections that the base covers have no records.
 pub fn answer(journal: &Journal, ranges: &[Range]) -> ArrayVec<Record, RECORDS_AT_ONCE>
     ensures value { result.items ≡ take 4 (in_ranges ranges.now journal.now.records) }
     ensures known { IsSubmap result.items journal.now.records }
@@ -32,7 +32,7 @@ pub fn answer(journal: &Journal, ranges: &[Range]) -> ArrayVec<Record, RECORDS_A
     found
 }
 
-/// Returns the least first number of the ranges, or `u64::MAX` if there are none.
+/// Returns the least `first` of the ranges, or `u64::MAX` if there are none.
 fn least_first(ranges: &[Range]) -> u64
     ensures { (range : Range) → IsIn range ranges.now → result ≤ range.first }
 {

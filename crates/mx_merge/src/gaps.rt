@@ -10,7 +10,7 @@ use mx_journal::{Journal, Range};
 const RANGES_AT_ONCE: usize = 8;
 
 /// Returns the ranges of the numbers from 1 to `limit` that the journal does not cover, ascending,
-/// each as wide as possible. If there are more than eight, returns the least eight.
+/// each as wide as possible. If there are more than eight, returns the first eight.
 pub fn missing(journal: &Journal, limit: u64) -> ArrayVec<Range, RANGES_AT_ONCE>
     ensures gaps { IsListOfGaps 8 limit journal.now result.items }
     ensures value { result.items ≡ take 8 (gaps_in limit journal.now) }
@@ -29,7 +29,8 @@ pub fn missing(journal: &Journal, limit: u64) -> ArrayVec<Range, RANGES_AT_ONCE>
     gaps
 }
 
-/// Adds the range of the numbers above `before` up to `last`, if there are any and there is room.
+/// Adds the range of the numbers above `before` up to `last`, if it is not empty and `gaps` has
+/// room.
 fn add_gap(gaps: &mut ArrayVec<Range, 8>, before: u64, last: u64)
     ensures { gaps.new.items ≡ take 8 (gaps.old.items ++ gap_after before last) }
 {

@@ -13,7 +13,8 @@ use thiserror::Error;
 /// Why a journal was not merged into another.
 #[derive(Clone, Copy, Debug, PartialEq, Eq, Error)]
 pub enum MergeFault {
-    /// The journals differ at this number, the least such number.
+    /// The journals' records of this number, or their bases up to it, differ. It is the least such
+    /// number.
     #[error("two records bear {0}")]
     Conflict(u64),
     /// Memory ran out.
@@ -32,15 +33,15 @@ impl From<AllocError> for MergeFault {
     }
 }
 
-/// Adds everything that the other journal covers, and returns how many numbers are newly covered.
-/// The other base replaces the journal's own if it covers more sections. The time grows with the
-/// number of records of both.
+/// Adds everything that `other` covers to `journal`, and returns how many section numbers are newly
+/// covered. The base of `other` replaces that of `journal` if it covers more sections. The time
+/// grows with the number of records of both.
 ///
 /// # Errors
 ///
 /// Returns `Conflict` with the least number at which the journals differ. Returns `Memory` if they
-/// agree and memory runs out; the other then has a record of a section that the journal does not
-/// cover. On an error the journal is unchanged.
+/// agree and memory runs out; `other` then has a record of a section that `journal` does not cover.
+/// On an error `journal` is unchanged.
 pub fn merge(journal: &mut Journal, other: &Journal) -> Result<u64, MergeFault>
     ensures conflict { (n : ℕ) → (result ≡ Err (MergeFault.Conflict n))
         ↔ IsFirstDifference n journal.old other.now }

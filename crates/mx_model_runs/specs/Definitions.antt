@@ -1,5 +1,5 @@
--- What the definitions of the promise refuse: small histories, traces and journals. And facts on
--- journals that have settled nothing.
+-- Small histories (lists of marks), journals and maps that the definitions exclude, and journals
+-- that they accept. And the merging of journals that have settled nothing.
 use Rattle.std.specs.Prelude.{ℕ, ◌≡◌, true, List, [], ◌∷◌, None}
 use Rattle.mx_journal.specs.declared.records.Record.{Record}
 use Rattle.mx_journal.specs.declared.records.Write.{Write}
@@ -31,11 +31,11 @@ receipt_of number node writes =
 abbrev pub to_zero : ℕ → Write
 to_zero value = record { register = 0; value = value }
 
--- node 0 enters section 1 and writes 7
+-- node 0 enters section 1 and writes 7 to register 0; then the marks `rest` follow
 abbrev pub written_seven : List Mark → List Mark
 written_seven rest = Came 0 1 ∷ Wrote 0 0 7 ∷ rest
 
--- histories that are refused
+-- histories that the definitions exclude
 pub record RefusesHistories : Type 0 where
   -- two entries without an exit between them
   pub two_inside : AllFit [] (Came 0 1 ∷ Came 1 2 ∷ []) → ⊥
@@ -46,11 +46,11 @@ pub record RefusesHistories : Type 0 where
   -- a first entry with the number 2
   pub second_first : AllFit [] (Came 0 2 ∷ []) → ⊥
   pub second_numbered : NumberedFrom 1 (Came 0 2 ∷ []) → ⊥
-  -- a read of a value that nobody wrote, or that a section before overwrote
+  -- a read of a value that nobody wrote, or that an earlier section overwrote
   pub unwritten : AllFit [] (Came 0 1 ∷ Got 0 0 5 ∷ []) → ⊥
   pub stale : AllFit [] (written_seven (Went 0 (receipt_of 1 0 (to_zero 7 ∷ [])) ∷ Came 1 2
       ∷ Got 1 0 0 ∷ [])) → ⊥
-  -- a read or a write of a node that is not inside
+  -- a read or a write by a node that is not inside
   pub read_outside : AllFit [] (Came 0 1 ∷ Got 1 0 0 ∷ []) → ⊥
   pub written_outside : AllFit [] (Wrote 0 0 7 ∷ []) → ⊥
   -- a receipt that misses a write, and one that has a write from before its node restarted
@@ -78,16 +78,16 @@ read_five =
       closed = true;
     }
 
--- journals that are refused, and others that are accepted
+-- journals, sections and maps that the definitions exclude, and journals that they accept
 pub record RefusesJournals : Type 0 where
-  -- the journal of one section shows its writes, whether that is settled or not; one with another
-  -- value does not
+  -- the journal of that section shows the section's write, whether the section is settled or not; a
+  -- journal with another value does not
   pub shown : ShowsInOrder one_section (unsettled (wrote 7 ∷ []))
   pub shown_settled : ShowsInOrder one_section (settled 1 (unsettled (wrote 7 ∷ [])))
   pub other_shown : ShowsInOrder one_section (unsettled (wrote 9 ∷ [])) → ⊥
   -- a section that read a value that nobody wrote
   pub unwritten : ReadSerially (read_five ∷ []) → ⊥
-  -- a record is in no empty map, and the join of two empty ones does not have it
+  -- a map with a record is not below the empty map, and is not the join of two empty maps
   pub not_below : IsSubmap (wrote 7 ∷ []) [] → ⊥
   pub no_join : IsLeastUpperBound [] [] (wrote 7 ∷ []) → ⊥
 

@@ -25,8 +25,8 @@ journal_in (Some m) = Some m.journal
 abbrev pub journal_at : {S M : Type 0} → ClusterState S M → ℕ → Option JournalState
 journal_at g i = journal_in (slice_get g.members i)
 
--- the trace is that of a run, after which nodes 0 and 1 have these journals; they agree, and j is
--- their join, with these registers
+-- the trace is that of a run, after which node 0 has the journal a and node 1 the journal b; these
+-- agree, j is their join, and register 0 of j has these contents
 pub record Merges {H S M : Type 0} (core : Core H S M) (IsShape : H → Type 0) (shape : H)
     (trace : List Entry) (a b j : JournalState) (registers : List Content) : Type 0 where
   pub happens : Happens core IsShape shape trace
@@ -36,7 +36,7 @@ pub record Merges {H S M : Type 0} (core : Core H S M) (IsShape : H → Type 0) 
   pub join : IsLeastJournal a b j
   pub shown : registers_in 1 j ≡ registers
 
--- a section that read these values and wrote this one, all of register 0
+-- the receipt of a section with these reads, which wrote this value to register 0
 abbrev pub receipt : ℕ → ℕ → List Read → ℕ → Receipt
 receipt number node reads value =
     record {
@@ -50,7 +50,7 @@ receipt number node reads value =
 abbrev pub got : ℕ → Read
 got value = record { value = value; register = 0; after = 0 }
 
--- node 1 withdraws a request; node 0 enters section 1, and sends its request twice on the way
+-- node 1 withdraws a request; node 0 sends its request twice, enters section 1, writes 7 and leaves
 abbrev pub first_part : List Entry
 first_part =
     is (event.Ask 1) (Asked (stamp 1 1)) ∷ is (event.Cancel 1) Cancelled ∷
@@ -69,8 +69,8 @@ second_part =
     ∷ is (event.Leave 0) (Left (receipt 2 0 (got 7 ∷ []) 9)) ∷
     is (event.Settle 0 1) Settled ∷ []
 
--- node 1 enters section 3, and reads there once it has node 0's base and record; node 0 settles
--- section 2
+-- node 1 enters section 3; its first read there is refused, and the next returns a value, once node
+-- 1 has node 0's base and record; node 0 settles section 2
 abbrev pub third_part : List Entry
 third_part =
     is (event.Ask 1) (Asked (stamp 3 1)) ∷ is (event.Deliver 6) Delivered
@@ -93,7 +93,8 @@ fourth_part =
 abbrev pub journals_trace : List Entry
 journals_trace = first_part ++ (second_part ++ (third_part ++ fourth_part))
 
--- the base of a given number of sections; this one wrote the value to register 0
+-- the base of sections 1 to `upto`: section `number` wrote the value to register 0, and no section
+-- wrote another register
 abbrev pub base : ℕ → ℕ → ℕ → BaseState
 base upto value number =
     record {
@@ -110,7 +111,7 @@ entry number node value =
       writes = record { items = record { register = 0; value = value } ∷ [] };
     }
 
--- the journal of node 0 at the end, the one of node 1, and both together
+-- the journal of node 0 after the run, that of node 1, and the join of both
 abbrev pub zeros_journal : JournalState
 zeros_journal = record { base = base 2 9 2; records = entry 4 0 6 ∷ [] }
 
@@ -120,6 +121,6 @@ ones_journal = record { base = base 1 7 1; records = entry 2 0 9 ∷ entry 3 1 5
 abbrev pub joint_journal : JournalState
 joint_journal = record { base = base 2 9 2; records = entry 3 1 5 ∷ entry 4 0 6 ∷ [] }
 
--- register 0 has the value of section 4
+-- register 0 has the value that section 4 wrote
 abbrev pub joint_registers : List Content
 joint_registers = record { value = 6; by = Some 4 } ∷ []

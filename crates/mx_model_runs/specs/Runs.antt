@@ -1,5 +1,5 @@
--- A run of an idle cluster, and one trace of each algorithm: node 0 is in section 1 while node 1
--- waits, and then node 1 enters section 2.
+-- A run of a cluster that starts idle, and one trace of each algorithm: node 0 is in section 1
+-- while node 1 waits, and then node 1 enters section 2.
 use Rattle.std.specs.Prelude.{ℕ, ◌≡◌, true, false, List, [], ◌∷◌, map}
 use Rattle.mx_stamps.specs.Lists.{each_below}
 use Rattle.mx_stamps.specs.declared.stamp.Stamp.{Stamp}
@@ -29,7 +29,8 @@ at_rest core shape =
 abbrev pub events_of : List Entry → List Event
 events_of trace = map (λ (e : Entry). e.event) trace
 
--- over this valid shape, the events of the trace have the outcomes in it
+-- the shape is valid, and the events of the trace, run in a cluster that starts idle, have the
+-- outcomes of the trace
 pub record Happens {H S M : Type 0} (core : Core H S M) (IsShape : H → Type 0) (shape : H)
     (trace : List Entry) : Type 0 where
   pub valid : IsShape shape
@@ -62,7 +63,7 @@ ricart_trace =
     ∷ is (Leave 0) (Left first_receipt) ∷
     is (Deliver 3) Delivered ∷ is (Enter 1) (Entered 2) ∷ []
 
--- two nodes: the set of node 0 has only node 0, and the set of node 1 has both
+-- two nodes: node 0 is the only arbiter of node 0, and both are arbiters of node 1
 abbrev pub two_sets : Family
 two_sets = record { count = 2; rows = (true ∷ false ∷ []) ∷ (true ∷ true ∷ []) ∷ [] }
 

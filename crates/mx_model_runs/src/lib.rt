@@ -1,8 +1,8 @@
-//! Runs that the step tables prove: small clusters, from the start. For each of the three
-//! algorithms there is one in which a node enters the first section while the other waits, and then
-//! that one enters the second. One more run has events of every kind, and its journals are merged.
-//! So there are clusters that act and have the properties that the promise relies on. Small
-//! histories and journals show what the definitions refuse.
+//! Runs of small clusters from the start, proved from the algorithms' step tables. In the run of
+//! each of the three algorithms, node 0 is in section 1 while node 1 waits, and then node 1 enters
+//! section 2. One more run has events of every kind, and its journals are merged. So clusters with
+//! the properties that the promise relies on exist, and do something. Small histories and journals
+//! show what the definitions of the promise refuse.
 #![tactic(auto)]
 
 mod definitions;

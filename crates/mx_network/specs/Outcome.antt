@@ -1,4 +1,4 @@
--- The outcome of a member's result.
+-- The outcome in a trace, by a member's result.
 use Rattle.std.specs.Prelude.{ℕ, Ok, Err}
 use Rattle.mx_nodelaws.specs.declared.faults.AskFault.TheVariants as ask
 use Rattle.mx_nodelaws.specs.declared.faults.CancelFault.TheVariants as cancel
@@ -13,8 +13,9 @@ use Rattle.mx_trace.specs.declared.outcome.Outcome.{Outcome}
 use Rattle.mx_trace.specs.declared.outcome.Outcome.TheVariants.{Asked, Entered, Value, Written, Left, Cancelled, Settled, Sent, Delivered, Woken, Refused}
 use Rattle.mx_trace.specs.declared.outcome.Cause.TheVariants as cause
 
--- the outcome of a result, and of the number of parcels that were sent with it. In a cluster no
--- read meets its own section settled, so its outcome here never occurs
+-- the outcome in a trace, by the result of an act and the number of parcels that the act sent. In a
+-- cluster no read is refused because its own section is settled, so the outcome of `read.Settled`
+-- never occurs
 abbrev pub outcome_of : Answer → ℕ → Outcome
 outcome_of (answer.Asked (Ok stamp)) sent = Asked stamp
 outcome_of (answer.Asked (Err ask.NotIdle)) sent = Refused cause.NotIdle

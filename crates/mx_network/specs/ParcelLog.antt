@@ -5,21 +5,21 @@ use Rattle.mx_member.specs.declared.parcel.Parcel.{Parcel}
 use Rattle.mx_member.specs.declared.parcel.Parcel.TheVariants.{Want}
 use Rattle.mx_network.specs.declared.parcel_log.Sending.{Sending}
 
--- the parcels that were sent, in order, and the room for more
+-- the parcels that were sent, in order, and for how many more there is room
 pub record ParcelLogState (M : Type 0) : Type 0 where
   pub sent : List (ℕ × ℕ × Parcel M)
   pub room : ℕ
 
--- the parcel that is stored at this place; after the end, an empty want
+-- the parcel that is stored at this place; an empty want if the place is after the last one
 abbrev pub kept_at : {M : Type 0} → List (Parcel M) → ℕ → Parcel M
 kept_at kept place = get_or kept place (Want (record { items = [] }))
 
--- the parcels that were sent, by their places
+-- the parcels that were sent, each with sender and addressee, by the places where they are stored
 abbrev pub sent_of : {M : Type 0} → List (Parcel M) → List Sending → List (ℕ × ℕ × Parcel M)
 sent_of kept [] = []
 sent_of kept (s ∷ ss) = (s.from, s.to, kept_at kept s.place) ∷ sent_of kept ss
 
--- each place is below this number of stored parcels
+-- the place of each sending is below this number of stored parcels
 abbrev pub AreKept : ℕ → List Sending → Type 0
 AreKept kept [] = Unit {0}
 AreKept kept (s ∷ ss) = (s.place < kept) × AreKept kept ss

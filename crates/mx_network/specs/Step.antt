@@ -28,18 +28,19 @@ pub record ClusterState (S M : Type 0) : Type 0 where
   pub sent : List (ℕ × ℕ × Parcel M)
   pub trace : List Entry
 
--- the step of an act, with its result as an outcome
+-- the step of a member by an act, with the outcome instead of the result
 abbrev pub answer_of : {H S M : Type 0} → Core H S M → Act M → MemberState S →
     Done (MemberState S) Outcome (Parcel M)
 answer_of core a m = answering (act_of core a m)
     (outcome_of (act_of core a m).answer (length (act_of core a m).letters))
 
--- a parcel is delivered to its addressee
+-- the addressee of the parcel, and the act of taking it; a fault if there is no such parcel
 abbrev pub delivery_of : {M : Type 0} → Option (ℕ × ℕ × Parcel M) → Result (ℕ × Act M) StepFault
 delivery_of None = Err NoParcel
 delivery_of (Some p) = Ok (p.1, act.Deliver p.0 p.2)
 
--- the node of an event, and the act that this node does, in a cluster of this many nodes
+-- the node of an event, and the act that this node does, in a cluster with this number of nodes and
+-- these parcels sent; a fault if a want goes to no node, or a delivery has no parcel
 abbrev pub part_of : {M : Type 0} → ℕ → List (ℕ × ℕ × Parcel M) → Event →
     Result (ℕ × Act M) StepFault
 part_of nodes sent (event.Ask i) = Ok (i, act.Ask)
@@ -54,7 +55,7 @@ part_of nodes sent (event.Want i j) = if nat_lt j nodes then Ok (i, act.Want j) 
 part_of nodes sent (event.Deliver k) = delivery_of (slice_get sent k)
 part_of nodes sent (event.Restart i) = Ok (i, act.Restart)
 
--- the act that a node does by itself. A delivery is none; a restart is the placeholder
+-- the act of an event other than a delivery; for a delivery, a restart as a placeholder
 abbrev pub own_act : {M : Type 0} → Event → Act M
 own_act (event.Ask i) = act.Ask
 own_act (event.Enter i) = act.Enter
@@ -68,12 +69,13 @@ own_act (event.Want i j) = act.Want j
 own_act (event.Deliver k) = act.Restart
 own_act (event.Restart i) = act.Restart
 
--- the event is no delivery
+-- the event is not a delivery
 abbrev pub IsByItself : Event → Type 0
 IsByItself (event.Deliver k) = ⊥
 IsByItself _ = Unit {0}
 
--- the node that does this by itself, in a cluster of this many nodes. None does a delivery
+-- the node of an event other than a delivery, in a cluster with this number of nodes; a fault for a
+-- delivery, and for a want to no node
 abbrev pub own_node : ℕ → Event → Result ℕ StepFault
 own_node nodes (event.Ask i) = Ok i
 own_node nodes (event.Enter i) = Ok i
@@ -87,7 +89,8 @@ own_node nodes (event.Want i j) = if nat_lt j nodes then Ok i else Err NoNode
 own_node nodes (event.Deliver k) = Err NoParcel
 own_node nodes (event.Restart i) = Ok i
 
--- node i has taken its step: its parcels join those sent, and the event its trace
+-- the cluster after this step of node i: the parcels of the step join those sent, and the event
+-- joins the trace with its outcome
 abbrev pub grown : {S M : Type 0} → ClusterState S M → Event → ℕ →
     Done (MemberState S) Outcome (Parcel M) → ClusterState S M
 grown g event i done = record {
@@ -106,8 +109,8 @@ abbrev pub at_part : {H S M : Type 0} → Core H S M → ClusterState S M → Ev
 at_part core g event (Err fault) = Err fault
 at_part core g event (Ok p) = at_member core g event p.0 p.1 (slice_get g.members p.0)
 
--- a member has done its act, its parcels are in the outbox, and the event joins the trace with its
--- outcome
+-- the member is as after the act, `out` has the parcels that the act sends, and the trace has one
+-- more item: the event with its outcome
 pub record NotesAct {H S M : Type 0} (core : Core H S M) (event : Event) (a : Act M)
     (old : MemberState S) (before : List Entry) (new : MemberState S) (out : List (ℕ
     × Parcel M)) (trace : List Entry) : Type 0 where
@@ -116,16 +119,17 @@ pub record NotesAct {H S M : Type 0} (core : Core H S M) (event : Event) (a : Ac
   pub noted : trace ≡ before
       ++ (record { event = event; outcome = (answer_of core a old).answer }) ∷ []
 
--- the cluster after an event, or why there is no such event
+-- the cluster after an event; a fault if the event names a node or parcel that does not exist
 abbrev pub step_of : {H S M : Type 0} → Core H S M → ClusterState S M → Event →
     Result (ClusterState S M) StepFault
 step_of core g event = at_part core g event (part_of (length g.members) g.sent event)
 
--- the fault is that of the step, or memory ran out if the step has none
+-- the fault is that of the wanted result, or Memory if the wanted result is no fault
 abbrev pub IsFaultOf : {G : Type 0} → Result G StepFault → StepFault → Type 0
 IsFaultOf wanted fault = ((fault ≡ Memory) × IsOk wanted) ⊎ (wanted ≡ Err fault)
 
--- the event was applied, or the step has this fault, and nothing changed
+-- if the call succeeds, the cluster is that after the event; if it fails, the fault is that of the
+-- step or Memory, and the cluster is unchanged
 pub record IsStep {H S M : Type 0} (core : Core H S M) (event : Event) (old new : ClusterState S M)
     (r : Result (Unit {0}) StepFault) : Type 0 where
   pub ok : OnOk r (step_of core old event ≡ Ok new)
@@ -156,7 +160,7 @@ abbrev pub IsInsideAt : {H S M : Type 0} → Core H S M → ClusterState S M →
 IsInsideAt {H} {S} core g i =
     (m : MemberState S) × (slice_get g.members i ≡ Some m) × IsInside core m.core
 
--- and is in section n
+-- node i of the cluster is inside section n
 abbrev pub IsInsideWith : {H S M : Type 0} → Core H S M → ClusterState S M → ℕ → ℕ → Type 0
 IsInsideWith {H} {S} core g i n =
     (m : MemberState S) × (slice_get g.members i ≡ Some m) × (core.phase m.core ≡ Inside n)
@@ -166,7 +170,7 @@ pub record IsUnchanged {S M : Type 0} (old new : ClusterState S M) : Type 0 wher
   pub members : new.members ≡ old.members
   pub sent : new.sent ≡ old.sent
 
--- the read of a section that is settled is refused
+-- the event is a read, and the cause is that the section that reads is settled
 abbrev pub IsSettledRead : Event → Cause → Type 0
 IsSettledRead (event.Read i register) (cause.Below n) = Unit {0}
 IsSettledRead _ _ = ⊥
@@ -177,7 +181,7 @@ AreUnsettled trace =
     (entry : Entry) (cause : Cause) → IsIn entry trace → entry.outcome ≡ Refused cause →
     IsSettledRead entry.event cause → ⊥
 
--- the member to which a parcel was sent can take it
+-- each parcel that was sent can be taken by the member to which it was sent
 abbrev pub AreTakeable : {S M : Type 0} → ClusterState S M → Type 0
 AreTakeable {S} {M} g =
     (from to : ℕ) (parcel : Parcel M) (m : MemberState S) → IsIn (from, to, parcel) g.sent →

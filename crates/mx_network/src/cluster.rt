@@ -1,4 +1,4 @@
-//! The cluster.
+//! The cluster: it applies events, and has the trace and the parcels that were sent.
 
 ghost use Rattle.std.specs.Prelude.{◌≡◌, ◌≤◌, ◌<◌, ◌↔◌, ℕ, [], ◌∷◌, ◌++◌, length, OnOk, OnErr, IfOk, IfErr, IfSome, MatchOption, slice_get, take};
 ghost use Rattle.mx_stamps.specs.declared.limits.TheConstants.{MAX_REGISTERS, MAX_SECTIONS};
@@ -30,7 +30,8 @@ use mx_trace::{Cause, Entry, Outcome};
 use std::alloc::{AllocError, Global};
 use std::marker::Model;
 
-/// A cluster: members, the parcels that they have sent, and the trace of all events.
+/// A cluster: members, the parcels that they have sent, and the trace of all events with their
+/// outcomes.
 #[derive(Drop)]
 pub struct Cluster<C: Exclusion> {
     pub(crate) members: Vec<Member<C>>,
@@ -64,8 +65,9 @@ impl<C: Exclusion> Model for Cluster<C> {
 }
 
 impl<C: Exclusion> Cluster<C> {
-    /// Creates a cluster of idle members. The numbers of requests count on from `origin`, `limit`
-    /// is the greatest section number, and there are `registers` registers with the value 0.
+    /// Creates a cluster of idle members. The algorithm's stamps, grants or hops get numbers above
+    /// `origin`, `limit` is the greatest section number, and there are `registers` registers with
+    /// the value 0.
     ///
     /// # Errors
     ///
@@ -98,13 +100,13 @@ impl<C: Exclusion> Cluster<C> {
     }
 
     /// Applies one event, adds it to the trace, and returns its outcome. An event that its node
-    /// refuses is in the trace too, but changes no member and sends nothing.
+    /// refuses joins the trace too, but changes no member and sends nothing.
     ///
     /// # Errors
     ///
     /// Returns `NoNode` if the event names a node that the cluster does not have, and `NoParcel` if
-    /// no parcel of its number was sent. Returns `Memory` if neither is so and memory runs out. On
-    /// an error the cluster is unchanged.
+    /// it delivers a parcel that was not sent. Returns `Memory` if there is no such fault and
+    /// memory runs out. On an error the cluster is unchanged.
     pub fn step(&mut self, event: Event) -> Result<Outcome, StepFault>
         ensures ok { OnOk result (step_of C.core self.old event ≡ Ok self.new) }
         ensures outcome { IfOk result (λ outcome. self.new.trace ≡ self.old.trace
@@ -130,8 +132,8 @@ impl<C: Exclusion> Cluster<C> {
         Ok(newest(&self.trace))
     }
 
-    /// Applies one event, as `step` does, without returning its outcome: that of the newest item of
-    /// the trace.
+    /// Applies one event as `step` does, but does not return the outcome, which the newest item of
+    /// the trace has.
     ///
     /// # Errors
     ///
@@ -151,8 +153,8 @@ impl<C: Exclusion> Cluster<C> {
         self.apply(event)
     }
 
-    /// Reserves memory for more events and parcels, so that their lists need not grow step by step.
-    /// Nothing else changes.
+    /// Reserves memory for `events` more events and as many parcels, so that their lists need not
+    /// grow step by step. Nothing else changes.
     ///
     /// # Errors
     ///
@@ -193,8 +195,9 @@ impl<C: Exclusion> Cluster<C> {
         Ok(())
     }
 
-    /// Returns the member of this number, if there is one. Its journal knows only sections of this
-    /// trace. If it has no gaps, it shows their writes in order of entry.
+    /// Returns the member of a node, if the cluster has that node. The member's journal knows only
+    /// sections of the trace. If the journal has no gaps, it shows the writes of its sections in
+    /// order of entry.
     pub fn member(&self, node: NodeId) -> Option<&Member<C>>
         ensures value { MatchOption result (slice_get self.now.members node ≡ None)
             (λ member. slice_get self.now.members node ≡ Some member.now) }
@@ -214,7 +217,7 @@ impl<C: Exclusion> Cluster<C> {
     }
 
     /// Returns the sender and the addressee of a parcel, and the parcel itself. Parcels are
-    /// numbered from 0.
+    /// numbered from 0 in the order in which they were sent.
     pub fn parcel(&self, number: u64) -> Option<(NodeId, NodeId, &Parcel<C::Msg>)>
         ensures { MatchOption result (slice_get self.now.sent number ≡ None)
             (λ parcel. slice_get self.now.sent number
@@ -226,7 +229,7 @@ impl<C: Exclusion> Cluster<C> {
         }
     }
 
-    /// Returns the same parcel as `parcel`, with names for its parts.
+    /// Returns what `parcel` returns, as a struct.
     pub fn sent_parcel(&self, number: u64) -> Option<SentParcel<'_, C::Msg>>
         ensures { MatchOption result (slice_get self.now.sent number ≡ None)
             (λ found. slice_get self.now.sent number
@@ -239,9 +242,10 @@ impl<C: Exclusion> Cluster<C> {
     ///
     /// - entries and exits alternate; each exit has the node and the number of the entry before it;
     /// - the n-th entry has the number n;
-    /// - each value read is the register's after the sections before and its section's own writes,
-    ///   and each receipt is that of its section;
-    /// - at most one node is inside: that of the newest section, while it is open;
+    /// - each value read is that of the register after all earlier sections and the writes so far
+    ///   in the draft of the section that reads, and each receipt has the reads and writes of its
+    ///   section's draft;
+    /// - at most one node is inside: the node of the newest section, while that section is open;
     /// - any two journals agree, and a member can take each parcel that was sent to it.
     pub fn trace(&self) -> &[Entry]
         ensures value { result.now ≡ self.now.trace }
@@ -269,9 +273,9 @@ impl<C: Exclusion> Cluster<C> {
     }
 
     /// Merges the journals of these nodes, one after another, into an empty one, and returns their
-    /// least upper bound. They never conflict. A number that is no node adds nothing. The journals
-    /// of all nodes make the journal of the sections, settled as far as any node has settled it,
-    /// and show its registers.
+    /// least upper bound. The journals never conflict. A node that the cluster does not have adds
+    /// nothing. If all nodes are listed, the result covers all sections that were left, is settled
+    /// as far as any node has settled, and shows the registers after these sections.
     ///
     /// # Errors
     ///

@@ -28,7 +28,7 @@ impl From<AllocError> for StepFault {
     }
 }
 
-/// The event of a run that failed, counted from 0, and why. The events before it were applied.
+/// Which event of a run failed, and why. The events before it were applied.
 #[derive(Clone, Copy, Debug, PartialEq, Eq, Error)]
 #[error("event {index}: {fault}")]
 pub struct RunFault {

@@ -1,8 +1,8 @@
-//! A cluster of members in one value, for one thread: events, their outcomes, and the trace. It
-//! names no algorithm, so its theorem holds for every implementation of `Exclusion`. For every list
-//! of events, no two nodes are inside together, and the n-th section entered has the number n. Any
-//! two journals merge, and a journal without gaps shows the writes of the sections in order of
-//! entry.
+//! A cluster of members in one value, for one thread: events, their outcomes, and the trace. The
+//! crate names no algorithm, so its theorem holds for every implementation of `Exclusion`. For
+//! every list of events, no two nodes are inside together, and the n-th section entered has the
+//! number n. Any two journals merge, and a journal without gaps shows the writes of the sections in
+//! order of entry.
 #![tactic(auto)]
 
 mod cluster;

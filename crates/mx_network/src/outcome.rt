@@ -1,4 +1,4 @@
-//! The outcomes for the results of a member.
+//! The outcomes of events, made from the results of a member's calls.
 
 ghost use Rattle.std.specs.Prelude.{ℕ, ◌≡◌};
 ghost use Rattle.mx_member.specs.declared.acts.Answer.TheVariants as answer;
@@ -46,7 +46,7 @@ pub(crate) fn read(told: Result<u64, ReadFault>) -> Outcome
         Err(ReadFault::NoRegister) => Outcome::Refused(Cause::NoRegister),
         Err(ReadFault::Gap(number)) => Outcome::Refused(Cause::Gap(number)),
         Err(ReadFault::Full) => Outcome::Refused(Cause::Full),
-        // no section that a node is inside is settled: `Cluster::step`
+        // in a cluster, no section that a node is inside is settled (see `Cluster::step`)
         Err(ReadFault::Settled(upto)) => Outcome::Refused(Cause::Below(upto)),
     }
 }

@@ -12,7 +12,8 @@ use mx_stamps::NodeId;
 use std::alloc::{AllocError, Global};
 use std::marker::Model;
 
-/// A parcel that was sent: its sender, its addressee, and its place among the stored parcels.
+/// A parcel that was sent: its sender, its addressee, and its place (index) among the stored
+/// parcels.
 #[derive(Clone, Copy)]
 pub(crate) struct Sending {
     from: NodeId,
@@ -21,10 +22,12 @@ pub(crate) struct Sending {
 }
 
 /// The parcels that were sent, in order. A letter to many nodes is stored once: a letter that
-/// equals the one stored last shares its place.
+/// equals the parcel stored last shares the place of that parcel.
 #[derive(Drop)]
 pub(crate) struct ParcelLog<C: Exclusion> {
+    /// The stored parcels; a place is an index here.
     kept: Vec<Parcel<C::Msg>>,
+    /// One item for each parcel that was sent, in order.
     sendings: Vec<Sending>,
 }
 
@@ -43,7 +46,7 @@ impl<C: Exclusion> Model for ParcelLog<C> {
 }
 
 impl<C: Exclusion> ParcelLog<C> {
-    /// Creates an empty list of parcels.
+    /// Creates an empty log.
     pub(crate) fn new(alloc: Global) -> Self
         ensures { result.sent ≡ [] }
     {
@@ -53,7 +56,7 @@ impl<C: Exclusion> ParcelLog<C> {
         }
     }
 
-    /// Reserves memory for a given number of parcels more.
+    /// Reserves memory for `parcels` more parcels.
     ///
     /// # Errors
     ///
@@ -73,7 +76,7 @@ impl<C: Exclusion> ParcelLog<C> {
         self.sendings.len()
     }
 
-    /// Returns the parcel of this number, counted from 0.
+    /// Returns the parcel of this number, counted from 0, with its sender and addressee.
     pub(crate) fn get(&self, number: u64) -> Option<SentParcel<'_, C::Msg>>
         ensures { MatchOption result (slice_get self.now.sent number ≡ None)
             (λ found. slice_get self.now.sent number
@@ -89,7 +92,8 @@ impl<C: Exclusion> ParcelLog<C> {
         }
     }
 
-    /// Sends the parcels of a member, and empties its outbox. There is room for a full outbox.
+    /// Adds the parcels of `out`, which node `from` sends, to the log, and empties `out`. The log
+    /// must have room for a full outbox.
     pub(crate) fn send_all(&mut self, from: NodeId, out: &mut Outbox<Parcel<C::Msg>>)
         requires { OUTBOX_ROOM ≤ self.old.room }
         ensures sent { self.new.sent ≡ self.old.sent ++ sent_by from out.old }
@@ -101,7 +105,8 @@ impl<C: Exclusion> ParcelLog<C> {
         out.clear();
     }
 
-    /// Sends a parcel. There is room for it.
+    /// Adds a parcel, which node `from` sends to node `to`, to the log. The log must have room for
+    /// it.
     fn send(&mut self, from: NodeId, to: NodeId, parcel: &Parcel<C::Msg>)
         requires { 0 < self.old.room }
         ensures sent { self.new.sent ≡ self.old.sent ++ (from, to, parcel.now) ∷ [] }
@@ -113,8 +118,8 @@ impl<C: Exclusion> ParcelLog<C> {
     }
 }
 
-/// Stores a parcel after the others, unless it is a letter that equals the last. There is room for
-/// it.
+/// Stores a parcel after the others, unless it is a letter that equals the last of them. `kept` has
+/// room for it.
 fn keep<C: Exclusion>(kept: &mut Vec<Parcel<C::Msg>>, parcel: &Parcel<C::Msg>)
     requires { vec_len kept.old < vec_capacity kept.old }
     ensures kept { IsKeptIn parcel.now kept.old.items kept.new.items }
@@ -136,7 +141,7 @@ fn is_last<C: Exclusion>(kept: &[Parcel<C::Msg>], parcel: &Parcel<C::Msg>) -> bo
     }
 }
 
-/// Appends a copy.
+/// Appends a copy of the parcel. `kept` must have room for it.
 fn push<M: Copy>(kept: &mut Vec<Parcel<M>>, parcel: &Parcel<M>)
     requires { vec_len kept.old < vec_capacity kept.old }
     ensures items { kept.new.items ≡ kept.old.items ++ parcel.now ∷ [] }

@@ -22,7 +22,7 @@ use mx_trace::{Cause, Entry, Outcome};
 use std::alloc::{AllocError, Global};
 
 impl<C: Exclusion> Cluster<C> {
-    /// Applies one event.
+    /// Applies one event, and adds it to the trace with its outcome.
     pub(crate) fn apply(&mut self, event: Event) -> Result<(), StepFault>
         ensures { IsStep C.core event self.old self.new result }
     {
@@ -32,8 +32,8 @@ impl<C: Exclusion> Cluster<C> {
         }
     }
 
-    /// Delivers a parcel to its addressee. Memory is reserved before anything changes; `Memory` is
-    /// returned only if there is such a parcel.
+    /// Delivers the parcel of this number to its addressee. Memory is reserved before anything
+    /// changes; `Memory` is returned only if the parcel was sent.
     fn deliver(&mut self, number: u64) -> Result<(), StepFault>
         ensures { IsStep C.core (Event.Deliver number) self.old self.new result }
     {
@@ -58,7 +58,8 @@ impl<C: Exclusion> Cluster<C> {
         }
     }
 
-    /// Applies an act that a node does by itself. Memory is reserved before anything changes.
+    /// Applies an event that a node does by itself: any but a delivery. Memory is reserved before
+    /// anything changes.
     fn act(&mut self, event: &Event) -> Result<(), StepFault>
         requires { IsByItself event.now }
         ensures { IsStep C.core event.now self.old self.new result }
@@ -80,7 +81,7 @@ impl<C: Exclusion> Cluster<C> {
     }
 }
 
-/// Creates the idle members, in order.
+/// Creates an idle member for each node of the shape, in order of node numbers.
 pub(crate) fn start_members<C: Exclusion>(
     alloc: Global,
     shape: &C::Shape,
@@ -107,18 +108,20 @@ pub(crate) fn start_members<C: Exclusion>(
     Ok(members)
 }
 
-/// Returns the node that does this by itself, in a cluster of this many nodes.
+/// Returns the node of an event, in a cluster of `nodes` nodes. Returns `NoNode` for a `Want` whose
+/// second node does not exist, and `NoParcel` for a delivery.
 fn node_of(nodes: usize, event: &Event) -> Result<NodeId, StepFault>
     ensures { result ≡ own_node nodes event.now }
 {
     match event {
         Event::Want(_, other) if other.get() as usize >= nodes => Err(StepFault::NoNode),
-        // a delivery is its addressee's, and the parcel has that
+        // a delivery names no node: it is an event of the parcel's addressee
         _ => event.node().ok_or(StepFault::NoParcel),
     }
 }
 
-/// Reserves memory for all that an event may add: the parcels of a full outbox, and an item.
+/// Reserves memory for all that an event may add: the parcels of a full outbox, and an item of the
+/// trace.
 fn reserve<C: Exclusion>(
     parcel_log: &mut ParcelLog<C>,
     trace: &mut Vec<Entry>,
@@ -133,7 +136,7 @@ fn reserve<C: Exclusion>(
 }
 
 /// Delivers a parcel that the member can take, so that only memory can be missing, and adds the
-/// delivery to the trace. There is room for it.
+/// delivery to the trace, which has room for it.
 fn take_and_note<C: Exclusion>(
     member: &mut Member<C>,
     number: u64,
@@ -156,12 +159,14 @@ fn take_and_note<C: Exclusion>(
             note(trace, &Event::Deliver(number), Outcome::Delivered);
             Ok(())
         }
-        // it can take the parcel: the sender is no stranger, and no record leads to a conflict
+        // the member can take the parcel: the sender is no stranger, and nothing leads to a
+        // conflict
         Err(_) => Err(AllocError),
     }
 }
 
-/// Applies an event to a member, and adds it to the trace. There is room for it.
+/// Applies an event other than a delivery to a member, and adds it to the trace, which has room for
+/// it.
 fn do_and_note<C: Exclusion>(
     member: &mut Member<C>,
     event: &Event,
@@ -230,7 +235,7 @@ fn leave_and_note<C: Exclusion>(
     }
 }
 
-/// Adds an item to the trace. There is room for it.
+/// Adds an event with its outcome to the trace, which has room for it.
 #[inline(always)]
 fn note(trace: &mut Vec<Entry>, event: &Event, outcome: Outcome)
     requires { vec_len trace.old < vec_capacity trace.old }
@@ -243,7 +248,7 @@ fn note(trace: &mut Vec<Entry>, event: &Event, outcome: Outcome)
     });
 }
 
-/// Returns the outcome of the newest item.
+/// Returns the outcome of the trace's newest item.
 pub(crate) fn newest(trace: &[Entry]) -> Outcome
     requires { 0 < length trace.now }
     ensures { (front : List Entry) (entry : Entry) → trace.now ≡ front ++ entry ∷ [] →

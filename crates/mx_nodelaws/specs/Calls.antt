@@ -1,4 +1,4 @@
--- The calls of a node, by its phase, as all algorithms share them.
+-- What ask, enter, leave and cancel do in each phase of a node, as far as all algorithms share it.
 use Rattle.std.specs.Prelude.{ℕ, ◌+◌, Bool, [], Result, Ok, Err, nat_lt, if◌then◌else◌}
 use Rattle.mx_stamps.specs.declared.stamp.Stamp.{Stamp}
 use Rattle.mx_stamps.specs.Numbers.{last_number}
@@ -21,7 +21,8 @@ unchanged s answer = record { state = s; answer = answer; letters = [] }
 abbrev pub refused : {S : Type 0} → S → EnterFault → Quiet S (Result ℕ EnterFault)
 refused s fault = record { state = s; answer = Err fault }
 
--- ask: an idle node asks, unless the counter that its stamps are drawn from is at its end
+-- ask: an idle node makes a request, and the result is its stamp, unless the node's counter has
+-- reached the last number. A node that waits or is inside is refused
 abbrev pub ask_by : {S M : Type 0} → (S → ℕ) → (S → Done S Stamp M) → Phase → S →
     Done S (Result Stamp AskFault) M
 ask_by counter asked Idle s =
@@ -31,11 +32,12 @@ ask_by counter asked Idle s =
 ask_by counter asked Waiting s = unchanged s (Err NotIdle)
 ask_by counter asked (Inside n) s = unchanged s (Err NotIdle)
 
--- enter: the section's number is one above the highest that the node knows
+-- an accepted enter: the result is the section's number, one above the highest that the node knows
 abbrev pub entered_by : {S : Type 0} → (S → ℕ) → (S → S) → S → Quiet S (Result ℕ EnterFault)
 entered_by top entering s = record { state = entering s; answer = Ok (top s + 1) }
 
--- a waiting node enters if it has every permission and the limit is not reached
+-- enter: a waiting node enters if every permission has come, and the highest section number that it
+-- knows is below the limit
 abbrev pub enter_by : {S : Type 0} → (S → Bool) → (S → ℕ) → (S → ℕ) → (S → S) → Phase → S →
     Quiet S (Result ℕ EnterFault)
 enter_by granted top limit entering Idle s = refused s NotWaiting

@@ -1,4 +1,4 @@
--- The step table of an exclusion algorithm, and the promises on phases.
+-- The step table of an exclusion algorithm, and what it promises about the phase of a node.
 use Rattle.std.specs.Prelude.{ℕ, ◌<◌, ◌≤◌, ◌≡◌, ◌≢◌, ◌↔◌, Bool, true, false, [], Result, Ok, Err}
 use Rattle.mx_stamps.specs.declared.limits.TheConstants.{MAX_SECTIONS}
 use Rattle.mx_stamps.specs.declared.stamp.Stamp.{Stamp}
@@ -13,37 +13,38 @@ use Rattle.mx_nodelaws.specs.declared.faults.EnterFault.TheVariants.{NotWaiting,
 use Rattle.mx_nodelaws.specs.declared.faults.LeaveFault.{LeaveFault}
 use Rattle.mx_nodelaws.specs.World.{Done, Quiet}
 
--- the step table of an algorithm, over shapes H, states S and letters M
+-- the step table of an algorithm: H are its shapes, S the states of a node, and M its letters
 pub record Core (H S M : Type 0) : Type 0 where
   -- the number of nodes in a shape
   pub count : H → ℕ
-  -- the state of a node that has just been started, from the shape, the node, the origin and the
-  -- limit
+  -- the state of a node that has just been started, from the shape, the node, the origin (stamps,
+  -- grants or hops get numbers above it) and the limit (the greatest section number)
   pub start : H → ℕ → ℕ → ℕ → S
   pub phase : S → Phase
+  -- the number of the last section that the node entered, or 0 before the first
   pub mine : S → ℕ
   pub limit : S → ℕ
   pub can_enter : S → Bool
   pub ask : S → Done S (Result Stamp AskFault) M
-  -- the step at a delivery, from the sender, its letter and the state
+  -- the step of a node when a letter is delivered, from the sender, the letter and the state
   pub deliver : ℕ → M → S → Done S (Unit {0}) M
   pub enter : S → Quiet S (Result ℕ EnterFault)
   pub leave : S → Done S (Result ℕ LeaveFault) M
   pub cancel : S → Done S (Result (Unit {0}) CancelFault) M
   pub tick : S → Done S (Unit {0}) M
 
--- a node in this phase is inside
+-- a node in this state is inside a section
 abbrev pub IsInside : {H S M : Type 0} → Core H S M → S → Type 0
 IsInside core s = (n : ℕ) × (core.phase s ≡ Inside n)
 
--- a section that a node is inside has a number from 1 to 1,000,000
+-- if the phase is Inside, the section's number is from 1 to 1,000,000
 abbrev pub BearsNumber : Phase → Type 0
 BearsNumber Idle = Unit {0}
 BearsNumber Waiting = Unit {0}
 BearsNumber (Inside n) = (0 < n) × (n ≤ MAX_SECTIONS)
 
--- the promises on the phase, on `mine` (the last section that the node entered) and on the limit,
--- for every state
+-- what an algorithm promises, for every state: how each step changes the phase, `mine` and the
+-- limit
 pub record KeepsPhases {H S M : Type 0} (core : Core H S M) : Type 0 where
   -- a node that has just been started is idle, has entered no section, and has the given limit
   pub started_idle : (shape : H) (i origin limit : ℕ) →
@@ -60,7 +61,7 @@ pub record KeepsPhases {H S M : Type 0} (core : Core H S M) : Type 0 where
   pub ask_not_idle : (s : S) → ((core.ask s).answer ≡ Err NotIdle) ↔ (core.phase s ≢ Idle)
   pub ask_mine : (s : S) → core.mine (core.ask s).state ≡ core.mine s
   pub ask_limit : (s : S) → core.limit (core.ask s).state ≡ core.limit s
-  -- a delivery changes none of the three
+  -- a delivery changes neither the phase nor `mine` nor the limit
   pub deliver_phase : (from : ℕ) (m : M) (s : S) →
       core.phase (core.deliver from m s).state ≡ core.phase s
   pub deliver_mine : (from : ℕ) (m : M) (s : S) →
@@ -79,7 +80,7 @@ pub record KeepsPhases {H S M : Type 0} (core : Core H S M) : Type 0 where
   pub enter_not_granted : (s : S) → ((core.enter s).answer ≡ Err NotGranted)
       ↔ ((core.phase s ≡ Waiting) × (core.can_enter s ≡ false))
   pub enter_limit : (s : S) → core.limit (core.enter s).state ≡ core.limit s
-  -- a leave is accepted exactly inside, and its result is the section's number
+  -- a leave is accepted exactly if the node is inside, and the result is the section's number
   pub leave_inside : (s : S) (n : ℕ) → ((core.leave s).answer ≡ Ok n) ↔ (core.phase s ≡ Inside n)
   pub leave_ok : (s : S) (n : ℕ) → (core.leave s).answer ≡ Ok n →
       core.phase (core.leave s).state ≡ Idle
@@ -96,7 +97,7 @@ pub record KeepsPhases {H S M : Type 0} (core : Core H S M) : Type 0 where
       ((core.cancel s).answer ≡ Err cancel.NotWaiting) ↔ (core.phase s ≢ Waiting)
   pub cancel_mine : (s : S) → core.mine (core.cancel s).state ≡ core.mine s
   pub cancel_limit : (s : S) → core.limit (core.cancel s).state ≡ core.limit s
-  -- a tick changes none of the three
+  -- a tick changes neither the phase nor `mine` nor the limit
   pub tick_phase : (s : S) → core.phase (core.tick s).state ≡ core.phase s
   pub tick_mine : (s : S) → core.mine (core.tick s).state ≡ core.mine s
   pub tick_limit : (s : S) → core.limit (core.tick s).state ≡ core.limit s

@@ -1,4 +1,4 @@
--- The laws of an exclusion algorithm, with a predicate Good over worlds.
+-- The laws of an exclusion algorithm, about its invariant: a predicate Good of worlds.
 use Rattle.std.specs.Prelude.{ℕ, ◌+◌, ◌<◌, ◌≤◌, ◌^◌, ◌≡◌, ◌↔◌, true, List, [], Ok, Err, length, nat_lt, if◌then◌else◌}
 use Rattle.mx_stamps.specs.declared.limits.TheConstants.{MAX_SECTIONS}
 use Rattle.mx_stamps.specs.Lists.{IsIn, each_below, greatest}
@@ -7,7 +7,7 @@ use Rattle.mx_nodelaws.specs.World.{World, quietly, IsNode, WasSent, after}
 use Rattle.mx_nodelaws.specs.Core.{Core, IsInside}
 
 module _ {H S M : Type 0} where
-  -- each node has just been started, and nothing was sent
+  -- the world at the start: each node has just been started, and nothing was sent
   abbrev pub started : Core H S M → H → ℕ → ℕ → World S M
   started core shape origin limit = record {
     nodes = each_below (λ i. core.start shape i origin limit) (core.count shape);
@@ -18,13 +18,15 @@ module _ {H S M : Type 0} where
   abbrev pub greatest_mine : Core H S M → World S M → ℕ
   greatest_mine core w = greatest core.mine w.nodes
 
+  -- the laws: Good holds at the start, each step keeps it, and exclusion and numbering follow from
+  -- it
   pub record KeepsGood (core : Core H S M) (IsShape : H → Type 0)
       (Good : World S M → Type 0) : Type 0 where
-    -- start law: the world at rest is Good
+    -- start law: the world at the start is Good, for every valid shape, origin and limit
     pub at_start : (shape : H) (origin limit : ℕ) → IsShape shape → origin < 2 ^ 64 → 0 < limit →
         limit ≤ MAX_SECTIONS → Good (started core shape origin limit)
-    -- step law: each call of each node keeps Good; a delivered letter was sent to that node, at any
-    -- earlier time
+    -- step law: each step of a node keeps Good; a letter may be delivered at any time after it was
+    -- sent to the node
     pub after_ask : (w : World S M) (i : ℕ) (s : S) → Good w → IsNode w i s →
         Good (after w i (core.ask s))
     pub after_deliver : (w : World S M) (i : ℕ) (s : S) (from : ℕ) (m : M) → Good w → IsNode w i s →
@@ -46,8 +48,8 @@ module _ {H S M : Type 0} where
     -- exclusion law: at most one node is inside
     pub one_inside : (w : World S M) (i j : ℕ) (s t : S) → Good w → IsNode w i s → IsNode w j t →
         IsInside core s → IsInside core t → i ≡ j
-    -- numbering law: if a node can enter, nobody is inside, and it draws the next number up to the
-    -- limit
+    -- numbering law: if a node can enter, nobody is inside, and its section gets the number one
+    -- above the greatest so far; if this number is above the limit, the node is refused
     pub entry : (w : World S M) (i : ℕ) (s : S) → Good w → IsNode w i s → core.can_enter s ≡ true →
         ((j : ℕ) (t : S) → IsNode w j t → IsInside core t → ⊥)
         × ((core.enter s).answer ≡ (if nat_lt (greatest_mine core w) (core.limit s)

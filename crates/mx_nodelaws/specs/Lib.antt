@@ -1,8 +1,9 @@
--- World: the core part of a world and of its steps. Core: a step table and the promises on phases.
--- Laws: the start, step, exclusion and numbering laws. Phases, Calls, Bounds and Raised: what the
--- algorithms share on phases, on calls by phase, on u64 values, on numbers that only rise. Rows:
--- the rows of an algorithm, the table that they make, and what an algorithm proves about them.
--- Tests: a test of all nodes below n.
+-- World: the states of the nodes, the letters sent, and the steps of nodes. Core: a step table, and
+-- what it promises about phases. Laws: the start, step, exclusion and numbering laws. Phases: tests
+-- of a phase. Calls: what calls do in each phase. Bounds: every number is a u64 value, and every
+-- node named is one of the world. Raised: numbers that only rise. Tests: a test of all nodes below
+-- n. Rows: the rows of an algorithm, the step table that they make, and what an algorithm proves
+-- about them.
 pub mod World
 pub mod Core
 pub mod Laws

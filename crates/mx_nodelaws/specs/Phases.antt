@@ -3,7 +3,7 @@ use Rattle.std.specs.Prelude.{Bool, true, false}
 use Rattle.mx_nodelaws.specs.declared.phase.Phase.{Phase}
 use Rattle.mx_nodelaws.specs.declared.phase.Phase.TheVariants.{Idle, Waiting, Inside}
 
--- a node that waits or is inside has a current request
+-- whether the node has a current request: it waits or is inside
 abbrev pub is_busy : Phase → Bool
 is_busy Idle = false
 is_busy Waiting = true

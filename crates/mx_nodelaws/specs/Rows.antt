@@ -1,5 +1,5 @@
--- The rows of an algorithm's step table, for the phases in which the call is accepted. Refusals by
--- the phase and the numbers of sections are the same for all algorithms: core_of adds them.
+-- The rows of an algorithm's step table: what each accepted call does. The refusals by the phase,
+-- and the numbers of sections, are the same for all algorithms: core_of adds them.
 use Rattle.std.specs.Prelude.{ℕ, ◌+◌, ◌<◌, ◌≤◌, ◌^◌, ◌≡◌, ◌↔◌, ◌&&◌, Bool, true, List}
 use Rattle.mx_stamps.specs.declared.limits.TheConstants.{MAX_SECTIONS}
 use Rattle.mx_stamps.specs.declared.stamp.Stamp.{Stamp}
@@ -14,22 +14,23 @@ use Rattle.mx_nodelaws.specs.Laws.{started}
 use Rattle.mx_nodelaws.specs.declared.phase.Phase.{Phase}
 use Rattle.mx_nodelaws.specs.declared.phase.Phase.TheVariants.{Idle, Waiting, Inside}
 
--- the rows of an algorithm, over shapes H, states S and letters M
+-- the rows of an algorithm: H are its shapes, S the states of a node, and M its letters
 pub record Rows (H S M : Type 0) : Type 0 where
   -- the number of nodes in a shape
   pub count : H → ℕ
-  -- the state of a node that has just been started, from the shape, the node, the origin and the
-  -- limit
+  -- the state of a node that has just been started, from the shape, the node, the origin (stamps,
+  -- grants or hops get numbers above it) and the limit (the greatest section number)
   pub start : H → ℕ → ℕ → ℕ → S
   pub phase : S → Phase
-  -- the number of the last section that it entered, the highest that it knows, and the limit
+  -- the number of the last section that the node entered, the highest section number that it knows,
+  -- and the limit
   pub mine : S → ℕ
   pub top : S → ℕ
   pub limit : S → ℕ
-  -- the counter that `ask` draws from: the highest stamp number that it has drawn or seen, or how
-  -- many of its requests were accepted
+  -- the counter from which `ask` draws: the highest stamp number that the node has drawn or seen,
+  -- or the number of its requests that were accepted
   pub counter : S → ℕ
-  -- whether every permission for its request has come
+  -- whether every permission for the node's request has come
   pub is_granted : S → Bool
   -- an idle node asks; the result is the stamp of its request
   pub ask : S → Done S Stamp M
@@ -73,7 +74,7 @@ course phase mine limit = record { phase = phase; mine = mine; limit = limit }
 abbrev pub course_of : {H S M : Type 0} → Rows H S M → S → Course
 course_of rows s = course (rows.phase s) (rows.mine s) (rows.limit s)
 
--- the course of a node after each row; the promises on phases follow from this
+-- the course (phase, `mine` and limit) of a node after each row; KeepsPhases follows from this
 pub record KeepsCourse {H S M : Type 0} (rows : Rows H S M) : Type 0 where
   pub start : (shape : H) (i origin limit : ℕ) →
       course_of rows (rows.start shape i origin limit) ≡ course Idle 0 limit
@@ -89,8 +90,8 @@ pub record KeepsCourse {H S M : Type 0} (rows : Rows H S M) : Type 0 where
       course_of rows (rows.cancel s).state ≡ course Idle (rows.mine s) (rows.limit s)
   pub tick : (s : S) → course_of rows (rows.tick s).state ≡ course_of rows s
 
--- each row keeps a world safe, and in a safe world sections exclude one another and are numbered in
--- order
+-- each row keeps a world Safe; in a Safe world at most one node is inside, and sections are
+-- numbered in order of entry
 pub record KeepsSafe {H S M : Type 0} (rows : Rows H S M) (IsShape : H → Type 0)
     (Safe : World S M → Type 0) : Type 0 where
   pub start : (shape : H) (origin limit : ℕ) → IsShape shape →
@@ -112,15 +113,16 @@ pub record KeepsSafe {H S M : Type 0} (rows : Rows H S M) (IsShape : H → Type 
       Safe (record { nodes = w.nodes; sent = sent })
   pub one_inside : (w : World S M) (i j : ℕ) (s t : S) → Safe w → IsNode w i s → IsNode w j t →
       IsInside (core_of rows) s → IsInside (core_of rows) t → i ≡ j
-  -- if a node may enter, nobody is inside, and it knows the number of the last section
+  -- if a node may enter, nobody is inside, and the node's `top` is the greatest section number so
+  -- far
   pub nobody_inside : (w : World S M) (i : ℕ) (s : S) → Safe w → IsNode w i s →
       rows.phase s ≡ Waiting → rows.is_granted s ≡ true → (j : ℕ) (t : S) → IsNode w j t →
       IsInside (core_of rows) t → ⊥
   pub top_greatest : (w : World S M) (i : ℕ) (s : S) → Safe w → IsNode w i s →
       rows.phase s ≡ Waiting → rows.is_granted s ≡ true → greatest rows.mine w.nodes ≡ rows.top s
 
--- each row keeps each number a u64 value and each name one of n nodes, in states (Node) and letters
--- (Letter)
+-- each row keeps the properties Node of states and Letter of letters, which state that every number
+-- is a u64 value, and every node named is one of n nodes
 pub record KeepsBounds {H S M : Type 0} (rows : Rows H S M) (IsShape : H → Type 0)
     (Node : ℕ → S → Type 0) (Letter : ℕ → M → Type 0) : Type 0 where
   pub start : (shape : H) (origin limit i : ℕ) → IsShape shape → origin < 2 ^ 64 →
@@ -135,7 +137,7 @@ pub record KeepsBounds {H S M : Type 0} (rows : Rows H S M) (IsShape : H → Typ
   pub cancel : (n : ℕ) (s : S) → Node n s → IsBoundedDone Node Letter n (rows.cancel s)
   pub tick : (n : ℕ) (s : S) → Node n s → IsBoundedDone Node Letter n (rows.tick s)
 
--- a safe world in which each number is a u64 value and each name a node
+-- a Safe world in which every number is a u64 value, and every node named is one of the world
 pub record IsGoodWorld {S M : Type 0} (Safe : World S M → Type 0) (Node : ℕ → S → Type 0)
     (Letter : ℕ → M → Type 0) (w : World S M) : Type 0 where
   pub safe : Safe w

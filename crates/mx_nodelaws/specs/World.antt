@@ -1,14 +1,16 @@
--- The core part of a world: the nodes' states, and all letters ever sent.
+-- Worlds of an algorithm: the states of the nodes, and all letters ever sent. And the steps of
+-- nodes.
 use Rattle.std.specs.Prelude.{ℕ, zero, suc, ◌≤◌, ◌≡◌, List, length, [], ◌∷◌, ◌++◌, Option, Some, None, slice_get, slice_set}
 use Rattle.mx_stamps.specs.Lists.{IsIn}
 
--- one act of a node: its next state, its result, and its letters in order, each with its addressee
+-- a step of a node: the next state, the result, and the letters sent, in order, each with its
+-- addressee
 pub record Done (S A M : Type 0) : Type 0 where
   pub state : S
   pub answer : A
   pub letters : List (ℕ × M)
 
--- an act that sends nothing: its next state and its result
+-- a step that sends nothing: the next state and the result
 pub record Quiet (S A : Type 0) : Type 0 where
   pub state : S
   pub answer : A
@@ -28,7 +30,7 @@ sending s letters = record { state = s; answer = tt; letters = letters }
 abbrev pub becoming : {S M : Type 0} → S → Done S (Unit {0}) M
 becoming s = sending s []
 
--- one step of a node, followed by another
+-- two steps of a node, one after the other, as one step; the result is that of the first
 abbrev pub and_then : {S A M : Type 0} → Done S A M → (S → Done S (Unit {0}) M) → Done S A M
 and_then first second = record {
   state = (second first.state).state;
@@ -49,12 +51,12 @@ IsNode w i s = slice_get w.nodes i ≡ Some s
 abbrev pub WasSent : {S M : Type 0} → World S M → ℕ → ℕ → M → Type 0
 WasSent w a b m = IsIn (a, b, m) w.sent
 
--- the letters of one act of node i, with their sender
+-- the letters of a step of node i, with node i as their sender
 abbrev pub sent_by : {M : Type 0} → ℕ → List (ℕ × M) → List (ℕ × ℕ × M)
 sent_by i [] = []
 sent_by i (p ∷ ps) = (i, p.0, p.1) ∷ sent_by i ps
 
--- node i takes its step, and its letters join those sent. Nothing else changes
+-- the world after this step of node i: the node has the next state, and its letters join those sent
 abbrev pub after : {S A M : Type 0} → World S M → ℕ → Done S A M → World S M
 after w i done = record {
   nodes = slice_set w.nodes i done.state;
@@ -71,11 +73,11 @@ abbrev pub addressed : {M : Type 0} → (ℕ → Option M) → ℕ → List (ℕ
 addressed f zero = []
 addressed f (suc n) = addressed f n ++ letter_to n (f n)
 
--- the letters to the nodes below n were sent, at most one to each
+-- `out` has the letters of `f` to the nodes below n, in ascending order of addressee: at most n
 abbrev pub AreSentBelow : {M : Type 0} → (ℕ → Option M) → ℕ → List (ℕ × M) → Type 0
 AreSentBelow f n out = (out ≡ addressed f n) × (length out ≤ n)
 
--- a world in which each node and each letter sent is as it should be
+-- each node's state has the property NodeOk, and each letter ever sent has the property LetterOk
 pub record IsEachOk {S M : Type 0} (NodeOk : World S M → ℕ → S → Type 0)
     (LetterOk : World S M → ℕ → ℕ → M → Type 0) (w : World S M) : Type 0 where
   pub nodes : (i : ℕ) (s : S) → IsNode w i s → NodeOk w i s

@@ -7,9 +7,10 @@ use crate::phase::Phase;
 use mx_letters::Outbox;
 use mx_stamps::{NodeId, Stamp};
 
-/// A node of a mutual exclusion algorithm. Its step table is `core`. Each call equals the table in
-/// the new state, the result, and the letters in order. A cluster relies on the laws below the
-/// calls. A refused call changes nothing and sends nothing.
+/// A node of a mutual exclusion algorithm. `core` is the algorithm's step table: for each call, it
+/// gives the node's new state, the result, and the letters (messages) in order, and the call does
+/// exactly this. A refused call changes nothing and sends nothing. A cluster relies on the proofs
+/// `phases` and `laws`.
 pub trait Exclusion: Drop {
     ghost use Rattle.mx_stamps.specs.declared.limits.TheConstants.{MAX_NODES, MAX_SECTIONS};
     ghost use Rattle.mx_nodelaws.specs.World.{World};
@@ -27,10 +28,11 @@ pub trait Exclusion: Drop {
     // the step table
     ghost core: { Core Self.Shape Self Self.Msg };
 
-    // the shapes that the laws speak of
+    // the valid shapes, for which the laws hold
     ghost IsShape: { Self.Shape → Type 0 };
 
-    // the worlds that are reached from the start: it holds at the start, and each step keeps it
+    // an invariant of worlds (the states of all nodes, and all letters ever sent): it holds at the
+    // start, and each step keeps it
     ghost Good: { World Self Self.Msg → Type 0 };
 
     /// Returns the number of nodes.
@@ -44,8 +46,8 @@ pub trait Exclusion: Drop {
     fn is_same(one: &Self::Msg, other: &Self::Msg) -> bool
         ensures { IsTrue result ↔ (one.now ≡ other.now) };
 
-    /// Creates an idle node at the start of a cluster. Its stamps, grants or hops count on from
-    /// `origin`; `limit` is the greatest section number.
+    /// Creates the node `me`, idle, at the start of a cluster. The algorithm's stamps, grants or
+    /// hops get numbers above `origin`; `limit` is the greatest section number.
     fn start(shape: &Self::Shape, me: NodeId, origin: u64, limit: u64) -> Self
         requires node { me < core.count shape.now }
         requires low { 0 < limit }
@@ -64,7 +66,8 @@ pub trait Exclusion: Drop {
         ensures answer { result ≡ (core.ask self.old).answer }
         ensures letters { out.new ≡ (core.ask self.old).letters };
 
-    /// Delivers a letter. A letter that fits no row of the step table is ignored.
+    /// Delivers a letter from node `from`; `out` takes the letters that the node then sends. A
+    /// letter that fits no row of the step table is ignored.
     fn deliver(&mut self, from: NodeId, letter: Self::Msg, out: &mut Outbox<Self::Msg>)
         requires { out.old ≡ [] }
         ensures state { self.new ≡ (core.deliver from letter self.old).state }

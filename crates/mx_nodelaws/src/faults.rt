@@ -9,8 +9,8 @@ pub enum AskFault {
     #[error("not idle")]
     NotIdle,
     /// There is no next stamp: the counter of the node's stamps is at the greatest `u64` value. The
-    /// counter is the highest stamp number that the node has drawn or seen. In an algorithm whose
-    /// stamps number a node's own requests, it is how many of them were accepted.
+    /// counter is the highest stamp number that the node has drawn or seen, or, if stamps number
+    /// only a node's own requests, how many of these were accepted.
     #[error("stamps spent")]
     StampsSpent,
 }

@@ -73,7 +73,8 @@ abbrev pub IsPictureOf : Fields → List ℕ → Text → Type 0
 IsPictureOf p bytes picture =
     (es : List Event) × (events_at p bytes ≡ Ok es) × IsPicture p (length es) picture
 
--- such a picture was added to the output, or nothing was
+-- a picture that satisfies `IsDrawn` was added to the output, and the status is 0; or the run ended
+-- with an error, and nothing was added
 abbrev pub Draws : (Text → Type 0) → Held → Held → Result ℕ CommandError → Type 0
 Draws IsDrawn old new (Ok status) =
     (status ≡ 0) × ((picture : Text) × IsDrawn picture × Appends old new picture)

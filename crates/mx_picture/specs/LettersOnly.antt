@@ -1,4 +1,4 @@
--- What a picture of the letters alone draws.
+-- What a picture with `--letters` draws.
 use Rattle.std.specs.Prelude.{◌&&◌, ℕ, Bool, false, true, not, List, Option, None, Some, slice_get}
 use Rattle.mx_member.specs.declared.parcel.Parcel.{Parcel}
 use Rattle.mx_member.specs.declared.parcel.Parcel.TheVariants as parcel

@@ -6,12 +6,12 @@ use Rattle.mx_cli.specs.Words.{asked_of, by_name, is_given, names_at, names_of, 
 use Rattle.mx_cli.specs.declared.table.CommandId.TheVariants as id
 use Rattle.mx_picture.specs.declared.words.Request.{Request as Told}
 
--- the whole command line
+-- the command line of `mx` with `picture` as its only command
 unfoldable pub picture_line : App
 picture_line = line_of (id.Picture ∷ [])
 
--- the names of the plan and of the events; the first and the last event that are drawn, and the
--- node if it is only one; whether journals are shown, and whether only letters are
+-- the names of the plan and of the events; the indices of the first and the last event drawn; the
+-- only node drawn, if one is named; whether journals are drawn, and whether only letters are
 pub record Request : Type 0 where
   pub names : Text × Text
   pub from : ℕ
@@ -35,7 +35,7 @@ request_of told =
     request (names_of told.names) told.from told.to
     (option_map (λ name. name.now) told.node) told.has_journals told.only_letters
 
--- the given arguments: all events, if no bound was given
+-- the request of the given arguments. A bound that is absent excludes no event
 abbrev pub part_of : List Row → Text × Text → Request
 part_of rows names =
     request names (unwrap_or (number_at (codes "from") rows) 0)

@@ -1,4 +1,4 @@
-//! Arrows of parcels, and the pieces that are left of those whose other end is not shown.
+//! The arrows of parcels, and pieces of arrows that have only one end in the picture.
 
 use crate::columns::Columns;
 use crate::route::Route;
@@ -11,8 +11,8 @@ use std::alloc::AllocError;
 /// How far the piece of an arrow goes to the side, in pixels.
 const ASIDE: u64 = 26;
 
-/// The arrow of a parcel, from the height where it was sent down to its delivery. It is dashed if
-/// the parcel was delivered before.
+/// The arrow of a parcel: it begins at the height `y`, where the parcel was sent, and goes `down`
+/// pixels down to the delivery. It is dashed if the parcel was delivered before (`is_repeat`).
 #[derive(Drop)]
 pub(crate) struct Arrow {
     pub(crate) route: Route,
@@ -45,12 +45,13 @@ impl Arrow {
     }
 }
 
-/// Returns the further class of a parcel that was delivered before.
+/// Returns the class that an arrow has besides its own if the parcel was delivered before.
 fn again(is_repeat: bool) -> &'static str {
     if is_repeat { " again" } else { "" }
 }
 
-/// The way of an arrow: straight down to the other node, or by a bow back to its own.
+/// Appends the way of an arrow from `x` to `to`, and `down` pixels down: straight to another node,
+/// or by a bow back to its own.
 fn add_way(x: u64, to: u64, down: u64, text: &mut String) -> Result<(), AllocError> {
     if to < x {
         let aside = x - to;
@@ -71,7 +72,7 @@ pub(crate) enum End {
     Sending,
     /// The tip, which is dashed if the parcel was delivered before: the sending is not shown.
     Delivery { is_repeat: bool },
-    /// The start, and a cross this far below: the parcel is never delivered.
+    /// The start, and a cross this many pixels below: the parcel is never delivered.
     Loss(u64),
 }
 

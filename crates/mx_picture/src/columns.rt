@@ -8,19 +8,20 @@ use crate::text_width::width_of;
 use mx_plan::Plan;
 use mx_stamps::{MAX_NODES, NodeId};
 
-/// The least and the greatest distance between the lines of neighbours, in pixels.
+/// The least distance between the lines of neighbours, in pixels.
 const MIN_COLUMN: u64 = 60;
 
+/// The greatest distance between the lines of neighbours, in pixels.
 const MAX_COLUMN: u64 = 180;
 
 /// The greatest distance between the first line and the last, in pixels.
 const MAX_SPAN: u64 = 2000;
 
-/// The room between a text and the next line, in pixels.
+/// The room between a text and the line of the next node, in pixels.
 const GAP: u64 = 8;
 
-/// The room that texts want beside the lines of nodes, in pixels: names on both sides, texts of
-/// events on one.
+/// The room that texts want beside the line of each node, in pixels: half its name on both sides,
+/// and texts of events on the left and on the right.
 #[derive(Clone, Copy)]
 struct Room {
     names: [u64; MAX_NODES as usize],
@@ -29,7 +30,8 @@ struct Room {
 }
 
 impl Room {
-    /// Finds the room for the names of the plan's nodes, and for these texts on their first sides.
+    /// Finds the room for the names of the plan's nodes, and for these texts on the sides that they
+    /// prefer.
     fn new(plan: &Plan, labels: &[Label]) -> Self {
         let mut room = Room {
             names: [0; MAX_NODES as usize],
@@ -41,6 +43,7 @@ impl Room {
         room
     }
 
+    /// Adds the room for half of each name.
     fn add_names(&mut self, plan: &Plan) {
         for index in 0..MAX_NODES {
             let name = plan.node_name(index).unwrap_or("");
@@ -48,6 +51,7 @@ impl Room {
         }
     }
 
+    /// Adds the room for these texts on the sides that they prefer.
     fn add_labels(&mut self, labels: &[Label]) {
         for label in labels {
             let index = usize::from(label.node.get());
@@ -60,7 +64,7 @@ impl Room {
         }
     }
 
-    /// Returns the room between the lines of two nodes, the first at the left of the other.
+    /// Returns the distance that names and texts want between the lines of two neighbours.
     fn between(&self, left: NodeId, right: NodeId) -> u64 {
         let left = usize::from(left.get());
         let right = usize::from(right.get());
@@ -73,17 +77,19 @@ impl Room {
 /// The horizontal positions of the lines of nodes, in pixels from the first line.
 #[derive(Clone, Copy)]
 pub(crate) struct Columns {
+    /// The nodes that have a line.
     lanes: Lanes,
     /// The greatest distance between the lines of neighbours.
     widest: u64,
+    /// The position of each node's line.
     places: [u64; MAX_NODES as usize],
     /// The position of the last line.
     pub(crate) last: u64,
 }
 
 impl Columns {
-    /// Finds the columns of these nodes, which are as wide as the texts of their neighbours want,
-    /// or narrower if there is not enough room for all.
+    /// Places the lines of these nodes. Neighbours are as far apart as the texts between them want,
+    /// from `MIN_COLUMN` to `MAX_COLUMN`, or closer if the lines would span more than `MAX_SPAN`.
     pub(crate) fn new(plan: &Plan, lanes: &Lanes, labels: &[Label]) -> Self {
         let room = Room::new(plan, labels);
         let columns = Columns::within(MAX_COLUMN, lanes, &room);
@@ -94,7 +100,7 @@ impl Columns {
         }
     }
 
-    /// Finds the columns if lines are at most `widest` apart.
+    /// Places the lines of these nodes at most `widest` pixels apart.
     fn within(widest: u64, lanes: &Lanes, room: &Room) -> Self {
         let mut columns = Columns {
             lanes: *lanes,
@@ -114,7 +120,7 @@ impl Columns {
         columns
     }
 
-    /// Adds the column of a node, at the right of another, if there is one.
+    /// Places the line of a node: at the right of the line of `before`, or first if that is `None`.
     fn add(&mut self, before: Option<NodeId>, node: NodeId, room: &Room) {
         if let Some(before) = before {
             let width = column_width(room.between(before, node), self.widest);
@@ -134,7 +140,8 @@ impl Columns {
     }
 }
 
-/// Returns the greatest distance between neighbours of this many lines.
+/// Returns the greatest distance between neighbours, up to `MAX_COLUMN`, at which this many lines
+/// fit into `MAX_SPAN`.
 fn widest_column(lines: u64) -> u64
     ensures { result ≤ 180 }
 {
@@ -142,8 +149,8 @@ fn widest_column(lines: u64) -> u64
     MAX_COLUMN.min(MAX_SPAN / columns)
 }
 
-/// Returns the distance between two lines whose texts want this room between them, if lines are at
-/// most `widest` apart.
+/// Returns the distance between two lines whose texts want `room` between them: at most `widest`,
+/// but at least `MIN_COLUMN`.
 fn column_width(room: u64, widest: u64) -> u64
     ensures least { 60 ≤ result }
     ensures most { result ≤ max 60 widest }

@@ -1,4 +1,5 @@
-//! The command: from the arguments, named bytes and two outputs to an exit status.
+//! Runs `picture`: takes its arguments, a source of named bytes and two outputs, and returns an
+//! exit status.
 
 ghost use Rattle.std.specs.Prelude.{IfSome};
 ghost use Rattle.mx_cli.specs.Words.{texts_of};
@@ -39,6 +40,7 @@ pub fn picture<S: Source, O: Output, E: Output>(
     }
 }
 
+/// Prints the requested picture, or reports why there is none. Returns the exit status.
 fn run_picture<S: Source, O: Output, E: Output>(
     alloc: Global,
     request: &Request<'_>,

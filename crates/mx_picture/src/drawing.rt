@@ -1,4 +1,5 @@
-//! The drawing of a run, as a sink: each event gets a row of the sheet, and nothing is printed.
+//! Draws a run. A `Drawing` is a sink, which is told of each event: it gives each event shown a row
+//! of the sheet, and prints nothing.
 
 ghost use Rattle.std.specs.Prelude.{◌<◌, length};
 ghost use Rattle.mx_commands.specs.Runs.{silent};
@@ -23,19 +24,20 @@ use std::collections::HashSet;
 #[derive(Drop)]
 pub(crate) struct Drawing {
     pub(crate) sheet: Sheet,
-    /// The parcels that are delivered, now or later.
+    /// The numbers of the parcels that some event of the run delivers.
     pub(crate) arriving: HashSet<u64>,
-    /// The text that is written next.
+    /// The text that is drawn next, beside a node or as a title.
     pub(crate) label: String,
-    /// The part of the run that is shown, and the journals as shown last.
+    /// The part of the run that is shown.
     pub(crate) part: Part,
+    /// The size of each node's journal when it was last shown.
     journals: ShownJournals,
-    /// Whether events before this one are left out, and a row says so.
+    /// Whether events were left out since the last row, and a row with `..` has to say so.
     has_skipped: bool,
 }
 
 impl Drawing {
-    /// Creates a drawing of a part of these events, before the first.
+    /// Creates the drawing of a part of these events. Nothing is drawn yet.
     pub(crate) fn new(alloc: Global, events: &[Event], part: &Part) -> Result<Self, AllocError> {
         let mut arriving = HashSet::new(alloc);
         for event in events {
@@ -60,6 +62,8 @@ where
 {
     ghost texts = { λ _ _. silent };
 
+    /// Draws the newest event of the cluster. The event has this index, and sent the parcels from
+    /// `before` on.
     fn event(
         &mut self,
         plan: &Plan,
@@ -71,6 +75,8 @@ where
         draw_row(plan, index, before, cluster, self)
     }
 
+    /// Ends the picture: adds a row with `..` if the last events were left out, and draws the
+    /// phases that last to the end. Returns status 0.
     fn end(
         &mut self,
         _alloc: Global,
@@ -84,8 +90,8 @@ where
     }
 }
 
-/// Draws the newest event, of this index, in a new row if it is shown, with the parcels from
-/// `before` on, which it sent.
+/// Draws the newest event and the parcels that it sent, if the event is shown, and otherwise only
+/// notes them. The event has this index, and its parcels have the numbers from `before` on.
 fn draw_row<C: Exclusion>(
     plan: &Plan,
     index: u64,
@@ -109,7 +115,7 @@ where
     drawing.sheet.next_row()
 }
 
-/// Starts a new row for the events before this one that were not shown, if there are any.
+/// Adds a row with `..` for the events that were left out since the last row, if there are any.
 fn add_gap(drawing: &mut Drawing) -> Result<(), AllocError> {
     if drawing.has_skipped {
         drawing.has_skipped = false;
@@ -118,7 +124,8 @@ fn add_gap(drawing: &mut Drawing) -> Result<(), AllocError> {
     Ok(())
 }
 
-/// Draws the newest event at its node. The event sent the parcels from `before` on.
+/// Draws the newest event, `entry`, at its node, or a delivery at the addressee. The event sent the
+/// parcels from `before` on.
 fn draw_event_at_node<C: Exclusion>(
     plan: &Plan,
     before: u64,
@@ -142,7 +149,8 @@ where
     }
 }
 
-/// Appends the contents of the node's journal to the label, if they are shown and have changed.
+/// Appends the contents of the node's journal to the label, if journals are shown and this one has
+/// changed.
 pub(crate) fn write_journal<C: Exclusion>(
     cluster: &Cluster<C>,
     node: NodeId,
@@ -159,8 +167,9 @@ pub(crate) fn write_journal<C: Exclusion>(
     }
 }
 
-/// Returns the side for the text of this node's act, which sent the parcels from `before` on. It is
-/// the left if all of them go to the right, so that no arrow runs under the text.
+/// Returns the side of this node for the text of an event that sent the parcels from `before` on.
+/// It is the left if there are such parcels and all go to the right, so that no arrow runs under
+/// the text.
 fn side_of_act<C: Exclusion>(cluster: &Cluster<C>, node: NodeId, before: u64) -> Side {
     let mut to_left = false;
     let mut to_right = false;
@@ -180,7 +189,7 @@ fn side_of_act<C: Exclusion>(cluster: &Cluster<C>, node: NodeId, before: u64) ->
     }
 }
 
-/// Replaces the label by an act and its outcome.
+/// Replaces the label by the text of an event and its outcome.
 fn write_act(plan: &Plan, entry: &Entry, label: &mut String) -> Result<(), AllocError> {
     let done = EventText {
         plan,
@@ -203,7 +212,7 @@ pub(crate) fn write_parcel<M: Letter>(
     add_parcel(plan, parcel, label)
 }
 
-/// Appends a word, `from` or `to`, and the name of the node at that end of a parcel's way.
+/// Appends `word`, which is `from` or `to`, and the name of the node at that end of a parcel's way.
 pub(crate) fn write_end(
     plan: &Plan,
     word: &str,
@@ -214,7 +223,7 @@ pub(crate) fn write_end(
     write!(label, " {word} {name}")
 }
 
-/// Replaces the label by the number and the text of a parcel, and both its ends.
+/// Replaces the label by the number, the text, the sender and the addressee of a parcel.
 pub(crate) fn write_route<M: Letter>(
     plan: &Plan,
     number: u64,
@@ -226,7 +235,7 @@ pub(crate) fn write_route<M: Letter>(
     write_end(plan, "to", sent.to, label)
 }
 
-/// Describes in words that a node entered or left.
+/// Adds the label to the description of the picture, if a node entered or left a section.
 fn describe_section(outcome: &Outcome, drawing: &mut Drawing) -> Result<(), AllocError> {
     match outcome {
         Outcome::Entered(_) | Outcome::Left(_) => drawing.sheet.describe(drawing.label.as_str()),
@@ -234,8 +243,8 @@ fn describe_section(outcome: &Outcome, drawing: &mut Drawing) -> Result<(), Allo
     }
 }
 
-/// Draws the outcome of an act at its node: a dot, and the node's new phase if it has one. An entry
-/// has the number of its section in place of the dot.
+/// Draws the outcome of an event at its node: a dot, and the new phase if the phase changes. An
+/// entry has no dot: its place is taken by the number of the section.
 fn draw_outcome(node: NodeId, outcome: &Outcome, drawing: &mut Drawing) -> Result<(), AllocError> {
     let title = drawing.label.as_str();
     match phase_after(outcome) {

@@ -1,12 +1,13 @@
 //! The parcels of a run that were sent.
 
-/// A parcel that was sent: the row of its sending, and what is known of it.
+/// A parcel that was sent: the row of its sending, and what else is known of it.
 #[derive(Clone, Copy)]
 pub(crate) struct Flight {
     pub(crate) row: u64,
-    /// Whether the picture shows its sending.
+    /// Whether the picture shows the sending.
     pub(crate) is_shown: bool,
-    /// Whether it is a letter, and not one that a tick sent again.
+    /// Whether the parcel is a letter that no tick sent.
     pub(crate) is_original: bool,
+    /// Whether an event so far delivered the parcel.
     pub(crate) is_delivered: bool,
 }

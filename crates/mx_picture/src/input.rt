@@ -1,4 +1,4 @@
-//! Reading of the plan, then of the events, as `replay` does it; and drawing them.
+//! Reads the plan and then the events, as `replay` does, and prints their picture.
 
 ghost use Rattle.std.specs.Prelude.{◌≡◌, ◌⊎◌, None, length, option_map, string_bytes, IfErr, IfOk, OnOk};
 ghost use Rattle.mx_commands.specs.Jobs.{report_of_events, run_by};
@@ -42,7 +42,7 @@ pub(crate) fn draw<S: Source, O: Output>(
     draw_text(alloc, request, &both.plan, both.text.as_slice(), out)
 }
 
-/// Reads the events and prints their picture.
+/// Reads the events from `text`, and prints a picture of the requested part.
 fn draw_text<O: Output>(
     alloc: Global,
     request: &Request<'_>,
@@ -63,7 +63,8 @@ fn draw_text<O: Output>(
     Ok(0)
 }
 
-/// Returns the requested part of the events.
+/// Returns the part of a run that is requested. Returns an error if the plan lacks the requested
+/// node.
 fn part_of(plan: &Plan, request: &Request<'_>) -> Result<Part, CommandError>
     ensures err { IfErr result (IsUnknownNode plan.now (request_of request.now).node) }
 {
@@ -77,7 +78,8 @@ fn part_of(plan: &Plan, request: &Request<'_>) -> Result<Part, CommandError>
     })
 }
 
-/// Returns the node of this name, if a name is given.
+/// Returns the node of this name, or `None` if no name is given. Returns an error if the plan lacks
+/// the name.
 fn node_in(plan: &Plan, name: Option<&str>) -> Result<Option<NodeId>, CommandError>
     ensures err { IfErr result
         (IsUnknownNode plan.now (option_map (λ text. text.now) name.entry)) }
@@ -91,7 +93,7 @@ fn node_in(plan: &Plan, name: Option<&str>) -> Result<Option<NodeId>, CommandErr
     }
 }
 
-/// Returns the picture of a part of these events.
+/// Returns the SVG of a part of the run of these events.
 fn picture_of(
     alloc: Global,
     plan: &Plan,

@@ -4,10 +4,11 @@ use mx_journal::Journal;
 use mx_stamps::{MAX_NODES, NodeId};
 use std::alloc::AllocError;
 
-/// The greatest number of ranges of records that are shown.
+/// The greatest number of ranges of records that are shown of one journal.
 const MAX_RANGES: usize = 8;
 
-/// The size of a journal: a journal that changes has another base or more records.
+/// The last section that a journal's base covers, and the number of records above the base. Each
+/// change of a journal changes one of them.
 #[derive(Clone, Copy, PartialEq, Eq)]
 struct JournalSize {
     upto: u64,
@@ -31,7 +32,8 @@ impl ShownJournals {
         }
     }
 
-    /// Appends the contents of a node's journal, if they have changed.
+    /// Appends the contents of a node's journal to the label, if they have changed since they were
+    /// shown last.
     pub(crate) fn add_changed(
         &mut self,
         node: NodeId,
@@ -53,7 +55,7 @@ impl ShownJournals {
     }
 }
 
-/// Appends the number up to which a base covers, if there is a base.
+/// Appends `base` and the last section that a base covers, if it covers any.
 fn add_base(upto: u64, label: &mut String) -> Result<(), AllocError> {
     if upto == 0 {
         return Ok(());
@@ -61,7 +63,8 @@ fn add_base(upto: u64, label: &mut String) -> Result<(), AllocError> {
     write!(label, " base {upto}")
 }
 
-/// Appends the numbers of the records, as ranges without gaps.
+/// Appends the numbers of the records, as ranges without gaps, and `..` if there are more than
+/// `MAX_RANGES` ranges.
 fn add_ranges(journal: &Journal, label: &mut String) -> Result<(), AllocError> {
     let mut last = journal.base().upto();
     for _ in 0..MAX_RANGES {
@@ -83,7 +86,7 @@ fn add_range(first: u64, last: u64, label: &mut String) -> Result<(), AllocError
     }
 }
 
-/// Appends that there are records above this number, if there are any.
+/// Appends `..` if there are records above this number.
 fn add_more(journal: &Journal, number: u64, label: &mut String) -> Result<(), AllocError> {
     match journal.next_after(number) {
         Some(_) => label.push_str(" .."),

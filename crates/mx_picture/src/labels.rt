@@ -1,4 +1,4 @@
-//! Texts beside nodes, each on a side where no arrow runs through it, if there is one.
+//! Texts beside nodes, each on a side where no arrow runs through it, if there is such a side.
 
 use crate::columns::Columns;
 use crate::segment::{Rect, SHIFT, Segment};
@@ -6,15 +6,15 @@ use crate::side::Side;
 use mx_stamps::NodeId;
 use std::alloc::AllocError;
 
-/// Half the height of a letter, in pixels.
+/// Half the height of a text's characters, in pixels.
 const HALF_HIGH: u64 = 5;
 
-/// The greatest number of arrows that are checked for one text: those that end in its row or the
-/// next below.
+/// The greatest number of arrows that are checked for one text: the first that end in its row or
+/// below.
 const MAX_ARROWS: usize = 400;
 
-/// A text beside a node, at a height, with the side where it is best. `arrows` is the number of
-/// arrows that end above it.
+/// A text beside a node, at the height `y`, `width` pixels wide, with the side that it prefers.
+/// `arrows` is the number of arrows that were added before it: they end in its row or above.
 #[derive(Drop)]
 pub(crate) struct Label {
     pub(crate) node: NodeId,
@@ -50,7 +50,8 @@ impl Label {
         }
     }
 
-    /// Returns whether one of the arrows runs through the text on this side.
+    /// Returns whether an arrow runs through the text, placed on this side of its node's line at
+    /// `x`.
     fn is_crossed(&self, x: u64, segments: &[Segment], side: Side) -> bool {
         let rect = self.rect(x, side);
         let own = self.arrows.saturating_sub(1).min(segments.len());
@@ -60,8 +61,8 @@ impl Label {
             .any(|segment| segment.crosses(&rect))
     }
 
-    /// Returns the side for the text: the best, or the other if the text is crossed here and not
-    /// there.
+    /// Returns the side for the text: the one that it prefers, or the other if an arrow runs
+    /// through the text only on the first. The line of its node is at `x`.
     fn free_side(&self, x: u64, segments: &[Segment]) -> Side {
         let other = self.side.other();
         if self.is_crossed(x, segments, self.side) && !self.is_crossed(x, segments, other) {
@@ -71,7 +72,7 @@ impl Label {
         }
     }
 
-    /// Appends this label to the text of the picture, on this side of the line at `x`.
+    /// Appends the label to `text`, the SVG, on this side of its node's line at `x`.
     fn add_to(&self, x: u64, side: Side, text: &mut String) -> Result<(), AllocError> {
         let y = self.y;
         let attributes = side.attributes();
@@ -81,7 +82,8 @@ impl Label {
     }
 }
 
-/// How far texts extend, in pixels: to the left of the first line, and to the right of it.
+/// How far texts extend to the left and to the right of the first node's line, in pixels, without
+/// the gaps between texts and nodes.
 #[derive(Clone, Copy)]
 pub(crate) struct Extent {
     pub(crate) left: u64,
@@ -89,7 +91,7 @@ pub(crate) struct Extent {
 }
 
 impl Extent {
-    /// Returns the extent with room for this text of the line at `x` too.
+    /// Returns the extent, widened for this text on this side of its node's line at `x`.
     fn with(self, label: &Label, x: u64, side: Side) -> Extent {
         if side.is_left() {
             let left = self.left.max(label.width.saturating_sub(x));
@@ -101,7 +103,8 @@ impl Extent {
     }
 }
 
-/// Appends each text on its side, and returns how far they extend.
+/// Appends the labels to `text`, the SVG, each on its free side, and returns how far they extend.
+/// `segments` are the lines of all arrows.
 pub(crate) fn add_labels(
     labels: &[Label],
     segments: &[Segment],

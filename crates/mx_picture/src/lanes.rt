@@ -1,8 +1,8 @@
-//! The lanes of a picture: one for each node that it shows.
+//! The lanes of a picture: a line for each node that it shows.
 
 use mx_stamps::{MAX_NODES, NodeId};
 
-/// A set of nodes.
+/// The set of nodes that have a lane.
 #[derive(Clone, Copy)]
 pub(crate) struct Lanes {
     has: [bool; MAX_NODES as usize],
@@ -16,7 +16,7 @@ impl Lanes {
         }
     }
 
-    /// Creates the set of a cluster's nodes.
+    /// Creates the set of all nodes of a cluster of this size.
     pub(crate) fn all(nodes: u8) -> Self {
         let mut has = [false; MAX_NODES as usize];
         for index in 0..MAX_NODES as usize {

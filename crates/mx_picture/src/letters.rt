@@ -17,7 +17,8 @@ pub(crate) fn is_letter<M>(parcel: &Parcel<M>) -> bool
     }
 }
 
-/// Returns whether a parcel that an event sends is a letter, and not one that a tick sends again.
+/// Returns whether a parcel that this event sends is a letter of the algorithm, and the event is no
+/// tick: a tick sends letters again.
 pub(crate) fn is_original<M>(event: &Event, parcel: &Parcel<M>) -> bool
     ensures { result ≡ is_original event.now parcel.now }
 {
@@ -27,7 +28,8 @@ pub(crate) fn is_original<M>(event: &Event, parcel: &Parcel<M>) -> bool
     }
 }
 
-/// Returns whether an event of this outcome is drawn, after the parcels of these flights were sent.
+/// Returns whether an event with this outcome is drawn. `flights` are the parcels sent before the
+/// event, by number.
 pub(crate) fn is_drawn(event: &Event, outcome: &Outcome, flights: &[Flight]) -> bool
     ensures { result ≡ is_drawn event.now outcome.now flights.now }
 {
@@ -47,7 +49,8 @@ fn changes_phase(outcome: &Outcome) -> bool
     }
 }
 
-/// Returns whether a parcel is an original letter that was not delivered before.
+/// Returns whether the parcel of this number is a letter that no tick sent, and was not delivered
+/// before.
 fn is_first_delivery(number: u64, flights: &[Flight]) -> bool
     ensures { result ≡ is_first_delivery number flights.now }
 {

@@ -11,7 +11,7 @@ use std::alloc::AllocError;
 /// The number of rows after which the names of the nodes are repeated.
 pub(crate) const NAMED_ROWS: u64 = 50;
 
-/// A row that repeats the names of the nodes, except those that are inside: a box is there.
+/// A row that repeats the names of the nodes, except where a node is inside and has its box.
 #[derive(Clone, Copy)]
 pub(crate) struct NameRow {
     y: u64,
@@ -19,7 +19,7 @@ pub(crate) struct NameRow {
 }
 
 impl NameRow {
-    /// Creates the row at this height, for nodes in these phases.
+    /// Creates the row at the height `y`, for nodes in these phases.
     pub(crate) fn new(y: u64, phases: &[PhaseSpan; MAX_NODES as usize]) -> Self {
         let mut is_inside = [false; MAX_NODES as usize];
         for index in 0..MAX_NODES as usize {
@@ -28,7 +28,7 @@ impl NameRow {
         NameRow { y, is_inside }
     }
 
-    /// Appends the names.
+    /// Appends the names to `text`, the SVG.
     pub(crate) fn add_to(
         &self,
         plan: &Plan,
@@ -46,6 +46,7 @@ impl NameRow {
         Ok(())
     }
 
+    /// Appends the name of a node whose line is at `x`.
     fn add_name(
         &self,
         plan: &Plan,

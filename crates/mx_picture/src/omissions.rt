@@ -12,13 +12,14 @@ use mx_plan::Plan;
 use mx_stamps::NodeId;
 use std::alloc::AllocError;
 
-/// What an event is about: a node that acts, or the parcel of a number that is delivered.
+/// What an event is about: the node that acts, or the number of the parcel that is delivered.
 #[derive(Clone, Copy)]
 pub(crate) enum Subject {
     Node(NodeId),
     Parcel(u64),
 }
 
+/// Returns the parcel of a delivery, or the node of any other event.
 pub(crate) fn subject_of(event: &Event) -> Subject {
     match event {
         Event::Deliver(number) => Subject::Parcel(*number),
@@ -26,9 +27,10 @@ pub(crate) fn subject_of(event: &Event) -> Subject {
     }
 }
 
-/// Returns whether the newest event is shown: it is of a node that is shown, or it sends or
-/// delivers a parcel from or to such a node. If only letters are shown, it also has to be one of
-/// those that are drawn then.
+/// Returns whether the newest event, `entry`, is shown. The event has this index, and sent the
+/// parcels from `before` on. It has to be in the drawn part, and to be an event of a shown node, or
+/// to send or deliver a parcel from or to such a node. If only letters are shown, `is_drawn` has to
+/// allow it too.
 pub(crate) fn is_shown<C: Exclusion>(
     index: u64,
     before: u64,
@@ -47,13 +49,14 @@ pub(crate) fn is_shown<C: Exclusion>(
     is_own || (before..cluster.sent()).any(|number| concerns(cluster, number, part))
 }
 
-/// Returns whether an event may be shown, if only letters are shown.
+/// Returns whether an event may be shown: all may, or only those that `is_drawn` allows if only
+/// letters are shown.
 fn is_allowed(entry: &Entry, part: &Part, sheet: &Sheet) -> bool {
     !part.only_letters || is_drawn(&entry.event, &entry.outcome, sheet.flights())
 }
 
-/// Returns whether a parcel is from or to a node that is shown, and a letter if only these are
-/// shown.
+/// Returns whether the parcel of this number is from or to a shown node, and is a letter if only
+/// letters are shown.
 pub(crate) fn concerns<C: Exclusion>(cluster: &Cluster<C>, number: u64, part: &Part) -> bool {
     match cluster.sent_parcel(number) {
         Some(sent) => {
@@ -64,8 +67,9 @@ pub(crate) fn concerns<C: Exclusion>(cluster: &Cluster<C>, number: u64, part: &P
     }
 }
 
-/// Takes note of the newest event, of this index, which is not shown, and of the parcels from
-/// `before` on, which it sent. After the part that is drawn, no phase changes.
+/// Takes note of the newest event, which is not shown: of its delivery or new phase, and of the
+/// parcels that it sent. The event has this index, and its parcels have the numbers from `before`
+/// on. An event after the drawn part changes no phase.
 pub(crate) fn pass_over<C: Exclusion>(
     plan: &Plan,
     index: u64,
@@ -93,7 +97,8 @@ where
     Ok(())
 }
 
-/// Returns whether an event that sent a parcel sent a letter that is no repeat.
+/// Returns whether the parcel of this number, which the event sent, is a letter, and the event is
+/// no tick.
 pub(crate) fn sends_original<C: Exclusion>(
     cluster: &Cluster<C>,
     number: u64,
@@ -105,7 +110,7 @@ pub(crate) fn sends_original<C: Exclusion>(
     }
 }
 
-/// Takes note of the delivery of a parcel that is not shown.
+/// Takes note of a delivery that is not shown: that of the parcel of this number.
 fn pass_delivery<C: Exclusion>(
     plan: &Plan,
     cluster: &Cluster<C>,
@@ -125,7 +130,7 @@ where
     drawing.sheet.cut_off(number, Route::new(&sent), title)
 }
 
-/// Takes note of the outcome of an act that is not shown: another phase, or nothing.
+/// Changes the phase of a node if the outcome of its event, which is not shown, leads to another.
 fn pass_outcome(node: NodeId, outcome: &Outcome, sheet: &mut Sheet) -> Result<(), AllocError> {
     match phase_after(outcome) {
         Some(Phase::Inside(number)) => sheet.enter(node, number),
@@ -134,7 +139,7 @@ fn pass_outcome(node: NodeId, outcome: &Outcome, sheet: &mut Sheet) -> Result<()
     }
 }
 
-/// Returns the phase to which an outcome leads, if it leads to another.
+/// Returns the phase to which an outcome leads, or `None` if the phase stays.
 pub(crate) fn phase_after(outcome: &Outcome) -> Option<Phase> {
     match outcome {
         Outcome::Entered(number) => Some(Phase::Inside(*number)),

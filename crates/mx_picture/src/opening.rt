@@ -47,7 +47,8 @@ impl fmt::Display for Size {
     }
 }
 
-/// How far the corner of a picture is from its first node and above its first row, in pixels.
+/// The distance from the top left corner of a picture to the line of its first node (`left`), and
+/// to its first row (`top`), in pixels.
 #[derive(Clone, Copy)]
 pub(crate) struct Corner {
     pub(crate) left: u64,
@@ -62,7 +63,7 @@ impl fmt::Display for Corner {
     }
 }
 
-/// The coordinates that a picture shows.
+/// The rectangle of coordinates that a picture shows (`viewBox`).
 #[derive(Clone, Copy)]
 struct View {
     corner: Corner,
@@ -80,8 +81,8 @@ impl fmt::Display for View {
     }
 }
 
-/// Appends the title: the algorithm, the nodes and the number of events. No name of a plan has a
-/// character that XML escapes.
+/// Appends the title: the algorithm, the names of the nodes, and the number of events. Names need
+/// no escapes: a plan allows no character in them that XML escapes.
 pub(crate) fn add_title_line(plan: &Plan, events: u64, text: &mut String) -> Result<(), AllocError>
     ensures { OnOk result (string_bytes text.new
         ≡ string_bytes text.old ++ title_line plan.now events) }
@@ -91,7 +92,7 @@ pub(crate) fn add_title_line(plan: &Plan, events: u64, text: &mut String) -> Res
     text.write(TitleEnd(events))
 }
 
-/// The title up to the names of the nodes.
+/// The title up to the names of the nodes, with the name of the algorithm.
 #[derive(Clone, Copy)]
 struct TitleStart<'a>(&'a str);
 
@@ -103,7 +104,7 @@ impl fmt::Display for TitleStart<'_> {
     }
 }
 
-/// The title after the names of the nodes.
+/// The title after the names of the nodes, with the number of events.
 #[derive(Clone, Copy)]
 struct TitleEnd(u64);
 
@@ -115,7 +116,7 @@ impl fmt::Display for TitleEnd {
     }
 }
 
-/// Returns the name of the plan's algorithm.
+/// Returns the name of the plan's algorithm, in the form `Maekawa's`.
 pub(crate) fn algorithm_of(plan: &Plan) -> &'static str
     ensures { result.now ≡ algorithm_name plan.now.shape }
 {
@@ -126,7 +127,7 @@ pub(crate) fn algorithm_of(plan: &Plan) -> &'static str
     }
 }
 
-/// Appends the name of each node, after a space.
+/// Appends the names of all nodes, each after a space.
 fn add_names(plan: &Plan, text: &mut String) -> Result<(), AllocError>
     ensures { OnOk result (string_bytes text.new ≡ string_bytes text.old ++ names_text plan.now) }
 {
@@ -136,7 +137,7 @@ fn add_names(plan: &Plan, text: &mut String) -> Result<(), AllocError>
     Ok(())
 }
 
-/// Appends the name of the node of this index, after a space.
+/// Appends a space and the name of node `i`.
 fn add_name(plan: &Plan, i: u8, text: &mut String) -> Result<(), AllocError>
     requires { i < MAX_NODES }
     ensures { OnOk result (string_bytes text.new ≡ string_bytes text.old ++ name_text plan.now i) }

@@ -25,23 +25,25 @@ const HEAD: u64 = 86;
 /// The height below the last row, in pixels: the names again.
 const FOOT: u64 = 30;
 
-/// The room at each edge for the indices of the events.
+/// The room at each edge for the indices of the events, in pixels.
 const INDICES: u64 = 60;
 
-/// The distance between the edge and the end of the indices, in pixels.
+/// The distance between the left edge and the right end of the indices there, in pixels.
 const INDEX_END: u64 = 50;
 
-/// The greatest width of a node's name on each side of its line, in pixels.
+/// The least room at the left of the first node's line and at the right of the last, for the names,
+/// in pixels.
 const NAME: u64 = 100;
 
-/// The distance of texts from their nodes, and from the edge of the page, in pixels.
+/// The room for two gaps, in pixels: between a node and its text, and between the text and the
+/// indices.
 const MARGIN: u64 = 40;
 
 /// The distance of the heading from the edge, in pixels.
 const INDENT: u64 = 16;
 
-/// The page, with room for all texts. The line of the first node is `left` pixels from its edge, and
-/// lines end at the height `bottom`.
+/// The size of the page, in pixels, with room for all texts. The line of the first node is `left`
+/// pixels from the left edge, and all lines end `bottom` pixels below the first row.
 #[derive(Clone, Copy)]
 struct Frame {
     left: u64,
@@ -51,6 +53,7 @@ struct Frame {
 }
 
 impl Frame {
+    /// Finds the size for these columns, for texts of this extent, and for this heading.
     fn new(columns: &Columns, extent: Extent, heading: &str, bottom: u64) -> Self {
         let left = extent
             .left
@@ -73,7 +76,7 @@ impl Frame {
         }
     }
 
-    /// Returns the first line of the page.
+    /// Returns the first line of the SVG.
     fn opening(&self) -> OpeningLine {
         OpeningLine {
             corner: Corner {
@@ -88,12 +91,13 @@ impl Frame {
     }
 }
 
-/// Returns the room that a heading wants, which is larger than other texts and bold.
+/// Returns the width that a heading wants, in pixels. Its characters are larger than those of other
+/// texts, and bold.
 fn heading_width(heading: &str) -> u64 {
     width_of(heading).saturating_mul(5) / 4 + 2 * INDENT
 }
 
-/// All that a page shows, and where.
+/// What a page shows, and the places of the nodes' lines on it.
 #[derive(Drop)]
 struct Page<'a> {
     plan: &'a Plan,
@@ -102,14 +106,14 @@ struct Page<'a> {
     frame: Frame,
 }
 
-/// What a page shows below its title, and its frame.
+/// The SVG of a page below its title, and the size of the page.
 #[derive(Drop)]
 struct Body {
     frame: Frame,
     svg: String,
 }
 
-/// Returns the whole picture of a part of a number of events.
+/// Returns the whole SVG of a part of a run. `events` is the number of events of the run.
 pub(crate) fn page_of(
     plan: &Plan,
     events: u64,
@@ -122,7 +126,7 @@ pub(crate) fn page_of(
     whole_page(sheet.shapes.alloc, plan, events, &body)
 }
 
-/// Returns the page with this body.
+/// Returns the whole SVG: its first line, its title and this body.
 fn whole_page(alloc: Global, plan: &Plan, events: u64, body: &Body) -> Result<String, AllocError>
     ensures { IfOk result (λ page. IsPicture plan.now events (string_bytes page)) }
 {
@@ -134,7 +138,7 @@ fn whole_page(alloc: Global, plan: &Plan, events: u64, body: &Body) -> Result<St
     Ok(text)
 }
 
-/// Returns what the page of a part of a run shows below its title.
+/// Returns the SVG of a part of a run below the title, and the size of its page.
 fn body_of(plan: &Plan, part: &Part, sheet: &Sheet) -> Result<Body, AllocError> {
     let shapes = &sheet.shapes;
     let columns = columns_of(plan, part, shapes);
@@ -154,8 +158,8 @@ fn body_of(plan: &Plan, part: &Part, sheet: &Sheet) -> Result<Body, AllocError> 
     Ok(Body { frame, svg })
 }
 
-/// Returns the columns of the nodes that are shown: those with events, if only a part is shown and
-/// has any.
+/// Returns the columns of the nodes that get a line: in a part of a run, those that act or receive
+/// in it; in a whole run, or if there are none, all.
 fn columns_of(plan: &Plan, part: &Part, shapes: &Shapes) -> Columns {
     let lanes = if part.is_whole() || shapes.lanes.is_empty() {
         Lanes::all(plan.nodes())
@@ -165,7 +169,8 @@ fn columns_of(plan: &Plan, part: &Part, shapes: &Shapes) -> Columns {
     Columns::new(plan, &lanes, shapes.labels.as_slice())
 }
 
-/// Appends everything that is below the drawn marks.
+/// Appends the description, and what the shapes are drawn over: the styles, the legend, the
+/// heading, guides, indices and the lines of nodes.
 fn add_top(page: &Page<'_>, heading: &str, text: &mut String) -> Result<(), AllocError> {
     add_story(page.shapes.story.as_str(), text)?;
     add_head(&page.frame, text)?;
@@ -175,20 +180,20 @@ fn add_top(page: &Page<'_>, heading: &str, text: &mut String) -> Result<(), Allo
     add_lanes(page, text)
 }
 
-/// Appends bars and arrows, and above them the names of the nodes in the rows that repeat them.
+/// Appends bars, boxes and arrows, and over them the rows that repeat the names of the nodes.
 fn add_lines(page: &Page<'_>, text: &mut String) -> Result<(), AllocError> {
     page.shapes.add_lines(&page.columns, text)?;
     page.shapes
         .add_repeated_names(page.plan, &page.columns, text)
 }
 
-/// Appends dots, numbers of sections and texts.
+/// Appends dots, numbers of sections, and `texts`, the SVG of the texts beside nodes.
 fn add_marks(page: &Page<'_>, texts: &str, text: &mut String) -> Result<(), AllocError> {
     page.shapes.add_marks(&page.columns, text)?;
     text.push_str(texts)
 }
 
-/// Appends the styles, the paper and the legend.
+/// Appends the styles, the white background and the legend.
 fn add_head(frame: &Frame, text: &mut String) -> Result<(), AllocError> {
     let left = frame.left;
     let width = frame.width;
@@ -211,7 +216,7 @@ fn add_heading_text(frame: &Frame, heading: &str, text: &mut String) -> Result<(
     text.push_str("</text>\n")
 }
 
-/// Appends the lines across the page.
+/// Appends the guides: lines across the page at each tenth event.
 fn add_guides(page: &Page<'_>, text: &mut String) -> Result<(), AllocError> {
     let left = page.frame.left;
     let width = page.frame.width;
@@ -247,7 +252,8 @@ fn add_lanes(page: &Page<'_>, text: &mut String) -> Result<(), AllocError> {
     Ok(())
 }
 
-/// Appends the line of a node, with its name above and below.
+/// Appends the line of a node at `x`, down to the height `bottom`, with the node's name above and
+/// below.
 fn add_lane(name: &str, x: u64, bottom: u64, text: &mut String) -> Result<(), AllocError> {
     write!(text, "<path class=\"node\" d=\"M{x}-12V{bottom}\"/>\n")?;
     write!(text, "<text class=\"name\" x=\"{x}\" y=\"-18\">")?;

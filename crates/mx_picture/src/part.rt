@@ -2,8 +2,8 @@
 
 use mx_stamps::NodeId;
 
-/// The events from one index to another, of all nodes or of one. Journals are shown too, or no more
-/// than the letters of the algorithm.
+/// The events from the index `from` to `to`, which is included, of all nodes or of one. Journals
+/// are shown too if `has_journals`, and only letters and phases if `only_letters`.
 #[derive(Clone, Copy)]
 pub(crate) struct Part {
     pub(crate) from: u64,

@@ -1,4 +1,4 @@
-//! The phases of nodes: bars where they wait, and boxes where they are inside.
+//! The phases of nodes: bars while they wait, and boxes while they are inside.
 
 use mx_nodelaws::Phase;
 use mx_stamps::NodeId;
@@ -11,7 +11,7 @@ pub(crate) struct PhaseSpan {
     pub(crate) phase: Phase,
 }
 
-/// A phase of a node in the picture, from a height down.
+/// A phase of a node in the picture: it begins at the height `y` and goes `down` pixels down.
 #[derive(Clone, Copy)]
 pub(crate) struct Bar {
     pub(crate) node: NodeId,
@@ -38,7 +38,7 @@ impl Bar {
         }
     }
 
-    /// Appends the number of the section of a box, on the line at `x`.
+    /// Appends the number of the section in the box of a node that is inside, on the line at `x`.
     pub(crate) fn add_number(&self, x: u64, text: &mut String) -> Result<(), AllocError> {
         let y = self.y;
         match self.phase {

@@ -5,7 +5,7 @@ use mx_format::{Letter, Style};
 use mx_member::SentParcel;
 use mx_stamps::NodeId;
 
-/// The two ends of a parcel's way, and its style.
+/// The sender and the addressee of a parcel, and the style of its arrow.
 #[derive(Clone, Copy)]
 pub(crate) struct Route {
     pub(crate) from: NodeId,

@@ -1,14 +1,14 @@
 //! The lines of arrows, and the rectangles of texts that they may cross.
 
-/// The offset by which everything is moved to the right, so that positions left of the first node
-/// are numbers too.
+/// How far lines and rectangles are moved to the right, in pixels, so that no position left of the
+/// first node is negative.
 pub(crate) const SHIFT: u64 = 1_000_000;
 
 /// How far the bow of an arrow to its own node swings to the left, in pixels.
 const BOW: u64 = 20;
 
-/// The line of an arrow between two points, in pixels from the top and from the left, moved by
-/// `SHIFT`.
+/// The straight line of an arrow, in pixels: from `from` at the height `top` to `to` at the height
+/// `bottom`. Both positions are moved to the right by `SHIFT`.
 #[derive(Clone, Copy)]
 pub(crate) struct Segment {
     from: u64,
@@ -18,8 +18,8 @@ pub(crate) struct Segment {
 }
 
 impl Segment {
-    /// Creates the line from one node, at this height, down to another. A bow is a line at the left
-    /// of its node.
+    /// Creates the line from the node at `from`, at the height `y`, to the node at `to`, `down`
+    /// pixels below. The bow of an arrow to its own node counts as a line at the left of the node.
     pub(crate) fn new(from: u64, to: u64, y: u64, down: u64) -> Self {
         let aside = if to == from { SHIFT - BOW } else { SHIFT };
         Segment {
@@ -30,7 +30,7 @@ impl Segment {
         }
     }
 
-    /// Returns the horizontal position of the line at this height.
+    /// Returns the horizontal position of the line at the height `y`.
     fn across(&self, y: u64) -> u64 {
         let down = self.bottom.saturating_sub(self.top).max(1);
         let part = y.saturating_sub(self.top);

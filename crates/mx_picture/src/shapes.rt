@@ -32,12 +32,13 @@ pub(crate) struct Shapes {
     arrows: Vec<Arrow>,
     names: Vec<NameRow>,
     dots: Vec<Dot>,
+    /// The texts beside nodes, one or more for each event that is shown.
     pub(crate) labels: Vec<Label>,
-    /// The texts of the indices, for both edges.
+    /// The SVG of the events' indices, which both edges show.
     pub(crate) indices: String,
-    /// The heights of lines across the page, so that an index is found from afar.
+    /// The heights of the guides: lines across the page at each tenth event.
     pub(crate) guides: Vec<u64>,
-    /// The sections in words, for readers who cannot see the picture.
+    /// The entries and exits in words, for readers who cannot see the picture.
     pub(crate) story: String,
     /// The nodes that act or receive in the picture.
     pub(crate) lanes: Lanes,
@@ -70,7 +71,8 @@ impl Shapes {
         Ok(())
     }
 
-    /// Adds the index of an event, or dots for events that are not shown, at this height.
+    /// Adds the index of an event at the height `y`, or `..` for events that are not shown if there
+    /// is no index.
     pub(crate) fn add_index(&mut self, y: u64, index: Option<u64>) -> Result<(), AllocError> {
         write!(self.indices, "<text y=\"{y}\" dy=\"4\">")?;
         match index {
@@ -79,7 +81,8 @@ impl Shapes {
         }
     }
 
-    /// Adds a line across the page at this height, if the event has a tenth index.
+    /// Adds a line across the page at the height `y`, if the index of the event is a multiple of
+    /// 10.
     pub(crate) fn add_guide(&mut self, y: u64, index: u64) -> Result<(), AllocError> {
         if index % 10 == 0 {
             self.guides.push(y)?;
@@ -105,7 +108,8 @@ impl Shapes {
         Ok(())
     }
 
-    /// Adds a text beside a node, below all arrows so far.
+    /// Adds a text beside a node, at the height `y`. No arrow that was added before ends in a lower
+    /// row.
     pub(crate) fn add_label(
         &mut self,
         node: NodeId,
@@ -126,7 +130,8 @@ impl Shapes {
         Ok(())
     }
 
-    /// Adds an arrow. No arrow that was added before ends in a lower row.
+    /// Adds an arrow that begins at the height `y` and goes `down` pixels down. No arrow that was
+    /// added before ends in a lower row.
     pub(crate) fn add_arrow(
         &mut self,
         route: Route,
@@ -164,7 +169,7 @@ impl Shapes {
         Ok(())
     }
 
-    /// Describes an event in words.
+    /// Appends this text, about the event of this index, to the description of the picture.
     pub(crate) fn describe(&mut self, index: u64, raw: &str) -> Result<(), AllocError> {
         write!(self.story, " {index} ")?;
         add_escaped(raw, &mut self.story)?;
@@ -176,7 +181,7 @@ impl Shapes {
         self.labels.is_empty()
     }
 
-    /// Returns the texts beside nodes.
+    /// Returns the texts beside nodes, each on its side, as SVG.
     pub(crate) fn texts(&self, columns: &Columns) -> Result<Texts, AllocError> {
         let mut segments = Vec::new(self.alloc);
         for arrow in &self.arrows {

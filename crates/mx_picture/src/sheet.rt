@@ -15,24 +15,30 @@ use mx_nodelaws::Phase;
 use mx_stamps::{MAX_NODES, NodeId};
 use std::alloc::{AllocError, Global};
 
-/// The number of rows, and of nodes, from which on an arrow is long.
+/// An arrow is long if it goes down by this many rows or more: the text of its delivery then names
+/// the sender.
 const LONG_ROWS: u64 = 26;
 
+/// An arrow is also long if the numbers of its two nodes differ by this much or more.
 const LONG_NODES: u8 = 6;
 
 /// The shapes of a picture, and what has to be known of the rows above.
 #[derive(Drop)]
 pub(crate) struct Sheet {
     pub(crate) shapes: Shapes,
-    /// The last row that repeats the names of the nodes.
+    /// The last row that repeats the names of the nodes, or 0 before the first.
     named: u64,
     /// The number of sections entered.
     pub(crate) entered: u64,
-    /// The current row, and that of the current event, with its index.
+    /// The current row.
     pub(crate) row: u64,
+    /// The row of the current event.
     event: u64,
+    /// The index of the current event.
     index: u64,
+    /// The parcels sent so far, by number.
     flights: Vec<Flight>,
+    /// The current phase of each node.
     phases: [PhaseSpan; MAX_NODES as usize],
     ghost short: { row ≤ 1000000000000 },
     ghost present: { event ≤ row },
@@ -58,7 +64,7 @@ impl Sheet {
         }
     }
 
-    /// Moves to the next row. Returns `AllocError` if there are too many.
+    /// Moves to the next row. Returns `AllocError` if the picture has `MAX_ROWS` rows.
     pub(crate) fn next_row(&mut self) -> Result<(), AllocError> {
         if self.row >= MAX_ROWS {
             return Err(AllocError);
@@ -67,7 +73,8 @@ impl Sheet {
         Ok(())
     }
 
-    /// Starts an event, of this index, in this row, or in the next if this one repeats the names.
+    /// Starts the event of this index in the current row. If the names of the nodes have to be
+    /// repeated, a row with them comes first.
     pub(crate) fn begin(&mut self, index: u64) -> Result<(), AllocError> {
         self.repeat_names()?;
         self.event = self.row;
@@ -77,7 +84,8 @@ impl Sheet {
         self.shapes.add_index(y, Some(index))
     }
 
-    /// Repeats the names of the nodes in a new row, if they were last shown long ago.
+    /// Repeats the names of the nodes in a row of their own, if the last such row is `NAMED_ROWS`
+    /// rows or more above.
     fn repeat_names(&mut self) -> Result<(), AllocError> {
         if self.row.saturating_sub(self.named) < NAMED_ROWS {
             return Ok(());
@@ -88,20 +96,20 @@ impl Sheet {
         self.next_row()
     }
 
-    /// Adds a row for events that are not shown.
+    /// Adds a row with `..` as its index, for events that are not shown.
     pub(crate) fn skip(&mut self) -> Result<(), AllocError> {
         self.shapes.add_index(y_of(self.row), None)?;
         self.next_row()
     }
 
-    /// Draws the entry of a node into the section of this number.
+    /// Counts the entry of a node into the section of this number, and changes the node's phase.
     pub(crate) fn enter(&mut self, node: NodeId, number: u64) -> Result<(), AllocError> {
         self.entered = self.entered.saturating_add(1);
         self.change(node, Phase::Inside(number))
     }
 
-    /// Draws the dot of an event at its node. The dot has this title, and is hollow if the event is
-    /// refused.
+    /// Draws the dot of an event at its node, in the current row. The dot has this title, and is
+    /// hollow if the event is refused.
     pub(crate) fn dot(
         &mut self,
         node: NodeId,
@@ -112,24 +120,26 @@ impl Sheet {
         self.shapes.add_dot(node, y, is_refused, title)
     }
 
-    /// Adds a text beside a node.
+    /// Adds a text beside a node, in the current row.
     pub(crate) fn text(&mut self, node: NodeId, side: Side, text: &str) -> Result<(), AllocError> {
         let y = y_of(self.row);
         self.shapes.add_label(node, y, side, text)
     }
 
-    /// Draws the dot of an event at its node, and a text beside it.
+    /// Draws the dot of an event at its node, with this text as its title and beside it.
     pub(crate) fn mark(&mut self, node: NodeId, side: Side, text: &str) -> Result<(), AllocError> {
         self.dot(node, false, text)?;
         self.text(node, side, text)
     }
 
-    /// Describes the current event in words.
+    /// Adds this text, about the current event, to the description of the picture.
     pub(crate) fn describe(&mut self, text: &str) -> Result<(), AllocError> {
         self.shapes.describe(self.index, text)
     }
 
-    /// Notes that the current event, shown or not, sends a parcel, the next by number.
+    /// Notes that the next parcel is sent, in the row of the current event. `is_shown` says whether
+    /// the picture shows the sending, and `is_original` whether the parcel is a letter that no tick
+    /// sends.
     pub(crate) fn send(&mut self, is_shown: bool, is_original: bool) -> Result<(), AllocError> {
         self.flights.push(Flight {
             row: self.event,
@@ -140,8 +150,8 @@ impl Sheet {
         Ok(())
     }
 
-    /// Draws the end of a parcel that the current event sent and that is never delivered: in the
-    /// air, in the next row.
+    /// Draws the arrow of a parcel that the current event sent and that is never delivered. The
+    /// arrow ends in the air, in a new row.
     pub(crate) fn lose(&mut self, route: Route, title: &str) -> Result<(), AllocError> {
         self.next_row()?;
         let y = y_of(self.event);
@@ -149,7 +159,8 @@ impl Sheet {
         self.shapes.add_piece(route, end, y, title)
     }
 
-    /// Draws the arrow of a parcel to the current row, in which it is delivered.
+    /// Draws the arrow of the parcel of this number, which is delivered in the current row. Only
+    /// the tip is drawn if the sending is not shown.
     pub(crate) fn arrow(
         &mut self,
         number: u64,
@@ -171,7 +182,7 @@ impl Sheet {
         }
     }
 
-    /// Draws the arrow of a parcel from the row in which it was sent to the current one.
+    /// Draws the whole arrow of a parcel, from the row of its sending to the current one.
     fn join(&mut self, flight: Flight, route: Route, title: &str) -> Result<(), AllocError>
         requires { flight.row ≤ self.old.row }
     {
@@ -181,8 +192,8 @@ impl Sheet {
             .add_arrow(route, flight.is_delivered, y, down, title)
     }
 
-    /// Returns whether the arrow of a parcel to the present row is long, or begins in a row that is
-    /// not shown.
+    /// Returns whether the arrow of the parcel of this number, delivered in the current row, is
+    /// long or begins in a row that is not shown.
     pub(crate) fn is_far(&self, number: u64, route: Route) -> bool {
         let apart = route.from.get().abs_diff(route.to.get());
         match self.flights.get(number as usize) {
@@ -200,8 +211,8 @@ impl Sheet {
         self.flights.as_slice()
     }
 
-    /// Returns whether the arrow of a parcel that is delivered now, in a row that is not shown, has
-    /// a start.
+    /// Returns whether only the start of a parcel's arrow is drawn, if its delivery now is not
+    /// shown: the sending is shown, and the parcel was not delivered before.
     pub(crate) fn is_cut(&self, number: u64) -> bool {
         match self.flights.get(number as usize) {
             Some(flight) => flight.is_shown && !flight.is_delivered,
@@ -209,8 +220,8 @@ impl Sheet {
         }
     }
 
-    /// Notes that a parcel is delivered in a row that is not shown. If it was sent in one that is,
-    /// draws the start of its arrow there.
+    /// Notes that the parcel of this number is delivered by an event that is not shown. Draws the
+    /// start of its arrow if the sending is shown and the parcel was not delivered before.
     pub(crate) fn cut_off(
         &mut self,
         number: u64,
@@ -229,7 +240,7 @@ impl Sheet {
             .add_piece(route, End::Sending, y_of(flight.row), title)
     }
 
-    /// Notes that a parcel is delivered, and returns its entry.
+    /// Notes that the parcel of this number is delivered, and returns what was known of it before.
     fn deliver(&mut self, index: usize) -> Flight
         requires { index < length self.old.flights.items }
         ensures { result.row ≤ self.new.row }
@@ -244,7 +255,8 @@ impl Sheet {
         flight
     }
 
-    /// Changes the phase of a node: the phase until now gets its bar, or its box.
+    /// Changes the phase of a node in the current row, and draws the phase that ends, if that began
+    /// in a row above.
     pub(crate) fn change(&mut self, node: NodeId, phase: Phase) -> Result<(), AllocError> {
         let index = usize::from(node.get());
         let span = self.phases[index];
@@ -270,7 +282,7 @@ impl Sheet {
         })
     }
 
-    /// Changes the phase of a node, at the dot of the event by which it changes.
+    /// Draws the dot of an event at its node, with this title, and changes the node's phase.
     pub(crate) fn turn(
         &mut self,
         node: NodeId,

@@ -1,15 +1,15 @@
-//! Texts inside an SVG, and titles, which a viewer shows beside the pointer.
+//! Escapes texts for an SVG, and writes titles, which a viewer shows beside the pointer.
 
 use std::alloc::{AllocError, Global};
 
-/// Returns a text with all characters that have a meaning in XML escaped.
+/// Returns a text with each `&`, `<` and `>` escaped for XML.
 pub(crate) fn escaped(alloc: Global, raw: &str) -> Result<String, AllocError> {
     let mut text = String::new(alloc);
     add_escaped(raw, &mut text)?;
     Ok(text)
 }
 
-/// Appends a text with all characters that have a meaning in XML escaped.
+/// Appends a text with each `&`, `<` and `>` escaped for XML.
 pub(crate) fn add_escaped(raw: &str, text: &mut String) -> Result<(), AllocError> {
     for character in raw.chars() {
         add_character(character, text)?;
@@ -17,6 +17,7 @@ pub(crate) fn add_escaped(raw: &str, text: &mut String) -> Result<(), AllocError
     Ok(())
 }
 
+/// Appends a character, escaped if it is `&`, `<` or `>`.
 fn add_character(character: char, text: &mut String) -> Result<(), AllocError> {
     match character {
         '&' => text.push_str("&amp;"),
@@ -26,7 +27,7 @@ fn add_character(character: char, text: &mut String) -> Result<(), AllocError> {
     }
 }
 
-/// Appends a title, which is escaped already.
+/// Appends a title of this text, which is escaped already.
 pub(crate) fn add_title(title: &str, text: &mut String) -> Result<(), AllocError> {
     text.push_str("<title>")?;
     text.push_str(title)?;

@@ -9,8 +9,8 @@ use clap::{ArgMatches, Error};
 use mx_cli::{CommandId, Names, is_given, matches_in, names_at, number_at, text_at};
 use std::alloc::Global;
 
-/// The picture that is requested: the plan and the events, the first and the last event, the node
-/// if it is only one, and whether journals, or only letters, are shown.
+/// What a command line requests: the names of the plan and the events, the first and the last
+/// index, the node if only one is shown, and whether journals are shown, or only letters.
 #[derive(Clone, Copy)]
 pub(crate) struct Request<'a> {
     pub(crate) names: Names<'a>,
@@ -35,6 +35,7 @@ pub(crate) fn parse<'a>(alloc: Global, words: &'a [&'a str]) -> Result<Option<Re
     Ok(from_matches(&matches))
 }
 
+/// Returns the request, if the subcommand is `picture` and names a plan and events.
 fn from_matches<'a>(matches: &ArgMatches<'a>) -> Option<Request<'a>>
     ensures { option_map request_of result ≡ request_in (subcommand_rows_of matches.now) }
 {
@@ -44,6 +45,7 @@ fn from_matches<'a>(matches: &ArgMatches<'a>) -> Option<Request<'a>>
     }
 }
 
+/// Returns the request that the arguments of `picture` make, if they name a plan and events.
 fn picture_in<'a>(matches: &ArgMatches<'a>) -> Option<Request<'a>>
     ensures { option_map request_of result ≡ picture_in (rows_of (found_of matches.now)) }
 {

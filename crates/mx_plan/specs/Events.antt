@@ -28,7 +28,7 @@ has_form Value d = is_some (number_of (Some d))
 has_form Section d = is_some (number_of (Some d))
 has_form Parcel d = is_some (number_of (Some d))
 
--- whether there are as many values as kinds, each of its form
+-- whether there are equally many values and kinds, and each value has the form of its kind
 abbrev pub have_form : List ArgumentKind → List Data → Bool
 have_form [] [] = true
 have_form (kind ∷ kinds) (d ∷ ds) = has_form kind d && have_form kinds ds
@@ -38,13 +38,13 @@ have_form _ _ = false
 abbrev pub kind_in : Data → Option EventKind
 kind_in w = kind_named (text_of w)
 
--- the k-th event has another form
+-- the fault that event k has a wrong form
 abbrev pub misfit : {T : Type 0} → ℕ → Result T PlanFault
 misfit k = Err (NotPlan (place.Event k))
 
--- the k-th event, in a plan's names
+-- event k, with the names of nodes and registers in plan p
 module _ (p : Fields) (k : ℕ) where
-  -- the number of a value
+  -- the number in a value, or the fault that it has none
   abbrev pub number_at : Data → Result Argument PlanFault
   number_at d = option_map_or (λ n. Ok (argument.Number n)) (number_of (Some d)) (misfit k)
 
@@ -58,13 +58,14 @@ module _ (p : Fields) (k : ℕ) where
   argument_in Section d = number_at d
   argument_in Parcel d = number_at d
 
-  -- the arguments in values: the first fault from the left counts
+  -- the arguments in these values, or the fault of the first wrong one from the left
   abbrev pub arguments_in : List ArgumentKind → List Data → Result (List Argument) PlanFault
   arguments_in (kind ∷ kinds) (d ∷ ds) =
       and_then (argument_in kind d) (λ a. and_then (arguments_in kinds ds) (λ rest. Ok (a ∷ rest)))
   arguments_in _ _ = Ok []
 
-  -- the event of a kind with these values after its word: first their form counts, then the names
+  -- the event of a kind with these values after its word. A value of a wrong form is reported
+  -- before any unknown name
   abbrev pub event_with : EventKind → List Data → Result Event PlanFault
   event_with kind ds =
       if have_form (arguments_of kind) ds
@@ -72,6 +73,7 @@ module _ (p : Fields) (k : ℕ) where
       option_map_or (λ event. Ok event) (events.event_of kind arguments) (misfit k))
       else misfit k
 
+  -- the event in the elements of an array: the word of its kind, and then its arguments
   abbrev pub listed : List Data → Result Event PlanFault
   listed [] = misfit k
   listed (w ∷ ds) = option_map_or (λ kind. event_with kind ds) (kind_in w) (misfit k)
@@ -79,10 +81,11 @@ module _ (p : Fields) (k : ℕ) where
   unfoldable pub event_of : Data → Result Event PlanFault
   event_of d = listed (list_in d)
 
--- the events from the k-th on
+-- the events in these values; the first has the number k
 abbrev pub events_from : Fields → ℕ → List Data → Result (List Event) PlanFault
 events_from p = each_from (event_of p)
 
+-- the events in these values, or a fault if they are more than `MAX_EVENTS`
 abbrev pub few : Fields → List Data → Result (List Event) PlanFault
 few p ds =
     if nat_lt MAX_EVENTS (length ds)

@@ -25,7 +25,7 @@ place_text place.Holder = codes "holder"
 place_text place.Events = codes "events"
 place_text (place.Event k) = codes "event " ++ decimal k
 
--- the word for a place; for an event, its number follows the word
+-- the word for a place; for an event, this is without its number
 abbrev pub place_word : Place → Text
 place_word (place.Event k) = codes "event"
 place_word p = place_text p
@@ -39,7 +39,7 @@ quorum_text (quorum.NotOwnMember i) = codes "not own member " ++ decimal i
 quorum_text (quorum.Apart i j) = codes "apart " ++ decimal i ++ codes " " ++ decimal j
 quorum_text (quorum.NoPlane n) = codes "no plane " ++ decimal n
 
--- the words of a fault; the numbers of its nodes follow them
+-- the words of a fault, without the numbers after them
 abbrev pub quorum_words : QuorumFault → Text
 quorum_words quorum.NoNodes = codes "no nodes"
 quorum_words quorum.TooMany = codes "too many"

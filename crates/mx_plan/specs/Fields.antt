@@ -8,8 +8,8 @@ use Rattle.mx_plan.specs.Text.{Text, AreNames}
 use Rattle.mx_plan.specs.declared.shape.Shape.{Shape}
 use Rattle.mx_plan.specs.declared.shape.Shape.TheVariants.{Ricart, Maekawa, Raymond}
 
--- the names of nodes and registers, in order; the last section number; the origin of stamps; the
--- shape
+-- a plan: the names of nodes and registers, in order; the last section number; the origin of
+-- stamps; the shape
 pub record Fields : Type 0 where
   pub nodes : List Text
   pub registers : List Text

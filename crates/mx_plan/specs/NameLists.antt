@@ -11,15 +11,15 @@ use Rattle.mx_plan.specs.declared.place.Place.{Place}
 use Rattle.mx_plan.specs.declared.faults.PlanFault.{PlanFault}
 use Rattle.mx_plan.specs.declared.faults.PlanFault.TheVariants.{NotPlan, DoubleName, UnknownName}
 
--- a string that is a name
+-- whether a value is a string that is a name
 unfoldable pub is_name_value : Data → Bool
 is_name_value d = option_map_or is_name (as_str d) false
 
--- an array of names
+-- whether a value is an array of names
 unfoldable pub is_name_list : Data → Bool
 is_name_list d = option_map_or (list_all is_name_value) (elements d) false
 
--- 1 to `most` values, each a name
+-- whether there are 1 to `most` values, each a name
 abbrev pub are_names : ℕ → List Data → Bool
 are_names most ds = nat_le 1 (length ds) && (nat_le (length ds) most && list_all is_name_value ds)
 
@@ -36,7 +36,7 @@ names_from most p ds =
 abbrev pub names_of : ℕ → Place → Option Data → Result (List Text) PlanFault
 names_of most p d = option_map_or (names_from most p) (array_of d) (Err (NotPlan p))
 
--- the number of a name among the known ones
+-- the number of the name in a value among the known names, or the fault that it is unknown
 abbrev pub number_in : Place → List Text → Data → Result ℕ PlanFault
 number_in p known d =
     option_map_or (λ n. Ok n) (position (bytes_eq (text_of d)) known) (Err (UnknownName p))

@@ -22,7 +22,7 @@ both_names d =
     (λ nodes. and_then (names_of MAX_REGISTERS place.Registers (get (codes "registers") d))
     (λ registers. Ok (nodes, registers)))
 
--- the last section, the origin, and the shape of a plan for an algorithm over these nodes
+-- the last section number, the origin and the shape of a plan for an algorithm over these nodes
 abbrev pub setting_of : Algorithm → List Text → Data → Result (ℕ × ℕ × PlannedShape) PlanFault
 setting_of algorithm nodes d =
     and_then (in_range place.Sections (number_of (get (codes "sections") d)))
@@ -30,12 +30,13 @@ setting_of algorithm nodes d =
     (λ origin. and_then (planned_of algorithm nodes d)
     (λ shape_planned. Ok (sections, origin, shape_planned))))
 
--- the setting is the described one, over n nodes
+-- the setting (the last section number, the origin and the shape) is the described one, for n nodes
 abbrev pub IsSettingOf : ℕ → ℕ × ℕ × PlannedShape → ℕ × ℕ × Shape → Type 0
 IsSettingOf n (sections, origin, shape_planned) setting =
     (setting.0 ≡ sections) × (setting.1 ≡ origin) × IsShapeOf n shape_planned setting.2
 
--- the outcome of reading a setting, in the same way as of a plan
+-- the outcome of reading a setting: the described one; the fault, if none is described; the first
+-- broken rule, if n nodes have no such shape
 abbrev pub IsSettingOutcome : ℕ → Result (ℕ × ℕ × PlannedShape) PlanFault
     → Result (ℕ × ℕ × Shape) PlanFault → Type 0
 IsSettingOutcome n (Ok wanted) (Ok setting) = IsSettingOf n wanted setting
@@ -44,12 +45,12 @@ IsSettingOutcome n (Ok wanted) (Err _) = ⊥
 IsSettingOutcome n (Err wanted) (Ok setting) = ⊥
 IsSettingOutcome n (Err wanted) (Err fault) = fault ≡ wanted
 
--- or memory ran out
+-- the same, or memory ran out
 abbrev pub SettingAnswers : ℕ → Result (ℕ × ℕ × PlannedShape) PlanFault
     → Result (ℕ × ℕ × Shape) PlanFault → Type 0
 SettingAnswers n wanted r = IsSettingOutcome n wanted r ⊎ (r ≡ Err Memory)
 
--- the plan of these names and of this setting
+-- the plan with these names and this setting
 abbrev pub plan_of : List Text → List Text → ℕ → ℕ → Shape → Fields
 plan_of nodes registers sections origin shape =
     record {

@@ -61,7 +61,7 @@ planned_of Raymond nodes d = tree_of nodes d
 
 -- ---- whole plans
 
--- the parts that a plan describes
+-- a plan as a text describes it, with the description of its shape
 pub record Draft : Type 0 where
   pub nodes : List Text
   pub registers : List Text
@@ -69,7 +69,7 @@ pub record Draft : Type 0 where
   pub origin : ℕ
   pub shape_planned : PlannedShape
 
--- the plan that a value describes: the first place that fails counts
+-- the plan that a value describes, or the fault of the first part that is wrong, in this order
 abbrev pub draft_of : Data → Result Draft PlanFault
 draft_of d =
     if not (is_object d) then Err (NotPlan place.Plan)
@@ -109,7 +109,8 @@ IsOutcome (Ok draft) (Err _) = ⊥
 IsOutcome (Err wanted) (Ok plan) = ⊥
 IsOutcome (Err wanted) (Err fault) = fault ≡ wanted
 
--- the outcome of reading a shape, in the same way; it is a shape of n nodes
+-- the outcome of reading a shape: the described shape, for n nodes; the fault, if none is
+-- described; the first broken rule, if n nodes have no such shape
 abbrev pub IsShapeOutcome : ℕ → Result PlannedShape PlanFault → Result Shape PlanFault → Type 0
 IsShapeOutcome n (Ok shape_planned) (Ok shape) = IsShapeOf n shape_planned shape × IsShape n shape
 IsShapeOutcome n (Ok shape_planned) (Err (BadShape fault)) = IsRefusalOf n shape_planned fault
@@ -117,6 +118,6 @@ IsShapeOutcome n (Ok shape_planned) (Err _) = ⊥
 IsShapeOutcome n (Err wanted) (Ok shape) = ⊥
 IsShapeOutcome n (Err wanted) (Err fault) = fault ≡ wanted
 
--- or memory ran out
+-- the same, or memory ran out
 abbrev pub ShapeAnswers : ℕ → Result PlannedShape PlanFault → Result Shape PlanFault → Type 0
 ShapeAnswers n wanted r = IsShapeOutcome n wanted r ⊎ (r ≡ Err Memory)

@@ -10,8 +10,8 @@ use Rattle.mx_plan.specs.declared.faults.ShapeFault.{ShapeFault}
 use Rattle.mx_plan.specs.declared.faults.ShapeFault.TheVariants.{Quorum, Tree}
 use Rattle.mx_plan.specs.Fields.{IsShape}
 
--- each node asks all others; or a plane, a grid of rows and columns, or listed arbiter sets; or a
--- tree of edges, and its holder
+-- a shape as a plan describes it: each node asks all others; or there are arbiter sets, by a plane,
+-- by a grid of rows and columns, or listed; or there is a tree, by its edges and its holder
 pub data PlannedShape : Type 0 where
   all_others : PlannedShape
   plane : PlannedShape
@@ -19,7 +19,7 @@ pub data PlannedShape : Type 0 where
   listed : List (List ℕ) → PlannedShape
   tree : List (ℕ × ℕ) → ℕ → PlannedShape
 
--- the described shape of n nodes
+-- the shape is the described one, for n nodes
 abbrev pub IsShapeOf : ℕ → PlannedShape → Shape → Type 0
 IsShapeOf n all_others (Ricart count) = count ≡ n
 IsShapeOf n plane (Maekawa family) = IsPlaneSize n × IsPlane n family
@@ -35,7 +35,7 @@ IsRefusalOf n (listed sets) (Quorum fault) = IsFirstFault sets fault
 IsRefusalOf n (tree edges holder) (Tree fault) = IsFirstTreeFault n edges holder fault
 IsRefusalOf n _ _ = ⊥
 
--- the described shape, which is a shape of n nodes; or why there is none
+-- the result is the described shape, which is a shape of n nodes; or it is why there is none
 abbrev pub IsShaped : ℕ → PlannedShape → Result Shape ShapeFault → Type 0
 IsShaped n shape_planned r =
     MatchResult r

@@ -13,16 +13,16 @@ use Rattle.mx_plan.specs.declared.faults.PlanFault.TheVariants.{NotPlan}
 abbrev pub no_edges : {T : Type 0} → Result T PlanFault
 no_edges = Err (NotPlan place.Edges)
 
--- two names
+-- whether these values are two names
 abbrev pub are_ends : List Data → Bool
 are_ends (a ∷ b ∷ []) = is_name_value a && is_name_value b
 are_ends _ = false
 
--- an array of two names
+-- whether a value is an array of two names
 unfoldable pub is_edge : Data → Bool
 is_edge d = are_ends (list_in d)
 
--- the numbers of two names
+-- the numbers of the two nodes with these names
 abbrev pub ends_of : List Text → List Data → Result (ℕ × ℕ) PlanFault
 ends_of nodes (a ∷ b ∷ []) =
     and_then (number_in place.Edges nodes a)
@@ -33,7 +33,7 @@ ends_of nodes _ = no_edges
 abbrev pub edge_of : List Text → Data → Result (ℕ × ℕ) PlanFault
 edge_of nodes d = ends_of nodes (list_in d)
 
--- the edges of these arrays: their form first, and then their names
+-- the edges that these arrays describe. A wrong form is reported before any unknown name
 abbrev pub edges_from : List Text → List Data → Result (List (ℕ × ℕ)) PlanFault
 edges_from nodes ds = if list_all is_edge ds then each (edge_of nodes) ds else no_edges
 

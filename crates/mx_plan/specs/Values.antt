@@ -10,11 +10,11 @@ use Rattle.mx_plan.specs.Text.{Text}
 use Rattle.mx_plan.specs.declared.faults.PlanFault.{PlanFault}
 use Rattle.mx_plan.specs.declared.faults.PlanFault.TheVariants.{NotJson, Memory}
 
--- the result is that by the rules, or memory ran out
+-- the result is the wanted one, or memory ran out
 abbrev pub Answers : {T : Type 0} → Result T PlanFault → Result T PlanFault → Type 0
 Answers wanted r = (r ≡ wanted) ⊎ (r ≡ Err Memory)
 
--- the list is that by the rules, or memory ran out
+-- the list, or the fault, is the wanted one; or memory ran out
 abbrev pub Gives : {T : Type 0} → Result (List T) PlanFault
     → Result (Vec T Global) PlanFault → Type 0
 Gives wanted (Ok list) = wanted ≡ Ok list.items
@@ -24,7 +24,7 @@ Gives wanted (Err e) = (wanted ≡ Err e) ⊎ (e ≡ Memory)
 unfoldable pub value_of : List ℕ → Option Data
 value_of text = if is_utf8 text then read text else None
 
--- the reading of a text, by the rule for its JSON value
+-- applies f to the JSON value of a text; the fault is `NotJson` if there is no such value
 abbrev pub of_text : {T : Type 0} → (Data → Result T PlanFault) → List ℕ → Result T PlanFault
 of_text f text = option_map_or f (value_of text) (Err NotJson)
 
@@ -34,18 +34,19 @@ abbrev pub and_then : {A B : Type 0} → Result A PlanFault → (A → Result B 
 and_then (Ok a) f = f a
 and_then (Err e) f = Err e
 
--- the reading of each value of a list, the first being the k-th: the first fault counts
+-- applies f to each item with its number, which is k for the first item; returns the results, or
+-- the first fault
 unfoldable pub each_from : {A B : Type 0} → (ℕ → A → Result B PlanFault) → ℕ → List A
     → Result (List B) PlanFault
 each_from f k [] = Ok []
 each_from f k (x ∷ xs) =
     and_then (f k x) (λ y. and_then (each_from f (k + 1) xs) (λ ys. Ok (y ∷ ys)))
 
--- the reading of each value of a list, by the same rule
+-- applies f to each item; returns the results, or the first fault
 abbrev pub each : {A B : Type 0} → (A → Result B PlanFault) → List A → Result (List B) PlanFault
 each f xs = each_from (λ _. f) 0 xs
 
--- the value is an object
+-- whether the value is an object
 abbrev pub is_object : Data → Bool
 is_object d = is_some (as_object d)
 

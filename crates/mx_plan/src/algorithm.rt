@@ -23,7 +23,7 @@ pub enum Algorithm {
 ///
 /// # Errors
 ///
-/// Returns `NotPlan` if it names none.
+/// Returns `NotPlan` if the word names no algorithm.
 fn named(word: &str) -> Result<Algorithm, PlanFault>
     ensures { result ≡ spec.algorithm_named word.now }
 {
@@ -39,7 +39,7 @@ fn named(word: &str) -> Result<Algorithm, PlanFault>
 ///
 /// # Errors
 ///
-/// Returns `NotPlan` if the key is missing or names none.
+/// Returns `NotPlan` if the key `algorithm` is missing, or its value names no algorithm.
 pub fn algorithm_in(plan: &Value) -> Result<Algorithm, PlanFault>
     ensures { result ≡ spec.algorithm_of (view plan.now) }
 {

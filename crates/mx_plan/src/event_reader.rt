@@ -21,14 +21,14 @@ use std::alloc::Global;
 /// Reads a list of at most 1,000,000 events. Each is an array of a word, names of the plan's nodes
 /// and registers, and `u64` numbers: `["ask",N]`, `["enter",N]`, `["read",N,R]`, `["write",N,R,V]`,
 /// `["leave",N]`, `["cancel",N]`, `["tick",N]`, `["want",N,M]`, `["settle",N,K]`, `["deliver",K]`
-/// and `["restart",N]`.
+/// and `["restart",N]`. N and M are nodes, R is a register, V and K are numbers.
 ///
 /// # Errors
 ///
 /// Returns `NotJson` if the text is not JSON, and `NotPlan` with the place if the list or an event
-/// has another form. Returns `UnknownName` if the plan does not have a name. The form of an event
-/// is checked before its names. A longer list is refused at event 1,000,000, before its events are
-/// read. Returns `Memory` if memory runs out.
+/// has another form. Returns `UnknownName` if the plan has no node or register of a name. The form
+/// of an event is checked before its names. A list of more than 1,000,000 events is refused at
+/// event 1,000,000, before its events are read. Returns `Memory` if memory runs out.
 pub fn read_events(alloc: Global, text: &[u8], plan: &Plan) -> Result<Vec<Event>, PlanFault>
     ensures { Gives (spec.events_at plan.now text.now) result }
 {
@@ -36,6 +36,7 @@ pub fn read_events(alloc: Global, text: &[u8], plan: &Plan) -> Result<Vec<Event>
     events_in(alloc, &value, plan)
 }
 
+/// Reads the events that a JSON value lists: an array of at most 1,000,000.
 fn events_in(alloc: Global, value: &Value, plan: &Plan) -> Result<Vec<Event>, PlanFault>
     ensures { Gives (spec.events_of plan.now (view value.now)) result }
 {
@@ -48,6 +49,7 @@ fn events_in(alloc: Global, value: &Value, plan: &Plan) -> Result<Vec<Event>, Pl
     }
 }
 
+/// Reads each of the values as an event, in order.
 fn each_event(alloc: Global, values: &[Value], plan: &Plan) -> Result<Vec<Event>, PlanFault>
     ensures { Gives (spec.events_from plan.now 0 (map view values.now)) result }
 {
@@ -61,7 +63,7 @@ fn each_event(alloc: Global, values: &[Value], plan: &Plan) -> Result<Vec<Event>
     Ok(events)
 }
 
-/// Returns the k-th event: a word, and the values after it.
+/// Reads event `k` of the list from its JSON value: an array of a word and arguments.
 #[tactic(auto, unfolding(crate::specs::Events::event_of))]
 fn event_in(plan: &Plan, value: &Value, k: u64) -> Result<Event, PlanFault>
     ensures { result ≡ spec.event_of plan.now k (view value.now) }
@@ -75,8 +77,8 @@ fn event_in(plan: &Plan, value: &Value, k: u64) -> Result<Event, PlanFault>
     }
 }
 
-/// Returns the event of a kind with these values after its word. Their form is checked first, then
-/// the names.
+/// Returns event `k` of the list, of this kind and with these values after its word. The form of
+/// all values is checked first, and then the names.
 fn event_with(plan: &Plan, kind: EventKind, values: &[Value], k: u64) -> Result<Event, PlanFault>
     ensures { result ≡ spec.event_with plan.now k kind (map view values.now) }
 {
@@ -91,7 +93,7 @@ fn event_with(plan: &Plan, kind: EventKind, values: &[Value], k: u64) -> Result<
     }
 }
 
-/// Returns whether there are as many values as the kind requires, each of its form.
+/// Returns whether there are as many values as argument kinds, each value in the form of its kind.
 fn have_form(kinds: &[ArgumentKind], values: &[Value]) -> bool
     ensures { result ≡ spec.have_form kinds.now (map view values.now) }
 {
@@ -106,8 +108,8 @@ fn have_form(kinds: &[ArgumentKind], values: &[Value]) -> bool
     true
 }
 
-/// Returns whether a value has the form of an argument: a name for a node or a register, and a
-/// whole number otherwise.
+/// Returns whether a value has the form of an argument of this kind: a name for a node or a
+/// register, and a `u64` otherwise.
 fn has_form(kind: ArgumentKind, value: &Value) -> bool
     ensures { result ≡ spec.has_form kind (view value.now) }
 {
@@ -119,7 +121,7 @@ fn has_form(kind: ArgumentKind, value: &Value) -> bool
     }
 }
 
-/// Reads the values as arguments.
+/// Reads the values as the arguments of event `k`, which are of these kinds.
 fn arguments_in(
     plan: &Plan,
     kinds: &[ArgumentKind],
@@ -141,7 +143,7 @@ fn arguments_in(
     Ok(arguments)
 }
 
-/// Reads a value as an argument.
+/// Reads a value as an argument of event `k`, which is of this kind.
 fn argument_in(
     plan: &Plan,
     kind: ArgumentKind,
@@ -162,7 +164,7 @@ fn argument_in(
     }
 }
 
-/// Returns the node of a name.
+/// Returns the plan's node with this name, or `UnknownName` at event `k`.
 fn node_in(plan: &Plan, name: &Value, k: u64) -> Result<NodeId, PlanFault>
     ensures { result ≡ number_in (place.Event k) plan.now.nodes (view name.now) }
 {
@@ -172,7 +174,7 @@ fn node_in(plan: &Plan, name: &Value, k: u64) -> Result<NodeId, PlanFault>
     }
 }
 
-/// Returns the register of a name.
+/// Returns the number of the plan's register with this name, or `UnknownName` at event `k`.
 fn register_in(plan: &Plan, name: &Value, k: u64) -> Result<u8, PlanFault>
     ensures { result ≡ number_in (place.Event k) plan.now.registers (view name.now) }
 {

@@ -10,28 +10,28 @@ use std::alloc::{AllocError, AllocFailed};
 use std::error::Error;
 use std::fmt;
 
-/// Why the nodes of a plan have no such shape. Its numbers are those of nodes and edges, in the
-/// order of the plan.
+/// Which rule the arbiter sets or the tree of a plan break. Nodes and edges are numbered from 0, in
+/// the order of the plan.
 #[derive(Clone, Copy, Debug, PartialEq, Eq)]
 pub enum ShapeFault {
-    /// The arbiter sets are no family.
+    /// The arbiter sets break this rule.
     Quorum(QuorumFault),
-    /// The edges and the holder are no tree.
+    /// The edges and the holder are no tree, for this reason.
     Tree(TreeFault),
 }
 
 /// Why a text is refused.
 #[derive(Clone, Copy, Debug, PartialEq, Eq)]
 pub enum PlanFault {
-    /// It is not valid JSON, not valid UTF-8, or nested deeper than 127.
+    /// The text is not valid JSON, not valid UTF-8, or nests deeper than 127.
     NotJson,
     /// The value at this place is missing or has another form.
     NotPlan(Place),
-    /// A name occurs twice.
+    /// A name occurs twice at this place.
     DoubleName(Place),
-    /// The plan does not have a well-formed name.
+    /// The name at this place is well-formed, but the plan has no such node or register.
     UnknownName(Place),
-    /// Every place has its form, but the nodes have no such shape.
+    /// Each place has the right form, but the arbiter sets or the tree break a rule.
     BadShape(ShapeFault),
     /// Memory ran out. This can happen at any point of reading.
     Memory,
@@ -92,12 +92,12 @@ impl From<ShapeFault> for PlanFault {
     }
 }
 
-/// A fault of arbiter sets, as a fault line shows it.
+/// A fault of arbiter sets, as it is printed.
 #[derive(Clone, Copy)]
 struct QuorumText(QuorumFault);
 
 impl QuorumText {
-    /// Returns the words of this fault; the numbers of its nodes follow them.
+    /// Returns the words of this fault, without the numbers after them.
     fn words(&self) -> &str
         ensures { result.now ≡ quorum_words self.now.0 }
     {
@@ -130,7 +130,7 @@ impl fmt::Display for QuorumText {
     }
 }
 
-/// A fault of a tree, as a fault line shows it.
+/// A fault of a tree, as it is printed.
 #[derive(Clone, Copy)]
 struct TreeText(TreeFault);
 

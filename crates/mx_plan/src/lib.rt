@@ -1,5 +1,6 @@
-//! Plans and events, read from JSON. A plan has the names of a cluster's nodes and registers, its
-//! bounds, and its shape for one of the three algorithms. The events are those of the cluster.
+//! Plans and events, read from JSON. A plan describes a cluster: the names of its nodes and
+//! registers, the greatest number of a section, the origin from which other numbers count on, and
+//! the shape for one of the three algorithms. Events say what happens in the cluster.
 #![tactic(auto)]
 
 mod algorithm;

@@ -15,12 +15,13 @@ use mx_stamps::MAX_NODES;
 use serde_json::Value;
 use std::alloc::Global;
 
-/// Reads the names that the value of a key lists: 1 to `most`, all different.
+/// Reads the names that the value of a key lists: 1 to `most`, all different. A fault has this
+/// `place`.
 ///
 /// # Errors
 ///
-/// Returns `NotPlan` if it is no such list, `DoubleName` if a name occurs twice, and `Memory` if
-/// memory runs out.
+/// Returns `NotPlan` if the value is missing or no such list, `DoubleName` if a name occurs twice,
+/// and `Memory` if memory runs out.
 pub fn names_at(
     alloc: Global,
     value: Option<&Value>,
@@ -37,6 +38,7 @@ pub fn names_at(
     }
 }
 
+/// Returns whether there are 1 to `most` values, each a name.
 fn are_names(values: &[Value], most: usize) -> bool
     ensures { result ≡ spec.are_names most (map view values.now) }
 {
@@ -44,6 +46,7 @@ fn are_names(values: &[Value], most: usize) -> bool
     1 <= len && len <= most && all_names(values)
 }
 
+/// Returns whether each value is a name.
 fn all_names(values: &[Value]) -> bool
     ensures { result ≡ list_all spec.is_name_value (map view values.now) }
 {
@@ -55,6 +58,7 @@ fn all_names(values: &[Value]) -> bool
     true
 }
 
+/// Returns these values as names, or `DoubleName` with `place` if two are equal.
 fn distinct_names(alloc: Global, values: &[Value], place: Place) -> Result<Names, PlanFault>
     ensures { Answers (spec.distinct_names place (map text_of (map view values.now))) result }
 {
@@ -89,11 +93,11 @@ pub fn is_name_list(value: &Value) -> bool
     }
 }
 
-/// Returns the number of a node's name.
+/// Returns the number of the node that a value names.
 ///
 /// # Errors
 ///
-/// Returns `UnknownName` if no node has it.
+/// Returns `UnknownName` with `place` if no node has this name.
 pub fn number_of_name(value: &Value, nodes: &Names, place: Place) -> Result<u8, PlanFault>
     requires { length nodes.now ≤ MAX_NODES }
     ensures value { result ≡ spec.number_in place nodes.now (view value.now) }
@@ -105,11 +109,12 @@ pub fn number_of_name(value: &Value, nodes: &Names, place: Place) -> Result<u8, 
     }
 }
 
-/// Returns the numbers of nodes' names, in order.
+/// Returns the numbers of the nodes that the values name, in order.
 ///
 /// # Errors
 ///
-/// Returns `UnknownName` if no node has a name, and `Memory` if memory runs out.
+/// Returns `UnknownName` with `place` if a name is that of no node, and `Memory` if memory runs
+/// out.
 pub fn numbers_of_names(
     alloc: Global,
     values: &[Value],

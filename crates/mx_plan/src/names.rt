@@ -37,7 +37,7 @@ impl Names {
         self.set.len()
     }
 
-    /// Adds a name unless it is there already, and returns whether it did.
+    /// Adds a name unless it is there already, and returns whether the name was added.
     ///
     /// # Errors
     ///
@@ -78,12 +78,14 @@ pub fn is_name(text: &str) -> bool
     has_name_bytes(bytes)
 }
 
+/// Returns whether each byte may be in a name.
 fn has_name_bytes(bytes: &[u8]) -> bool
     ensures { result ≡ list_all is_name_byte bytes.now }
 {
     bytes.iter().all(|b| is_name_byte(*b))
 }
 
+/// Returns whether a byte may be in a name: an ASCII letter, a digit, `_` or `-`.
 #[tactic(auto, unfolding(crate::specs::Text::is_name_byte))]
 fn is_name_byte(b: u8) -> bool
     ensures { result ≡ is_name_byte b }

@@ -1,4 +1,4 @@
-//! The places of plans and of lists of events.
+//! The places of a plan and of a list of events at which faults are found.
 
 ghost use Rattle.std.specs.Prelude.{◌≡◌, Some};
 ghost use Rattle.mx_plan.specs.FaultTexts.{place_text, place_word};
@@ -24,12 +24,12 @@ pub enum Place {
     Holder,
     /// The list of events itself, which is an array.
     Events,
-    /// One event, counted from 0.
+    /// The event of this number, counted from 0.
     Event(u64),
 }
 
 impl Place {
-    /// Returns the word for this place; for an event, its number follows the word.
+    /// Returns the word for this place, without the number of an event.
     fn word(&self) -> &str
         ensures { result.now ≡ place_word self.now }
     {

@@ -11,9 +11,9 @@ use mx_stamps::{MAX_NODES, MAX_REGISTERS, MAX_SECTIONS, NodeId};
 use std::marker::Model;
 
 /// A plan of a cluster. It has the names of the nodes, 1 to 21, and of the registers that they
-/// guard, 1 to 32, and the greatest section number. It also has the origin, from which stamps,
-/// grants and hops count on, and the shape. The arbiter sets or the tree are over exactly these
-/// nodes.
+/// guard, 1 to 32. It also has the greatest section number, the origin from which stamps, grants
+/// and hops count on, and the shape. The arbiter sets or the tree of the shape are over exactly
+/// these nodes.
 #[derive(Drop)]
 pub struct Plan {
     pub(crate) nodes: Names,

@@ -42,7 +42,7 @@ pub fn read_plan(alloc: Global, text: &[u8]) -> Result<Plan, PlanFault>
     plan_in(alloc, &value)
 }
 
-/// Reads a value as a plan.
+/// Reads a plan from its JSON value.
 fn plan_in(alloc: Global, value: &Value) -> Result<Plan, PlanFault>
     ensures answers { spec.IsOutcome (spec.draft_of (view value.now)) result
         ⊎ (result ≡ Err PlanFault.Memory) }
@@ -58,7 +58,7 @@ fn plan_in(alloc: Global, value: &Value) -> Result<Plan, PlanFault>
     ))
 }
 
-/// Reads the names of the nodes and of the registers.
+/// Reads the names of a plan's nodes and of its registers.
 fn both_names(alloc: Global, value: &Value) -> Result<(Names, Names), PlanFault>
     ensures answers { Answers (part.both_names (view value.now)) result }
     ensures nodes { IfOk result (λ names. AreNames MAX_NODES names.0) }
@@ -74,7 +74,7 @@ fn both_names(alloc: Global, value: &Value) -> Result<(Names, Names), PlanFault>
     .map(|registers| (nodes, registers))
 }
 
-/// Reads the sections, the origin and the shape of a plan.
+/// Returns the greatest section number, the origin and the shape of a plan, in this order.
 fn setting_in(
     alloc: Global,
     algorithm: Algorithm,
@@ -93,6 +93,7 @@ fn setting_in(
     shape_in(alloc, algorithm, value, nodes).map(|shape| (sections, origin, shape))
 }
 
+/// Returns the greatest section number of a plan: the value of its key `sections`, 1 to 1,000,000.
 fn sections_in(value: &Value) -> Result<u64, PlanFault>
     ensures value { result
         ≡ spec.in_range Place.Sections (number_of (get (codes "sections") (view value.now))) }
@@ -105,6 +106,8 @@ fn sections_in(value: &Value) -> Result<u64, PlanFault>
     }
 }
 
+/// Returns the origin of a plan, from which stamps, grants and hops count on: the value of its key
+/// `origin`, or 0 if the key is missing.
 fn origin_in(value: &Value) -> Result<u64, PlanFault>
     ensures { result ≡ spec.origin_of (get (codes "origin") (view value.now)) }
 {
@@ -114,7 +117,7 @@ fn origin_in(value: &Value) -> Result<u64, PlanFault>
     origin.as_u64().ok_or(PlanFault::NotPlan(Place::Origin))
 }
 
-/// Reads the shape of the nodes for an algorithm.
+/// Reads the shape that a plan for `algorithm` gives its nodes.
 fn shape_in(
     alloc: Global,
     algorithm: Algorithm,

@@ -19,12 +19,12 @@ use mx_stamps::MAX_NODES;
 use serde_json::Value;
 use std::alloc::Global;
 
-/// Reads the shape from the value of the key `quorums`.
+/// Reads the arbiter sets that the value of a plan's key `quorums` describes.
 ///
 /// # Errors
 ///
-/// Returns `NotPlan` if the value has another form, and `UnknownName` if no node has a name.
-/// Returns `BadShape` if the sets are no family, and `Memory` if memory runs out.
+/// Returns `NotPlan` if the value is missing or has another form, and `UnknownName` if a name is
+/// that of no node. Returns `BadShape` if the sets break a rule, and `Memory` if memory runs out.
 pub fn quorums_in(alloc: Global, value: Option<&Value>, nodes: &Names) -> Result<Shape, PlanFault>
     requires { AreNames MAX_NODES nodes.now }
     ensures { ShapeAnswers (length nodes.now)
@@ -36,6 +36,7 @@ pub fn quorums_in(alloc: Global, value: Option<&Value>, nodes: &Names) -> Result
     }
 }
 
+/// Reads the arbiter sets that a value describes, by its key `kind`.
 fn quorums_from(alloc: Global, value: &Value, nodes: &Names) -> Result<Shape, PlanFault>
     requires { AreNames MAX_NODES nodes.now }
     ensures { ShapeAnswers (length nodes.now)
@@ -47,6 +48,8 @@ fn quorums_from(alloc: Global, value: &Value, nodes: &Names) -> Result<Shape, Pl
     }
 }
 
+/// Reads arbiter sets of this kind from the other keys of `value`. A kind is `plane`, `grid` or
+/// `listed`.
 fn of_kind(alloc: Global, kind: &str, value: &Value, nodes: &Names) -> Result<Shape, PlanFault>
     requires { AreNames MAX_NODES nodes.now }
     ensures { ShapeAnswers (length nodes.now)
@@ -65,7 +68,8 @@ fn of_kind(alloc: Global, kind: &str, value: &Value, nodes: &Names) -> Result<Sh
     }
 }
 
-/// Returns a grid with one place for each node.
+/// Returns the arbiter sets of a grid. Returns `NotPlan` unless rows times columns is the number of
+/// nodes.
 fn grid_in(nodes: u8, rows: Option<u64>, cols: Option<u64>) -> Result<Shape, PlanFault>
     requires some { 0 < nodes }
     requires few { nodes ≤ MAX_NODES }
@@ -79,14 +83,14 @@ fn grid_in(nodes: u8, rows: Option<u64>, cols: Option<u64>) -> Result<Shape, Pla
     }
 }
 
-/// Returns whether a grid has this number of places.
+/// Returns whether rows times columns is the number of nodes.
 fn is_size(nodes: u8, rows: u64, cols: u64) -> bool
     ensures { result ≡ (rows * cols == nodes) }
 {
     rows.checked_mul(cols) == Some(u64::from(nodes))
 }
 
-/// Reads the family of the sets that the value of the key `sets` lists.
+/// Reads the arbiter sets that the value of the key `sets` lists, one for each node.
 fn sets_in(alloc: Global, value: Option<&Value>, nodes: &Names) -> Result<Shape, PlanFault>
     requires { AreNames MAX_NODES nodes.now }
     ensures { ShapeAnswers (length nodes.now)
@@ -98,13 +102,14 @@ fn sets_in(alloc: Global, value: Option<&Value>, nodes: &Names) -> Result<Shape,
     }
 }
 
-/// Returns whether there is one array of names for each node.
+/// Returns whether the values are arrays of names, and as many as nodes.
 fn are_sets(values: &[Value], nodes: usize) -> bool
     ensures { result ≡ spec.are_sets nodes (map view values.now) }
 {
     values.len() == nodes && all_name_lists(values)
 }
 
+/// Returns whether each value is an array of names.
 fn all_name_lists(values: &[Value]) -> bool
     ensures { result ≡ list_all is_name_list (map view values.now) }
 {
@@ -116,7 +121,7 @@ fn all_name_lists(values: &[Value]) -> bool
     true
 }
 
-/// Reads the family of these arrays of names, one for each node.
+/// Reads arbiter sets from these arrays of names, one for each node.
 fn family_of(alloc: Global, values: &[Value], nodes: &Names) -> Result<Shape, PlanFault>
     requires few { length nodes.now ≤ MAX_NODES }
     requires one_each { length values.now ≡ length nodes.now }
@@ -127,7 +132,7 @@ fn family_of(alloc: Global, values: &[Value], nodes: &Names) -> Result<Shape, Pl
     Ok(Shape::listed(nodes.len() as u8, sets.as_slice())?)
 }
 
-/// Reads the nodes of each set, in order.
+/// Returns, for each of these arrays of names, the numbers of the nodes in it.
 fn all_sets(alloc: Global, values: &[Value], nodes: &Names) -> Result<Vec<Vec<u8>>, PlanFault>
     requires { length nodes.now ≤ MAX_NODES }
     ensures sets { spec.GivesSets (each (spec.set_of nodes.now) (map view values.now)) result }

@@ -14,16 +14,17 @@ use mx_trees::Tree;
 /// The shape of a cluster, by the algorithm that its nodes run.
 #[derive(Clone, Copy, Debug, PartialEq, Eq)]
 pub enum Shape {
-    /// Each node asks all others. The number of nodes.
+    /// Each node asks all others. The count is the number of nodes.
     Ricart(Count),
-    /// Each node asks its arbiters. The arbiter sets: any two sets meet.
+    /// Each node asks its arbiters. The quorums are the sets of arbiters, any two of which have a
+    /// node in common.
     Maekawa(Quorums),
-    /// The privilege moves along the edges of a tree. The tree, with the first holder.
+    /// The privilege (token) moves along the edges of a tree. The root is its first holder.
     Raymond(Tree),
 }
 
 impl Shape {
-    /// Creates the shape in which each of n nodes asks all others.
+    /// Creates the shape in which each of `n` nodes asks all others.
     pub(crate) fn all_others(n: u8) -> Shape
         requires some { 0 < n }
         requires few { n ≤ MAX_NODES }
@@ -32,14 +33,16 @@ impl Shape {
         Shape::Ricart(Count::of(n).unwrap())
     }
 
-    /// Creates the plane of n nodes.
+    /// Creates the arbiter sets of the projective plane of `n` nodes, or fails if `n` is not 7, 13
+    /// or 21.
     pub(crate) fn plane(n: u8) -> Result<Shape, ShapeFault>
         ensures { IsShaped n shape_planned.plane result }
     {
         Ok(Shape::Maekawa(Quorums::plane(n)?))
     }
 
-    /// Creates the grid of n nodes with these rows and columns.
+    /// Creates the arbiter sets of a grid of `n` nodes with these rows and columns. The set of a
+    /// node is its row and its column.
     pub(crate) fn grid(n: u8, rows: u8, cols: u8) -> Result<Shape, ShapeFault>
         requires some { 0 < n }
         requires few { n ≤ MAX_NODES }
@@ -49,7 +52,7 @@ impl Shape {
         Ok(Shape::Maekawa(Quorums::grid(rows, cols)?))
     }
 
-    /// Creates the family of these sets, one for each of n nodes.
+    /// Creates the shape with these arbiter sets, one for each of `n` nodes, in order.
     pub(crate) fn listed(n: u8, sets: &[Vec<u8>]) -> Result<Shape, ShapeFault>
         requires { length sets.now ≡ n }
         ensures { IsShaped n (shape_planned.listed (lists_of sets.now)) result }
@@ -57,7 +60,7 @@ impl Shape {
         Ok(Shape::Maekawa(Quorums::listed(sets)?))
     }
 
-    /// Creates the tree of n nodes with these edges and this holder.
+    /// Creates the tree of `n` nodes with these edges. The privilege is with `holder` at the start.
     pub(crate) fn tree(n: u8, edges: &[(u8, u8)], holder: u8) -> Result<Shape, ShapeFault>
         ensures { IsShaped n (shape_planned.tree edges.now holder) result }
     {

@@ -18,12 +18,13 @@ use mx_stamps::MAX_NODES;
 use serde_json::Value;
 use std::alloc::Global;
 
-/// Reads the shape of a tree from the keys `edges` and `holder`.
+/// Reads the tree that the keys `edges` and `holder` of a plan describe.
 ///
 /// # Errors
 ///
-/// Returns `NotPlan` if a value has another form, and `UnknownName` if no node has a name. Returns
-/// `BadShape` if the edges and the holder are no tree, and `Memory` if memory runs out.
+/// Returns `NotPlan` if a value is missing or has another form, and `UnknownName` if a name is that
+/// of no node. Returns `BadShape` if the edges and the holder are no tree, and `Memory` if memory
+/// runs out.
 pub fn tree_in(alloc: Global, plan: &Value, nodes: &Names) -> Result<Shape, PlanFault>
     requires { AreNames MAX_NODES nodes.now }
     ensures { ShapeAnswers (length nodes.now) (tree_of nodes.now (view plan.now)) result }
@@ -33,8 +34,8 @@ pub fn tree_in(alloc: Global, plan: &Value, nodes: &Names) -> Result<Shape, Plan
     Ok(Shape::tree(nodes.len() as u8, edges.as_slice(), holder)?)
 }
 
-/// Reads the edges that the value of a key lists. Their form is checked first, and then their
-/// names.
+/// Reads the edges that the value of the key `edges` lists. The form of all edges is checked first,
+/// and then their names.
 fn edges_in(alloc: Global, value: Option<&Value>, nodes: &Names) -> Result<Vec<(u8, u8)>, PlanFault>
     requires { length nodes.now ≤ MAX_NODES }
     ensures { Gives (spec.edges_of nodes.now (option_map (λ v. view v.now) value.entry)) result }
@@ -45,6 +46,7 @@ fn edges_in(alloc: Global, value: Option<&Value>, nodes: &Names) -> Result<Vec<(
     }
 }
 
+/// Returns whether each value is an array of two names.
 fn all_edges(values: &[Value]) -> bool
     ensures { result ≡ list_all spec.is_edge (map view values.now) }
 {
@@ -67,6 +69,7 @@ fn is_edge(value: &Value) -> bool
     }
 }
 
+/// Returns the numbers of the two nodes that each edge joins, in order.
 fn each_edge(alloc: Global, values: &[Value], nodes: &Names) -> Result<Vec<(u8, u8)>, PlanFault>
     requires { length nodes.now ≤ MAX_NODES }
     ensures { Gives (each (spec.edge_of nodes.now) (map view values.now)) result }
@@ -79,7 +82,7 @@ fn each_edge(alloc: Global, values: &[Value], nodes: &Names) -> Result<Vec<(u8, 
     Ok(edges)
 }
 
-/// Returns the nodes that an edge joins.
+/// Returns the numbers of the two nodes that an edge joins.
 fn edge_in(value: &Value, nodes: &Names) -> Result<(u8, u8), PlanFault>
     requires { length nodes.now ≤ MAX_NODES }
     ensures { result ≡ spec.edge_of nodes.now (view value.now) }
@@ -94,7 +97,7 @@ fn edge_in(value: &Value, nodes: &Names) -> Result<(u8, u8), PlanFault>
     }
 }
 
-/// Returns the node that the value of a key names.
+/// Returns the number of the node that the value of the key `holder` names.
 fn holder_in(value: Option<&Value>, nodes: &Names) -> Result<u8, PlanFault>
     requires { length nodes.now ≤ MAX_NODES }
     ensures { result ≡ spec.holder_of nodes.now (option_map (λ v. view v.now) value.entry) }

@@ -8,11 +8,11 @@ use crate::faults::PlanFault;
 use serde_json::Value;
 use std::alloc::Global;
 
-/// Parses a text.
+/// Parses a JSON text.
 ///
 /// # Errors
 ///
-/// Returns `NotJson` if it is not valid JSON in UTF-8, and `Memory` if memory runs out.
+/// Returns `NotJson` if the text is not valid JSON in UTF-8, and `Memory` if memory runs out.
 #[tactic(auto, unfolding(crate::specs::Values::value_of))]
 pub fn parse(alloc: Global, text: &[u8]) -> Result<Value, PlanFault>
     ensures ok { IfOk result (λ v. spec.value_of text.now ≡ Some (view v)) }
@@ -36,7 +36,8 @@ pub fn elements(value: &Value) -> Option<&[Value]>
     }
 }
 
-/// Returns the elements of the value of a key, if the key is there and its value is an array.
+/// Returns the elements of a key's value. Returns `None` if the key is missing, or its value is no
+/// array.
 pub fn array_in<'a>(value: Option<&'a Value>) -> Option<&'a [Value]>
     ensures { option_map (λ vs. map view vs.now) result
         ≡ spec.array_of (option_map (λ v. view v.now) value.entry) }
@@ -64,7 +65,8 @@ pub fn text_in(value: &Value) -> &str
     value.as_str().unwrap_or("")
 }
 
-/// Returns the value of a key, if the key is there and its value is a whole number.
+/// Returns a key's value as a number. Returns `None` if the key is missing, or its value is no
+/// `u64`.
 pub fn number_in(value: Option<&Value>) -> Option<u64>
     ensures { result ≡ spec.number_of (option_map (λ v. view v.now) value.entry) }
 {

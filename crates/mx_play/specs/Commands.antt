@@ -11,12 +11,13 @@ use Rattle.mx_scripts.specs.Scripts.{IsOver}
 use Rattle.mx_play.specs.declared.input.Input.{Input}
 use Rattle.mx_play.specs.declared.input.Input.TheVariants as input
 
--- a line of a script is over the nodes and registers of the plan
+-- if the command does a line of a script, an event in that line names only nodes and registers of
+-- the plan
 abbrev pub IsOverPlan : Fields → SessionCommand → Type 0
 IsOverPlan p (Does line) = IsOver (length p.nodes) (length p.registers) line.order
 IsOverPlan p _ = ⊤
 
--- an input asks for such a line, or for none
+-- if the input is a command, the same holds of that command
 abbrev pub IsInput : Fields → Input → Type 0
 IsInput p (input.Command command) = IsOverPlan p command
 IsInput p _ = ⊤
@@ -33,7 +34,8 @@ IsSecondWord line word =
     (words : List (Bor Text)) × AreWords (before_comment line) words
     × (word ≡ second_of (texts_of words))
 
--- what a line comes to: its command is executed or refused; or it is at fault
+-- what a session does with a line: it executes or refuses the line's command; or it does nothing,
+-- since the line is at fault
 pub data Turn : Type 0 where
   executes : SessionCommand → Text → Turn
   refuses : SessionCommand → Turn

@@ -1,4 +1,4 @@
--- The lines of links that are cut.
+-- The lines that a session shows for cut links.
 use Rattle.std.specs.Prelude.{ℕ, ◌&&◌, ◌||◌, ◌==◌, Bool, true, [], ◌++◌, Option, Some, None, codes, drop, if◌then◌else◌}
 use Rattle.mx_plan.specs.Text.{Text, line_feed}
 use Rattle.mx_plan.specs.Fields.{Fields}
@@ -6,7 +6,7 @@ use Rattle.mx_format.specs.EventTexts.{name_of}
 use Rattle.mx_format.specs.Lines.{texts_from}
 use Rattle.mx_scripts.specs.Links.{LinkState, is_cut}
 
--- it is the node that is named, where one is
+-- the node is the one that was named; any node, if none was
 abbrev pub is_to : Option ℕ → ℕ → Bool
 is_to None addressee = true
 is_to (Some node) addressee = addressee == node
@@ -16,7 +16,7 @@ abbrev pub cut_line : Fields → ℕ → ℕ → Text
 cut_line p one other =
     codes "cut " ++ name_of p one ++ codes " " ++ name_of p other ++ line_feed
 
--- the link is cut, and has the node that is named at one end
+-- the link is cut, and the node that was named, if one was, is at one of its ends
 abbrev pub is_shown : Option ℕ → LinkState → ℕ → ℕ → Bool
 is_shown to l one other = is_cut l one other && (is_to to one || is_to to other)
 
@@ -24,10 +24,10 @@ module _ (p : Fields) (to : Option ℕ) (l : LinkState) where
   abbrev pub cut_text : ℕ → ℕ → Text
   cut_text i j = if is_shown to l i j then cut_line p i j else []
 
-  -- the lines of the links between a node and itself or a later one
+  -- the lines of the links that are shown between a node and itself or a later node
   abbrev pub cut_lines_of : ℕ → Text
   cut_lines_of i = texts_from (λ j name. cut_text i j) i (drop i p.nodes)
 
-  -- those of all links
+  -- the lines of all links that are shown
   abbrev pub cut_lines : Text
   cut_lines = texts_from (λ i name. cut_lines_of i) 0 p.nodes

@@ -1,4 +1,4 @@
--- What happens to a cluster and its parcels, one event after another, and what is printed of it.
+-- What happens to a cluster and its parcels, one event after another, and what is then printed.
 use Rattle.std.specs.Prelude.{◌≡◌, List, [], ◌∷◌, ◌++◌, length}
 use Rattle.mx_nodelaws.specs.Core.{Core}
 use Rattle.mx_events.specs.declared.event.Event.{Event}
@@ -21,13 +21,14 @@ events_in (IsLost k ∷ es) = events_in es
 events_in (LinksChange change ∷ es) = events_in es
 
 module _ {H S M : Type 0} (core : Core H S M) where
-  -- these happen, one after another, each in a state that allows it
+  -- these events lead from one state to another: they happen in turn, each in a state that allows
+  -- it
   abbrev pub Leads : RunState S M → List SessionEvent → RunState S M → Type 0
   Leads old [] new = new ≡ old
   Leads old (e ∷ es) new =
       (mid : RunState S M) × IsAllowed old e × Brings core old e mid × Leads mid es new
 
-  -- they can happen
+  -- these events can happen in turn, from this state on
   abbrev pub CanLead : RunState S M → List SessionEvent → Type 0
   CanLead old es = (new : RunState S M) × Leads old es new
 
@@ -37,7 +38,8 @@ module _ {H S M : Type 0} (core : Core H S M) where
     new_text old new =
         text_of core letter_text p (length old.cluster.trace) old.cluster new.cluster
 
-    -- these happen, one after another, and that is printed of them
+    -- these events happen in turn, each in a state that allows it, and the text is what is printed
+    -- of them
     abbrev pub Makes : RunState S M → List SessionEvent → RunState S M → Text → Type 0
     Makes old [] new text = (new ≡ old) × (text ≡ [])
     Makes old (e ∷ es) new text =

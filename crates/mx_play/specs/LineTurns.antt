@@ -31,41 +31,44 @@ is_end (input.Command End) = true
 is_end _ = false
 
 module _ (p : Fields) where
-  -- the words of a line come to this
+  -- the words of a line ask for this command, or have this error
   abbrev pub Comes : Text → Result SessionCommand LineError → Type 0
   Comes line result =
       (words : List (Bor Text)) × AreWords (before_comment line) words
       × (command_of (known_of p) (texts_of words) ≡ result)
 
-  -- a line asks for a command
+  -- a line asks for this command: it is not too long, is in UTF-8, and no word of it is wrong
   abbrev pub AsksFor : Text → SessionCommand → Type 0
   AsksFor line command = (length line ≤ MAX_LINE) × IsUtf8 line × Comes line (Ok command)
 
-  -- it is too long, not in UTF-8, or has a wrong word
+  -- a line is too long, not in UTF-8, or has a wrong word
   abbrev pub IsAtFault : Text → Type 0
   IsAtFault line =
       (MAX_LINE < length line) ⊎ (¬ IsUtf8 line) ⊎ ((error : LineError) × Comes line (Err error))
 
-  -- this is what a text asks for, by its words
+  -- the words of a text ask for the command of this input; or one of them is wrong, and the input
+  -- is a fault
   abbrev pub MeansText : Text → Input → Type 0
   MeansText line (input.Command command) = Comes line (Ok command)
   MeansText line (input.Fault fault) = (error : LineError) × Comes line (Err error)
   MeansText line input.Eof = ⊥
 
-  -- or the bytes are not in UTF-8
+  -- the same of bytes that may not be in UTF-8: if they are not, the input is a fault
   abbrev pub Means : Text → Input → Type 0
   Means line (input.Command command) = IsUtf8 line × Comes line (Ok command)
   Means line (input.Fault fault) =
       (¬ IsUtf8 line) ⊎ ((error : LineError) × Comes line (Err error))
   Means line input.Eof = ⊥
 
-  -- a line was read into a buffer, and this is what it asks for
+  -- a line was read into a buffer and asks for the command of this input; or the line is at fault,
+  -- and the input is a fault
   abbrev pub IsInputOf : Text → Input → Text → Type 0
   IsInputOf line (input.Command command) buffer = (buffer ≡ line) × AsksFor line command
   IsInputOf line (input.Fault fault) buffer = IsAtFault line
   IsInputOf line input.Eof buffer = ⊥
 
-  -- the next of these lines was read, and the others are still to come; or there is none
+  -- the input is that of the first of these lines, and the others are still to come; or there are
+  -- no lines, and the input is the end
   abbrev pub ReadsInput : List Text → Input → Text → Option (List Text) → Type 0
   ReadsInput [] of buffer rest = (of ≡ input.Eof) × (rest ≡ Some [])
   ReadsInput (line ∷ lines) of buffer rest = IsInputOf line of buffer × (rest ≡ Some lines)

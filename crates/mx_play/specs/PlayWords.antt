@@ -7,18 +7,18 @@ use Rattle.mx_cli.specs.Words.{asked_of, by_name}
 use Rattle.mx_cli.specs.declared.table.CommandId.TheVariants as id
 use Rattle.mx_play.specs.declared.words.Request.{Request as Told}
 
--- the whole command line
+-- the command line of `mx` with `play` alone
 unfoldable pub play_line : App
 play_line = line_of (id.Play ∷ [])
 
--- the names of a plan, and perhaps of a script whose lines come first
+-- the name of a plan, and perhaps that of a script, whose lines come first
 abbrev pub Request : Type 0
 Request = Text × Option Text
 
 abbrev pub request_of : Told → Request
 request_of told = (told.plan.now, option_map (λ name. name.now) told.script)
 
--- what was given for the arguments
+-- what `play` asks for, by what was given for its arguments
 abbrev pub play_in : List Row → Option Request
 play_in rows =
     option_map (λ plan. (plan, first_of (codes "SCRIPT") rows)) (first_of (codes "PLAN") rows)
@@ -26,7 +26,7 @@ play_in rows =
 abbrev pub request_in : Option (Text × List Row) → Option Request
 request_in met = by_name (codes "play") play_in met
 
--- what the words ask for, where they are `play` with its arguments
+-- what the words ask for, if they are `play` with its arguments
 unfoldable pub request_asked : List Text → Option Request
 request_asked words = asked_of play_line request_in words
 

@@ -28,24 +28,24 @@ IsPlayedBy p script lines old new (Maekawa family) =
 IsPlayedBy p script lines old new (Raymond tree) =
     IsPlayed raymond_core raymond_text raymond_known p tree script lines old new
 
--- the plan is what the first of these lines says, by the rules of plans; or some line, if they are
--- not known
+-- the plan is that of the first of these lines, by the rules of plans; if the lines are not known,
+-- that of some line
 abbrev pub IsLinePlan : Option (List Text) → Fields → Type 0
 IsLinePlan None p = (line : List ℕ) × IsRead line (Ok p)
 IsLinePlan (Some lines) p = IsRead (first_of lines) (Ok p)
 
--- the plan is the first of the lines that come, or what a source tells
+-- the plan was read: from the first of the lines that come, or from a source
 abbrev pub IsPlanBy : Bool → Option Telling → Option (List Text) → Fields → Type 0
 IsPlanBy true told lines p = IsLinePlan lines p
 IsPlanBy false told lines p = IsPlanOf told p
 
--- the plan of a name; if that is the name of standard input, the plan is the first of the lines that
--- come
+-- the plan of this name was read; if that is the name of standard input, from the first of the
+-- lines that come
 abbrev pub IsPlanNamed : (Text → Option Telling) → Text → Option (List Text) → Fields → Type 0
 IsPlanNamed told name lines p = IsPlanBy (is_dash name) (told name) lines p
 
--- what a source tells of the script; it has no lines if none is named, or its name is that of
--- standard input
+-- what the source states about the script. The script has no lines if none is named, or if its name
+-- is that of standard input
 abbrev pub told_of_name : (Text → Option Telling) → Text → Option Telling
 told_of_name told name = if is_dash name then Some (Some []) else told name
 
@@ -53,12 +53,12 @@ abbrev pub told_of_script : (Text → Option Telling) → Option Text → Option
 told_of_script told None = Some (Some [])
 told_of_script told (Some name) = told_of_name told name
 
--- the script was read, if the source tells of it
+-- the script was read, if the source states what it holds
 abbrev pub IsScriptOf : Option Telling → Text → Type 0
 IsScriptOf told text = IfSome told (λ telling. telling ≡ Some text)
 
--- the plan and the script were read, and a session was played of the script's lines and those that
--- come after the plan
+-- the plan and the script were read, and a session was played: the lines of the script, and then
+-- those that come, without the plan if it is the first of them
 abbrev pub HasPlayed : (Text → Option Telling) → Option (List Text) → Request → Held → Held
     → Type 0
 HasPlayed told lines request old new =

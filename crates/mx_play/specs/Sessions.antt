@@ -9,26 +9,28 @@ use Rattle.mx_scripts.specs.declared.session_event.SessionEvent.{SessionEvent}
 use Rattle.mx_play.specs.Histories.{CanLead, Leads, Makes, events_in, first_state, new_text}
 use Rattle.mx_play.specs.declared.undo.Undone.{Undone}
 
--- the cluster and its parcels as they are now; what happened, in order; for each line that was
--- done, the oldest first, how much had happened before it; and what was undone, the last undo last
+-- the cluster and its parcels as they are now; the events that happened, in order; for each line
+-- that was done, in order, how many events had happened before it; and what was undone, the last
+-- undo last
 pub record SessionState (S M : Type 0) : Type 0 where
   pub state : RunState S M
   pub done : List SessionEvent
   pub marks : List ℕ
   pub undone : List Undone
 
--- before any line
+-- the session before its first line
 abbrev pub at_start : {H S M : Type 0} → Core H S M → Fields → H → SessionState S M
 at_start core p shape =
     record { state = first_state core p shape; done = []; marks = []; undone = [] }
 
--- what happens if all undos are redone: the last one is the first
+-- the events that happen if all undos are redone: the last undo is redone first
 abbrev pub undone_in : List Undone → List SessionEvent
 undone_in [] = []
 undone_in (u ∷ us) = undone_in us ++ u.done.items
 
--- the cluster and its parcels are those to which what happened leads, the cluster has the nodes of
--- the plan, and what happened is over its nodes and registers; what was undone can happen again
+-- the events that happened lead from the cluster of the plan, at rest, to the state of the session,
+-- which has a member for each node of the plan; what was undone can happen again; and all these
+-- events name only nodes and registers of the plan
 pub record IsSession {H S M : Type 0} (core : Core H S M) (p : Fields) (shape : H)
     (s : SessionState S M) : Type 0 where
   pub leads : Leads core (first_state core p shape) s.done s.state
@@ -37,7 +39,7 @@ pub record IsSession {H S M : Type 0} (core : Core H S M) (p : Fields) (shape : 
   pub redoes : CanLead core s.state (undone_in s.undone)
   pub later : AreOver (length p.nodes) (length p.registers) (events_in (undone_in s.undone))
 
--- more happened, of no line that is done yet
+-- more events happened, of a line that is not done yet
 pub record Extends {S M : Type 0} (old new : SessionState S M) : Type 0 where
   pub more : List SessionEvent
   pub done : new.done ≡ old.done ++ more
@@ -45,7 +47,8 @@ pub record Extends {S M : Type 0} (old new : SessionState S M) : Type 0 where
   pub undone : new.undone ≡ old.undone
 
 module _ {H S M : Type 0} (core : Core H S M) (letter_text : Fields → M → Text) (p : Fields) where
-  -- these happened, of no line that is done yet, and were printed after a text
+  -- these events happened, of a line that is not done yet, and what is printed of them was added to
+  -- the text
   pub record Adds (events : List SessionEvent) (old new : SessionState S M) (text text' : Text)
       : Type 0 where
     pub made : Text
@@ -55,7 +58,8 @@ module _ {H S M : Type 0} (core : Core H S M) (letter_text : Fields → M → Te
     pub undone : new.undone ≡ old.undone
     pub printed : text' ≡ text ++ made
 
-  -- one event happened, and was printed
+  -- one event happened, of a line that is not done yet, and what is printed of it was added to the
+  -- text
   pub record AddsOne (event : SessionEvent) (old new : SessionState S M) (text text' : Text)
       : Type 0 where
     pub brings : Brings core old.state event new.state

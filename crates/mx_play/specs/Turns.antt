@@ -33,8 +33,8 @@ pub record IsShown {S M : Type 0} (what : Text) (old new : SessionState S M) (te
   pub printed : text ≡ what
 
 module _ {H S M : Type 0} (core : Core H S M) where
-  -- the last `count` lines never happened: what is left is what had happened before them, and the
-  -- cluster and its parcels are those to which that leads
+  -- the last `count` lines are undone: only the events before them have happened, the session is in
+  -- the state to which those lead, and what was undone is kept for `redo`
   pub record IsUndone (p : Fields) (shape : H) (count : ℕ) (old new : SessionState S M)
       : Type 0 where
     pub few : count ≤ length old.marks
@@ -58,20 +58,20 @@ module _ {H S M : Type 0} (core : Core H S M) where
     pub marks : new.marks ≡ old.marks ++ last.marks.items
     pub leads : Leads core old.state last.done.items new.state
 
-  -- lines were undone; or there are fewer, and nothing changed
+  -- `count` lines were undone; or fewer lines were done, and nothing changed
   abbrev pub HasUndone : Fields → H → Option InputFault → ℕ → SessionState S M
       → SessionState S M → Type 0
   HasUndone p shape None count old new = IsUndone p shape count old new
   HasUndone p shape (Some fault) count old new = (length old.marks < count) × (new ≡ old)
 
-  -- the last undo was redone; or there is none, and nothing changed
+  -- the last undo was redone; or there is no undo, and nothing changed
   abbrev pub HasRedone : Option InputFault → SessionState S M → SessionState S M → Type 0
   HasRedone None old new = IsRedone old new
   HasRedone (Some fault) old new = (old.undone ≡ []) × (new ≡ old)
 
 module _ {H S M : Type 0} (core : Core H S M) (letter_text : Fields → M → Text) where
-  -- what a line of a script asks for happened, as often as it says, over the nodes and registers
-  -- of the plan, and was printed
+  -- what a line of a script asks for happened, as often as the line says, and was printed; its
+  -- events name only nodes and registers of the plan
   pub record IsDone (p : Fields) (line : Line) (old new : SessionState S M) (text : Text)
       : Type 0 where
     pub events : List SessionEvent
@@ -82,14 +82,14 @@ module _ {H S M : Type 0} (core : Core H S M) (letter_text : Fields → M → Te
     pub marks : new.marks ≡ old.marks ++ length old.done ∷ []
     pub undone : new.undone ≡ []
 
-  -- a line of a script is done; or it is refused, and nothing changed
+  -- a line of a script is done; or the line is refused, and nothing changed
   abbrev pub HasDone : Fields → Option InputFault → Line → SessionState S M → SessionState S M
       → Text → Type 0
   HasDone p None line old new text = IsDone p line old new text
   HasDone p (Some fault) line old new text = IsShown [] old new text
 
--- a command may be refused: as many lines were not done, or nothing was undone; of a line of a
--- script, nothing is said
+-- the command may be refused: fewer lines were done than it undoes, or nothing was undone that it
+-- could redo. A line of a script may always be refused, and other commands never
 abbrev pub CanRefuse : {S M : Type 0} → SessionCommand → SessionState S M → Type 0
 CanRefuse (Does line) s = ⊤
 CanRefuse (Undo count) s = length s.marks < count
@@ -98,7 +98,7 @@ CanRefuse _ s = ⊥
 
 module _ {H S M : Type 0} (core : Core H S M) (letter_text : Fields → M → Text)
     (knows : S → List Known) (p : Fields) (shape : H) where
-  -- what a command of a line does and prints
+  -- the command of the line `from` leads from one session to another, and prints the text
   abbrev pub Executes : SessionCommand → Text → SessionState S M → SessionState S M → Text → Type 0
   Executes (Does line) from old new text = IsDone core letter_text p line old new text
   Executes (Undo count) from old new text = IsUndone core p shape count old new × (text ≡ [])
@@ -114,7 +114,7 @@ module _ {H S M : Type 0} (core : Core H S M) (letter_text : Fields → M → Te
   Executes End from old new text = IsShown [] old new text
   Executes Nothing from old new text = IsShown [] old new text
 
-  -- a command is executed; or it is refused, and nothing changed
+  -- a command is executed; or the command is refused, as it may be, and nothing changed
   abbrev pub HasExecuted : Option InputFault → SessionCommand → Text → SessionState S M
       → SessionState S M → Text → Type 0
   HasExecuted None command from old new text = Executes command from old new text
@@ -126,29 +126,31 @@ module _ {H S M : Type 0} (core : Core H S M) (letter_text : Fields → M → Te
   Takes (refuses command) old new text = CanRefuse command old × IsShown [] old new text
   Takes rests old new text = IsShown [] old new text
 
-  -- these turns, one after another, and what was printed of them
+  -- these turns lead from one session to another, one after another, and print the text
   abbrev pub TakesAll : List Turn → SessionState S M → SessionState S M → Text → Type 0
   TakesAll [] old new text = (new ≡ old) × (text ≡ [])
   TakesAll (t ∷ ts) old new text =
       (mid : SessionState S M) × (first rest : Text) × Takes t old mid first
       × (text ≡ first ++ rest) × TakesAll ts mid new rest
 
-  -- the turn of an input from this line was taken, and what was printed of it
+  -- the turn of this input, from this line, leads from one session to another, and prints the text
   pub record HasTurned (of : Input) (line : Text) (old new : SessionState S M) (text : Text)
       : Type 0 where
     pub turn : Turn
     pub is : IsTurnOf of line turn
     pub takes : Takes turn old new text
 
-  -- and an output got that
+  -- the turn of this input, from this line, leads from one session to another, and an output got
+  -- what it prints
   pub record PrintsTurn (of : Input) (line : Text) (old new : SessionState S M) (out out' : Held)
       : Type 0 where
     pub text : Text
     pub turned : HasTurned of line old new text
     pub printed : Appends out out' text
 
-  -- the turns of these lines were taken, if they are known, of all or up to the first that ends
-  -- the session; and an output got what was printed of them
+  -- the turns of these lines were taken, of all or up to the first that ends the session (`goes_on`
+  -- says that none does), and an output got what they print. If the lines are not known, some turns
+  -- were taken
   pub record HasRun (lines : Option (List Text)) (goes_on : Bool) (old new : SessionState S M)
       (out out' : Held) : Type 0 where
     pub turns : List Turn
@@ -158,7 +160,8 @@ module _ {H S M : Type 0} (core : Core H S M) (letter_text : Fields → M → Te
     pub ended : has_ended turns ≡ not goes_on
     pub are : IfSome lines (λ known. AreTurnsOf p known turns)
 
-  -- the same if the session goes on; otherwise none was taken
+  -- if the session goes on, the turns of these lines were taken, and an output got what they print;
+  -- else no turn was taken
   pub record RunsOn (goes_on : Bool) (lines : Option (List Text)) (old new : SessionState S M)
       (out out' : Held) : Type 0 where
     pub turns : List Turn
@@ -168,9 +171,10 @@ module _ {H S M : Type 0} (core : Core H S M) (letter_text : Fields → M → Te
     pub none : goes_on ≡ false → turns ≡ []
     pub are : goes_on ≡ true → IfSome lines (λ known. AreTurnsOf p known turns)
 
-  -- a whole session: the turns of the lines of a script, and of those that come, from the start;
-  -- and then the closing lines of the cluster to which the events lead that are left, which are
-  -- over the nodes and registers of the plan
+  -- a whole session: the turns of the lines of a script, and then of those that come, were taken
+  -- from the start. An output got what they print, and then the closing lines of the last cluster.
+  -- The events that were not undone lead to that cluster, and name only nodes and registers of the
+  -- plan
   pub record IsPlayed (script : Text) (lines : Option (List Text)) (out out' : Held) : Type 0 where
     pub turns : List Turn
     pub are : AreTurns p script lines turns

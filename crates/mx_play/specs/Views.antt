@@ -21,23 +21,24 @@ module _ {H S M : Type 0} (core : Core H S M) (knows : S → List Known) (p : Fi
   abbrev pub node_shown : ℕ → MemberState S → Text
   node_shown i m = member_line core p i m ++ facts_line p (knows m.core)
 
-  -- those of the node that is named, or of each
+  -- these lines of the node that was named; of each node, if none was
   abbrev pub standing_lines : Option ℕ → ClusterState S M → Text
   standing_lines None g = texts_from node_shown 0 g.members
   standing_lines (Some node) g = option_map_or (node_shown node) (slice_get g.members node) []
 
 module _ {H S M : Type 0} (core : Core H S M) (letter_text : Fields → M → Text) (p : Fields) where
-  -- the line of a parcel, if it is under way to the node that is named
+  -- the line of a parcel, if it is under way to the node that was named, or to any node if none was
   abbrev pub waiting_line : Option ℕ → RunState S M → ℕ → ℕ × ℕ × Parcel M → Text
   waiting_line to s k parcel =
       if is_under_way s.fates k && is_to to parcel.1 then parcel_line letter_text p k parcel
       else []
 
-  -- the lines of the parcels under way, the oldest first
+  -- the lines of the parcels under way to the node that was named, or to any, the oldest first
   abbrev pub waiting_lines : Option ℕ → RunState S M → Text
   waiting_lines to s = texts_from (waiting_line to s) 0 s.cluster.sent
 
-  -- the nodes, or the one that is named, the links that are cut, and the parcels under way
+  -- what `show` prints: the node that was named, or all, and then its cut links, or all, and the
+  -- parcels under way to it, or to any node
   abbrev pub view_text : (S → List Known) → Option ℕ → RunState S M → Text
   view_text knows to s =
       standing_lines core knows p to s.cluster ++ cut_lines p to s.fates.links

@@ -1,4 +1,4 @@
-//! `play`: from words, named bytes, lines and two outputs to a status.
+//! `play`, from the words of a command line to the exit status.
 
 ghost use Rattle.std.specs.Prelude.{◌≡◌, false, IsSome, IfSome};
 ghost use Rattle.mx_cli.specs.Words.{texts_of};
@@ -48,7 +48,7 @@ pub fn play<S: Source, L: Lines, O: Output, E: Output>(
     }
 }
 
-/// Plays what is asked for, or reports why there is no session. Returns the status.
+/// Reads plan and script, and runs the session, or reports why it can't. Returns the status.
 fn play_request<S: Source, L: Lines, O: Output, E: Output>(
     alloc: Global,
     request: &Request<'_>,
@@ -69,7 +69,8 @@ fn play_request<S: Source, L: Lines, O: Output, E: Output>(
     }
 }
 
-/// Plays a session over a plan of this name, and closes the run. Returns the status.
+/// Runs a session, and reports why it ended early, if it did. `plan` is the plan's name, for that
+/// report. Returns the status.
 fn play_and_close<L: Lines, O: Output, E: Output>(
     alloc: Global,
     plan: &str,

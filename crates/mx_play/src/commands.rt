@@ -28,8 +28,8 @@ use mx_stamps::NodeId;
 use std::alloc::{AllocError, Global};
 use std::str;
 
-/// Executes the command of a line, and appends what it prints. Returns why nothing is done, if
-/// nothing is; then nothing changes, and nothing is printed.
+/// Executes the command of `line`, and appends what it prints. If that can't be done, returns why;
+/// then the session is as before, and nothing is printed.
 pub(crate) fn execute<C: Exclusion + Knowledge>(
     setting: &Setting<'_, C>,
     command: &SessionCommand,
@@ -72,7 +72,8 @@ where
     }
 }
 
-/// Does a line of a script, and appends its events; or nothing changes.
+/// Does a line of a script, and appends the lines of its events. If a part of it fails, returns
+/// why; then nothing changes.
 fn do_line<C: Exclusion>(
     setting: &Setting<'_, C>,
     line: &Line,
@@ -105,7 +106,8 @@ where
     }
 }
 
-/// A line is done, before which this much had happened: it can be undone, and nothing redone.
+/// Notes that a line is done and can be undone, and drops what could be redone. `before` is how
+/// many events came before the line.
 fn commit<C: Exclusion>(before: usize, session: &mut Session<C>) -> Result<(), AllocError>
     ensures state { session.new.state ≡ session.old.state }
     ensures done { session.new.done ≡ session.old.done }
@@ -117,7 +119,7 @@ fn commit<C: Exclusion>(before: usize, session: &mut Session<C>) -> Result<(), A
     Ok(())
 }
 
-/// Appends what `show` prints.
+/// Appends what `show` prints of the node `to`, or of all nodes.
 fn show_session<C: Exclusion + Knowledge>(
     setting: &Setting<'_, C>,
     to: &Option<NodeId>,
@@ -135,7 +137,7 @@ where
     show(setting, to, &session.state, text)
 }
 
-/// Appends the events as a file.
+/// Appends the events so far, as a file for `replay`.
 fn list_session<C: Exclusion>(
     setting: &Setting<'_, C>,
     session: &Session<C>,
@@ -147,7 +149,7 @@ fn list_session<C: Exclusion>(
     add_events(setting.plan, &session.state, text)
 }
 
-/// Appends the line of a mark.
+/// Appends what `mark` prints: `mark` and the word.
 fn add_mark(word: &str, text: &mut String) -> Result<(), AllocError>
     ensures { OnOk result (string_bytes text.new ≡ string_bytes text.old ++ mark_line word.now) }
 {
@@ -156,7 +158,7 @@ fn add_mark(word: &str, text: &mut String) -> Result<(), AllocError>
     text.push_str("\n")
 }
 
-/// The second word of a line; nothing if it has fewer, or is not in UTF-8.
+/// Returns the second word of a line, or `""` if it has fewer words or is not UTF-8.
 fn second_word(alloc: Global, line: &[u8]) -> Result<&str, AllocError>
     ensures { IfOk result (λ word. IsUtf8 line.now → IsSecondWord line.now word.now) }
 {
@@ -166,7 +168,7 @@ fn second_word(alloc: Global, line: &[u8]) -> Result<&str, AllocError>
     }
 }
 
-/// The second word of a text; nothing if it has fewer.
+/// Returns the second word of a text, or `""` if it has fewer words.
 fn second_in(alloc: Global, text: &str) -> Result<&str, AllocError>
     ensures { IfOk result (λ word. IsSecondWord text.now word.now) }
 {
@@ -174,7 +176,7 @@ fn second_in(alloc: Global, text: &str) -> Result<&str, AllocError>
     Ok(second_of(words.as_slice()))
 }
 
-/// The second of these words; nothing if there are fewer.
+/// Returns the second of these words, or `""` if there are fewer.
 fn second_of<'a>(words: &[&'a str]) -> &'a str
     ensures { result.now ≡ second_of (texts_of words.now) }
 {

@@ -1,4 +1,4 @@
-//! The lines of links that are cut.
+//! What `show` prints of the links that are cut.
 
 ghost use Rattle.std.specs.Prelude.{◌≡◌, ◌<◌, ◌++◌, length, string_bytes, OnOk, Some};
 ghost use Rattle.mx_play.specs.Cuts.{cut_line, cut_lines, cut_lines_of, cut_text, is_shown, is_to};
@@ -28,7 +28,7 @@ impl fmt::Display for CutLine<'_> {
     }
 }
 
-/// Appends the line of each link that is cut, or of those of one node.
+/// Appends the line of each cut link, or only of those at the node `to` if it is given.
 pub(crate) fn add_cuts(
     plan: &Plan,
     to: &Option<NodeId>,
@@ -44,7 +44,8 @@ pub(crate) fn add_cuts(
     Ok(())
 }
 
-/// Appends the lines of the links between a node and itself or a later one.
+/// Appends the lines, as `add_cuts` does, of the links between the node of index `i` and itself or
+/// a later node.
 fn add_cuts_of(
     plan: &Plan,
     to: &Option<NodeId>,
@@ -63,7 +64,7 @@ fn add_cuts_of(
     Ok(())
 }
 
-/// Appends the line of the link between two nodes, if it is cut.
+/// Appends the line of the link between the nodes of index `i` and `j`, if `is_shown` holds for it.
 fn add_cut(
     plan: &Plan,
     to: &Option<NodeId>,
@@ -82,7 +83,7 @@ fn add_cut(
     add_if_shown(plan, to, in_flight, one, other, text)
 }
 
-/// Appends the line of the link between two nodes, if it is cut.
+/// Appends the line of the link between two nodes, if `is_shown` holds for it.
 fn add_if_shown(
     plan: &Plan,
     to: &Option<NodeId>,
@@ -100,14 +101,14 @@ fn add_if_shown(
     Ok(())
 }
 
-/// Whether a link is cut, and has the node that is named at one end, if one is.
+/// Whether the link between two nodes is cut, and one of them is `to`, if it is given.
 fn is_shown(to: &Option<NodeId>, in_flight: &InFlight, one: NodeId, other: NodeId) -> bool
     ensures { result ≡ is_shown to.now in_flight.now.links one other }
 {
     in_flight.is_cut(one, other) && (is_to(to, one) || is_to(to, other))
 }
 
-/// Whether it is the node that is named, if one is.
+/// Whether `addressee` is the node `to`, or no node is given.
 pub(crate) fn is_to(to: &Option<NodeId>, addressee: NodeId) -> bool
     ensures { result ≡ is_to to.now addressee }
 {

@@ -1,4 +1,4 @@
-//! The texts of events and parcels that are new.
+//! The lines of new events and parcels.
 
 ghost use Rattle.std.specs.Prelude.{◌≡◌, ◌+◌, ◌<◌, ◌≤◌, ◌++◌, drop, length, string_bytes, OnOk};
 ghost use Rattle.mx_format.specs.LetterTexts.{letter_text};
@@ -12,7 +12,8 @@ use mx_nodelaws::Exclusion;
 use mx_plan::Plan;
 use std::alloc::AllocError;
 
-/// Appends the lines of the events from one number on, and then those of the parcels from another.
+/// Appends the lines of the events from number `event` on, and then those of the parcels from
+/// number `parcel` on.
 pub(crate) fn add_new<C: Exclusion>(
     plan: &Plan,
     cluster: &Cluster<C>,
@@ -32,7 +33,7 @@ where
     add_parcels(plan, cluster, parcel, text)
 }
 
-/// Appends the lines of the events from this number on.
+/// Appends the lines of the events from number `first` on.
 fn add_events(
     plan: &Plan,
     trace: &[Entry],

@@ -15,9 +15,9 @@ pub(crate) enum InputFault {
     Line(LineFailure),
     /// It has more than 65,536 bytes.
     TooLong,
-    /// Only this many lines were done, and more are to be undone.
+    /// `undo` asks for more lines than were done: only this many were.
     TooFew(usize),
-    /// Nothing was undone that can be redone.
+    /// `redo` finds nothing that was undone.
     NoUndo,
 }
 
@@ -33,17 +33,18 @@ impl fmt::Display for InputFault {
     }
 }
 
-/// The line of a fault in the line of this number of a session, counted from 1.
+/// What is reported of a faulty line of a session. Lines are counted from 1.
 #[derive(Drop)]
 pub(crate) struct InputFaultLine {
     number: u64,
     fault: InputFault,
-    /// The message about its words, after a colon; or nothing.
+    /// What is printed after the fault: a colon and a message about the line, or nothing.
     message: String,
 }
 
 impl InputFaultLine {
-    /// The line of a fault in this line, of a session over this plan.
+    /// Creates the report of a fault in line `number`, with the bytes `line`, of a session over
+    /// this plan.
     pub(crate) fn of(
         alloc: Global,
         plan: &Plan,
@@ -66,7 +67,8 @@ impl fmt::Display for InputFaultLine {
     }
 }
 
-/// The message about the words of a line, if they are at fault.
+/// Returns a colon and a message about the line, if it has a wrong word or asks for what can't be
+/// done; else an empty text.
 fn message_about(
     alloc: Global,
     plan: &Plan,

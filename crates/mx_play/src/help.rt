@@ -1,11 +1,11 @@
-//! The words of a session.
+//! The text that `help` prints.
 
 ghost use Rattle.std.specs.Prelude.{◌≡◌, ◌++◌, OnOk, string_bytes};
 ghost use Rattle.mx_play.specs.Help.{words_text};
 
 use std::alloc::AllocError;
 
-/// Appends a line for each word of a session.
+/// Appends what `help` prints: a line for each kind of line that a session takes.
 #[tactic(auto, unfolding(crate::specs::Help::words_text))]
 pub(crate) fn add_words(text: &mut String) -> Result<(), AllocError>
     ensures { OnOk result (string_bytes text.new ≡ string_bytes text.old ++ words_text) }
@@ -13,7 +13,7 @@ pub(crate) fn add_words(text: &mut String) -> Result<(), AllocError>
     text.push_str(WORDS)
 }
 
-/// A line for each word of a session.
+/// For each kind of line that a session takes, a line that says what it does.
 const WORDS: &str = "ask N         node N asks to enter\n\
     enter N       node N enters, where it may\n\
     read N R      node N, inside, reads register R\n\

@@ -14,7 +14,7 @@ use mx_scripts::LineFailure;
 use std::alloc::{AllocError, Global};
 use std::str;
 
-/// What a line asks for.
+/// What a line asks for, or what is wrong with it.
 #[derive(Clone, Copy)]
 pub(crate) enum Input {
     Command(SessionCommand),
@@ -23,7 +23,7 @@ pub(crate) enum Input {
     Eof,
 }
 
-/// Prompts for a line if lines are typed, and reads it into the place of the one before.
+/// Prompts for a line if lines are typed, reads it into `line`, and returns what it asks for.
 pub(crate) fn read_input<L: Lines, E: Output>(
     alloc: Global,
     plan: &Plan,
@@ -46,7 +46,7 @@ pub(crate) fn read_input<L: Lines, E: Output>(
     }
 }
 
-/// Prints what helps if lines are typed.
+/// Prints a hint about `help` and `end`, if lines are typed.
 pub(crate) fn greet<L: Lines, E: Output>(lines: &L, err: &mut E) -> Result<(), OutputFault> {
     if lines.are_typed() {
         err.put(b"help lists all lines, end ends the session\n")?;
@@ -54,13 +54,13 @@ pub(crate) fn greet<L: Lines, E: Output>(lines: &L, err: &mut E) -> Result<(), O
     Ok(())
 }
 
-/// Shows that a line may be typed.
+/// Prints the prompt, and flushes it.
 fn prompt<E: Output>(err: &mut E) -> Result<(), OutputFault> {
     err.put(b"> ")?;
     err.flush()
 }
 
-/// What a line asks for.
+/// Returns what a line asks for, or the fault that it is not UTF-8.
 fn input_in(alloc: Global, plan: &Plan, line: &[u8]) -> Result<Input, AllocError>
     ensures over { IfOk result (IsInput plan.now) }
     ensures means { IfOk result (Means plan.now line.now) }
@@ -71,7 +71,7 @@ fn input_in(alloc: Global, plan: &Plan, line: &[u8]) -> Result<Input, AllocError
     }
 }
 
-/// What a text asks for.
+/// Returns what the text of a line asks for, or which of its words is wrong.
 fn input_in_text(alloc: Global, plan: &Plan, text: &str) -> Result<Input, AllocError>
     ensures over { IfOk result (IsInput plan.now) }
     ensures means { IfOk result (MeansText plan.now text.now) }
@@ -83,7 +83,7 @@ fn input_in_text(alloc: Global, plan: &Plan, text: &str) -> Result<Input, AllocE
     }
 }
 
-/// Whether a command ends the session.
+/// Whether this is a command that ends the session.
 pub(crate) fn is_end(input: &Input) -> bool
     ensures { result ≡ is_end input.now }
 {

@@ -6,7 +6,7 @@ ghost use Rattle.mx_play.specs.Lines.{ReadsNext, lines_of};
 use mx_cli::split_line;
 use std::alloc::AllocError;
 
-/// A longer line is at fault.
+/// The greatest length of a line in bytes. A longer line is at fault.
 pub(crate) const MAX_LINE: usize = 65_536;
 
 /// How a line was read.
@@ -17,7 +17,7 @@ pub enum LineRead {
     TooLong,
     /// There are no more lines.
     End,
-    /// There may be lines, but they can't be read.
+    /// There may be more lines, but they can't be read.
     Unreadable,
 }
 
@@ -26,16 +26,16 @@ pub trait Lines {
     // the lines that are still to come, if they are known
     ghost rest: { Self → Option (List (List ℕ)) } = { λ _. None };
 
-    /// Puts the next line, without its line feed, in the place of `line`. The last line needs none.
+    /// Replaces `line` by the next line, without its line feed. The last line may lack one.
     fn next(&mut self, line: &mut Vec<u8>) -> Result<LineRead, AllocError>
         ensures { IfSome (rest self.old) (λ lines. IfOk result (λ read.
             ReadsNext lines read line.new.items (rest self.new))) };
 
-    /// Whether they are typed at a terminal, where a prompt asks for each.
+    /// Whether the lines are typed at a terminal. If they are, a prompt asks for each.
     fn are_typed(&self) -> bool;
 }
 
-/// The lines of a text.
+/// The lines of a text that are still to be read.
 #[derive(Clone, Copy)]
 pub(crate) struct Listed<'a> {
     pub(crate) rest: &'a [u8],

@@ -1,4 +1,4 @@
-//! The texts of all that happened: the file of its events, and its closing lines.
+//! The texts about all that happened: the file of its events, and the closing lines.
 
 ghost use Rattle.std.specs.Prelude.{◌≡◌, ◌++◌, length, string_bytes, IfOk, OnOk};
 ghost use Rattle.mx_format.specs.LetterTexts.{letter_text};
@@ -13,7 +13,7 @@ use mx_plan::Plan;
 use mx_scripts::{State, add_file};
 use std::alloc::AllocError;
 
-/// Appends the events as a file.
+/// Appends the events so far, as a file for `replay`.
 pub(crate) fn add_events<C: Exclusion>(
     plan: &Plan,
     state: &State<C>,
@@ -25,7 +25,7 @@ pub(crate) fn add_events<C: Exclusion>(
     add_file(plan, state.cluster().trace(), text)
 }
 
-/// Appends the closing lines and the verdict. Returns the status.
+/// Appends the line of each node, and the line of the verdict. Returns the verdict's status.
 pub(crate) fn add_end<C: Exclusion>(
     plan: &Plan,
     state: &State<C>,

@@ -1,4 +1,4 @@
-//! A session: a cluster, and what its lines did to it.
+//! A session: a cluster, and what lines have done to it.
 
 ghost use Rattle.std.specs.Prelude.{◌≡◌, IfOk};
 ghost use Rattle.mx_play.specs.Histories.{first_state};
@@ -19,15 +19,15 @@ pub(crate) struct Setting<'a, C: Exclusion> {
     pub(crate) shape: &'a C::Shape,
 }
 
-/// A cluster and its parcels as they are now, and what happened by which lines.
+/// A session: its cluster and parcels as they are now, what has happened, and what can be redone.
 #[derive(Drop)]
 pub(crate) struct Session<C: Exclusion> {
     pub(crate) state: State<C>,
-    /// What happened, in order.
+    /// What has happened, in order.
     pub(crate) done: Vec<SessionEvent>,
-    /// For each line that was done, how much had happened before it.
+    /// For each line that was done, how many events of `done` came before it.
     pub(crate) marks: Vec<usize>,
-    /// What can be redone; the last of it was undone last.
+    /// What `redo` can bring back, in the order in which it was undone.
     pub(crate) undone: Vec<Undone>,
 }
 
@@ -44,7 +44,7 @@ impl<C: Exclusion> Model for Session<C> {
     } };
 }
 
-/// The cluster of a plan, at rest, before any parcel was sent.
+/// Creates the cluster of the plan, at rest, before any parcel was sent.
 pub(crate) fn first_state<C: Exclusion>(setting: &Setting<'_, C>) -> Result<State<C>, AllocError>
     ensures { IfOk result (λ state.
         state ≡ first_state C.core setting.now.plan.now setting.now.shape.now) }
@@ -52,7 +52,7 @@ pub(crate) fn first_state<C: Exclusion>(setting: &Setting<'_, C>) -> Result<Stat
     State::start(setting.alloc, setting.plan, setting.shape)
 }
 
-/// A session before any line.
+/// Creates the session, before any line.
 pub(crate) fn first_session<C: Exclusion>(
     setting: &Setting<'_, C>,
 ) -> Result<Session<C>, AllocError>

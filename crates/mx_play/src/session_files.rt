@@ -33,7 +33,8 @@ pub(crate) fn fetch_start<S: Source, L: Lines>(
     Ok(PlanAndText { plan, text })
 }
 
-/// The plan of a name. If that is standard input, its first line is the plan.
+/// Reads the plan of this name. If the name is `-`, standard input, the plan is the next of
+/// `lines`.
 fn plan_of<S: Source, L: Lines>(
     alloc: Global,
     name: &str,
@@ -52,7 +53,7 @@ fn plan_of<S: Source, L: Lines>(
     }
 }
 
-/// The plan that the next line is.
+/// Reads the plan that stands in the next line.
 fn first_plan<L: Lines>(alloc: Global, lines: &mut L) -> Result<Plan, CommandError>
     ensures plan { IfOk result (IsLinePlan (L.rest lines.old)) }
     ensures left { IfOk result (λ _.
@@ -67,7 +68,7 @@ fn first_plan<L: Lines>(alloc: Global, lines: &mut L) -> Result<Plan, CommandErr
     }
 }
 
-/// The script, if one is named.
+/// Returns the bytes of the script, or none if no script is named.
 fn script_of<S: Source>(
     alloc: Global,
     name: Option<&str>,
@@ -82,7 +83,8 @@ fn script_of<S: Source>(
     }
 }
 
-/// The script of a name. Standard input has none, since its lines come anyway.
+/// Returns the bytes of the script of this name. For `-`, standard input, there are none, since its
+/// lines are read later.
 fn named_script<S: Source>(
     alloc: Global,
     name: &str,
@@ -98,7 +100,7 @@ fn named_script<S: Source>(
     }
 }
 
-/// Whether it is the name of standard input, whose lines are those of the session.
+/// Whether a name is `-`, which stands for standard input.
 fn is_dash(name: &str) -> bool
     ensures { result ≡ is_dash name.now }
 {

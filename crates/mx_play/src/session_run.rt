@@ -22,8 +22,8 @@ use mx_knowledge::Knowledge;
 use mx_nodelaws::Exclusion;
 use std::alloc::AllocError;
 
-/// Runs a session before any line: the lines of a script, and then those that come. Returns the
-/// status.
+/// Runs the lines of a script and then `lines`, until one ends the session or none is left; then
+/// prints the closing lines. Returns the status.
 pub(crate) fn run_session<C: Exclusion + Knowledge, L: Lines, O: Output, E: Output>(
     setting: &Setting<'_, C>,
     script: &[u8],
@@ -48,7 +48,7 @@ where
     finish(setting, session, out)
 }
 
-/// Runs the lines that come, numbered from `next`, unless the session has ended.
+/// Runs `lines`, numbered from `next` on. Does nothing if `next` is `None`: the session has ended.
 fn run_rest<C: Exclusion + Knowledge, L: Lines, O: Output, E: Output>(
     setting: &Setting<'_, C>,
     next: Option<u64>,
@@ -109,7 +109,8 @@ where
     Err(CommandError::Fault(Fault::CannotRead(Named::Events)))
 }
 
-/// Executes the input of the line of this number, and reports what is wrong with it.
+/// Executes what line `number` asks for, prints the result, and reports what is wrong with the
+/// line, if something is.
 fn turn<C: Exclusion + Knowledge, O: Output, E: Output>(
     setting: &Setting<'_, C>,
     number: u64,
@@ -134,7 +135,8 @@ where
     report(setting, number, &fault, line, err)
 }
 
-/// Executes an input, prints the result, and passes it on before anything else is read.
+/// Executes what a line asks for, then prints and flushes the result. Returns the fault of the
+/// line, if it has one.
 fn execute_and_print<C: Exclusion + Knowledge, O: Output>(
     setting: &Setting<'_, C>,
     input: &Input,
@@ -159,7 +161,8 @@ where
     Ok(fault)
 }
 
-/// Executes an input, and appends what it prints.
+/// Executes what a line asks for, and appends what it prints. Returns the fault of the line, if it
+/// has one.
 fn execute_input<C: Exclusion + Knowledge>(
     setting: &Setting<'_, C>,
     input: &Input,
@@ -185,7 +188,7 @@ where
     }
 }
 
-/// Prints a text, and passes it on.
+/// Prints a text, and flushes the output.
 fn print<O: Output>(text: &str, out: &mut O) -> Result<(), CommandError>
     ensures printed { OnOk result (Appends (O.written out.old) (O.written out.new) text.now) }
     ensures passed { OnOk result (O.keeps_back out.new ≡ false) }

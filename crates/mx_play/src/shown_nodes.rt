@@ -14,7 +14,7 @@ use mx_nodelaws::Exclusion;
 use mx_stamps::{MAX_NODES, NodeId};
 use std::alloc::AllocError;
 
-/// Appends the line of each node, or of one.
+/// Appends the lines of the node `to`, or of all nodes if `to` is `None`.
 pub(crate) fn add_standing<C: Exclusion + Knowledge>(
     setting: &Setting<'_, C>,
     to: &Option<NodeId>,
@@ -70,7 +70,7 @@ fn add_member<C: Exclusion + Knowledge>(
     }
 }
 
-/// Appends the line of a node, and that of what it knows.
+/// Appends the line of a node, and the line of what it knows.
 fn add_shown<C: Exclusion + Knowledge>(
     setting: &Setting<'_, C>,
     node: NodeId,
@@ -97,7 +97,7 @@ fn add_known<C: Exclusion + Knowledge>(
     add_facts_line(setting.plan, &facts, text)
 }
 
-/// Appends the line of a node.
+/// Appends the lines of one node.
 fn add_one<C: Exclusion + Knowledge>(
     setting: &Setting<'_, C>,
     node: NodeId,

@@ -16,7 +16,8 @@ use mx_scripts::State;
 use mx_stamps::NodeId;
 use std::alloc::AllocError;
 
-/// Appends the lines of the parcels under way, the oldest first.
+/// Appends the lines of the parcels under way, the oldest first. If `to` names a node, only those
+/// of parcels to it are appended.
 pub(crate) fn add_waiting<C: Exclusion>(
     plan: &Plan,
     to: &Option<NodeId>,
@@ -34,7 +35,8 @@ where
     Ok(())
 }
 
-/// Appends the line of a parcel, if it is under way.
+/// Appends the line of the parcel of this number, if it is under way to `to`, or to any node if
+/// `to` is `None`.
 fn add_if_waiting<C: Exclusion>(
     plan: &Plan,
     to: &Option<NodeId>,
@@ -58,7 +60,8 @@ where
     }
 }
 
-/// Appends the line of a parcel that was sent, if it is under way.
+/// Appends the line of the parcel `sent`, if it is under way to `to`, or to any node if `to` is
+/// `None`.
 fn add_parcel<C: Exclusion>(
     plan: &Plan,
     to: &Option<NodeId>,
@@ -79,7 +82,7 @@ where
     Ok(())
 }
 
-/// Whether a parcel is under way to the node that is named, if one is.
+/// Whether a parcel is under way, and its addressee is the node `to`, or `to` is `None`.
 fn is_waiting<C: Exclusion>(
     to: &Option<NodeId>,
     state: &State<C>,

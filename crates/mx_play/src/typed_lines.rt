@@ -5,22 +5,22 @@ use mx_io::{Counted, MAX_BYTES};
 use std::alloc::AllocError;
 use std::io::{ErrorKind, Read};
 
-/// How many bytes are read at once, if that many are there.
+/// The greatest number of bytes that one read takes.
 const MAX_AHEAD: usize = 4096;
 
-/// A line at which more bytes come, or signals interrupt more reads, can't be read.
+/// The most steps for one line. Each step takes a byte, or is a read that a signal interrupts.
 const MAX_STEPS: u64 = 2 * MAX_BYTES;
 
 /// The lines that are typed, or come through a pipe. Reading a line waits only for the end of that
-/// line. In all, they have at most as many bytes as a file may have, and take at most as many reads;
-/// a line beyond that can't be read.
+/// line. All lines together may have at most 268,435,456 bytes, and take at most as many reads; a
+/// line beyond that can't be read.
 #[derive(Drop)]
 pub struct Typed<R: Read + Drop> {
     reader: Counted<R>,
     is_terminal: bool,
-    /// How many bytes may still be asked for.
+    /// How many more bytes may be taken.
     left: u64,
-    /// What was read; the bytes from `next` to `end` have not been asked for.
+    /// What the last read gave. Its bytes from `next` up to `end` are not taken yet.
     ahead: [u8; MAX_AHEAD],
     next: usize,
     end: usize,
@@ -37,7 +37,7 @@ enum ByteRead {
 }
 
 impl<R: Read + Drop> Typed<R> {
-    /// The lines of a reader, from its first byte on, and whether it is a terminal.
+    /// Creates the lines of a reader. `is_terminal` says whether they are typed at a terminal.
     pub fn new(reader: R, is_terminal: bool) -> Self {
         Typed {
             reader: Counted::new(reader),
@@ -49,6 +49,7 @@ impl<R: Read + Drop> Typed<R> {
         }
     }
 
+    /// Returns the next byte, and reads more first if all that was read is taken.
     fn byte(&mut self) -> ByteRead {
         if self.next < self.end {
             return self.take();
@@ -67,7 +68,7 @@ impl<R: Read + Drop> Typed<R> {
         }
     }
 
-    /// The next byte of what was read, if one more may be asked for.
+    /// Takes the next byte of what was read, or fails if no more bytes may be taken.
     fn take(&mut self) -> ByteRead {
         let place = self.next;
         if place < MAX_AHEAD && self.left > 0 {
@@ -103,7 +104,7 @@ impl<R: Read + Drop> Lines for Typed<R> {
     }
 }
 
-/// How a line was read that may be too long.
+/// Returns how a whole line was read. `is_long` says that it is too long.
 fn line_read(is_long: bool) -> LineRead {
     if is_long {
         LineRead::TooLong

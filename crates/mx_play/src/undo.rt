@@ -1,4 +1,4 @@
-//! What is undone, and what is redone.
+//! Undoes and redoes lines of a session.
 
 ghost use Rattle.std.specs.Prelude.{◌≡◌, ◌∷◌, ◌++◌, [], IfNone, IfOk, IfSome, OnOk, drop, length, slice_index_or, take};
 ghost use Rattle.mx_format.specs.LetterTexts.{letter_text};
@@ -14,16 +14,17 @@ use mx_nodelaws::Exclusion;
 use mx_scripts::{SessionEvent, State};
 use std::alloc::{AllocError, Global};
 
-/// What was undone at once.
+/// What one `undo` took back.
 #[derive(Drop)]
 pub(crate) struct Undone {
-    /// What happened, in order.
+    /// What had happened, in order.
     pub(crate) done: Vec<SessionEvent>,
-    /// For each line, how much had happened before it.
+    /// For each line, how many events of the session came before it.
     pub(crate) marks: Vec<usize>,
 }
 
-/// Undoes this many lines, the last ones that were done. Nothing changes if there are fewer.
+/// Undoes the last `count` lines that were done. If there are fewer, changes nothing, and returns
+/// the fault.
 pub(crate) fn undo_lines<C: Exclusion>(
     setting: &Setting<'_, C>,
     count: u64,
@@ -47,7 +48,7 @@ pub(crate) fn undo_lines<C: Exclusion>(
     Ok(None)
 }
 
-/// Only this many lines are left, and what was undone can be redone.
+/// Keeps the marks of the first `left` lines, and stores what was undone for `redo`.
 fn keep_undone<C: Exclusion>(
     left: usize,
     undone: Undone,
@@ -63,7 +64,7 @@ fn keep_undone<C: Exclusion>(
     Ok(())
 }
 
-/// Redoes what was undone last. Nothing changes if nothing was undone.
+/// Redoes what was undone last. If nothing was undone, changes nothing, and returns the fault.
 pub(crate) fn redo_lines<C: Exclusion>(
     setting: &Setting<'_, C>,
     session: &mut Session<C>,
@@ -82,7 +83,7 @@ pub(crate) fn redo_lines<C: Exclusion>(
     }
 }
 
-/// Takes what was undone last.
+/// Removes and returns what was undone last.
 fn pop_undone<C: Exclusion>(session: &mut Session<C>) -> Option<Undone>
     ensures state { session.new.state ≡ session.old.state }
     ensures done { session.new.done ≡ session.old.done }
@@ -128,7 +129,7 @@ pub(crate) fn truncate<C: Exclusion>(
     go_back(setting, count, &mut session.state, &mut session.done)
 }
 
-/// Goes back to the first `count` events.
+/// Drops all but the first `count` events, and applies these again from the start.
 fn go_back<C: Exclusion>(
     setting: &Setting<'_, C>,
     count: usize,
@@ -148,7 +149,7 @@ fn go_back<C: Exclusion>(
     reapply_all(done.as_slice(), state)
 }
 
-/// Does again what happened once, one event after another.
+/// Applies these events in order. All of them have happened before, from the same state.
 fn reapply_all<C: Exclusion>(
     events: &[SessionEvent],
     state: &mut State<C>,
@@ -159,14 +160,15 @@ fn reapply_all<C: Exclusion>(
     for event in events {
         match state.apply(event) {
             Ok(()) => {}
-            // what happened once is refused only without memory
+            // what happened before can fail only if memory runs out
             Err(_) => return Err(AllocError),
         }
     }
     Ok(())
 }
 
-/// What happened after the first events, and the marks after the first ones.
+/// Copies what happened after the first `events` events, and the marks after the first `marks`
+/// ones.
 fn tail_of<C: Exclusion>(
     alloc: Global,
     session: &Session<C>,
@@ -181,7 +183,7 @@ fn tail_of<C: Exclusion>(
     Ok(Undone { done, marks })
 }
 
-/// The items of a list from a place on.
+/// Copies the items of a list from `place` on.
 fn items_from<T: Copy>(alloc: Global, items: &[T], place: usize) -> Result<Vec<T>, AllocError>
     ensures { IfOk result (λ tail. tail.items ≡ drop place items.now) }
 {
@@ -198,14 +200,15 @@ fn line_count<C: Exclusion>(session: &Session<C>) -> usize
     session.marks.len()
 }
 
-/// How much has happened.
+/// Returns how many events have happened, losses and changes of links included.
 pub(crate) fn event_count<C: Exclusion>(session: &Session<C>) -> usize
     ensures { result ≡ length session.now.done }
 {
     session.done.len()
 }
 
-/// How much had happened before the line of this number, counted from 0; or all, if there is none.
+/// Returns how many events came before this line, counted from 0; or how many there are, if there
+/// is no such line.
 fn events_before<C: Exclusion>(session: &Session<C>, line: usize) -> usize
     ensures { result
         ≡ slice_index_or session.now.marks line (length session.now.done) }
@@ -213,7 +216,7 @@ fn events_before<C: Exclusion>(session: &Session<C>, line: usize) -> usize
     mark_at(session.marks.as_slice(), line, event_count(session))
 }
 
-/// The mark of this number, or all if there is none.
+/// Returns the mark of this line, or `all` if there is none.
 fn mark_at(marks: &[usize], line: usize, all: usize) -> usize
     ensures { result ≡ slice_index_or marks.now line all }
 {

@@ -15,8 +15,8 @@ use mx_scripts::State;
 use mx_stamps::NodeId;
 use std::alloc::AllocError;
 
-/// Appends the line of each node, or of one, those of its links that are cut, and those of the
-/// parcels under way to it.
+/// Appends the lines of nodes, of cut links, and of parcels under way. If `to` names a node, only
+/// its own lines, those of its links, and those of parcels to it are appended.
 pub(crate) fn show<C: Exclusion + Knowledge>(
     setting: &Setting<'_, C>,
     to: &Option<NodeId>,

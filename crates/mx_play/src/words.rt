@@ -9,7 +9,8 @@ use clap::{ArgMatches, Error};
 use mx_cli::{CommandId, Names, matches_in, text_at};
 use std::alloc::Global;
 
-/// What is to be played: in the cluster of which plan, and which script comes first.
+/// What `play` is to read: the plan of this name, and the script whose lines come first, if one is
+/// named.
 #[derive(Clone, Copy)]
 pub(crate) struct Request<'a> {
     pub(crate) plan: &'a str,
@@ -17,7 +18,7 @@ pub(crate) struct Request<'a> {
 }
 
 impl<'a> Request<'a> {
-    /// The names that the lines of faults have.
+    /// Returns the names for reports of faults: of the plan, and of the script, or `-` without one.
     pub(crate) fn names(&self) -> Names<'a> {
         Names {
             plan: self.plan,
@@ -49,6 +50,7 @@ fn from_matches<'a>(matches: &ArgMatches<'a>) -> Option<Request<'a>>
     }
 }
 
+/// Returns the request that the arguments of `play` make.
 fn play_in<'a>(matches: &ArgMatches<'a>) -> Option<Request<'a>>
     ensures { option_map request_of result ≡ play_in (rows_of (found_of matches.now)) }
 {

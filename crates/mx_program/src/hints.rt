@@ -1,11 +1,11 @@
-//! The hint for a reader at a terminal: the command that shows the place of a fault, and why.
+//! The hint for a reader at a terminal: which command shows the place of a fault and its reason.
 
 use mx_cli::{CommandId, command_in, takes_value, write_line};
 use mx_io::Output;
 use std::alloc::Global;
 use std::fmt;
 
-/// The command that explains these arguments: `explain` with the files in them.
+/// The line of a hint: `explain` with the files among these arguments of another command.
 #[derive(Clone, Copy)]
 struct Hint<'a>(&'a [&'a str]);
 
@@ -23,9 +23,8 @@ impl fmt::Display for Hint<'_> {
     }
 }
 
-/// Writes the command that shows the place and the reason of the fault of these arguments. Writes
-/// nothing for a file that was standard input, and for a command whose files `explain` does not
-/// read.
+/// Writes the hint for a fault of the command line `words`: the `explain` command for its files.
+/// Writes nothing if one of them is standard input (`-`), or if the command has no hint.
 pub(crate) fn tell_hint<E: Output>(alloc: Global, words: &[&str], err: &mut E) {
     let Some((_, names)) = words.split_first() else {
         return;
@@ -39,7 +38,7 @@ pub(crate) fn tell_hint<E: Output>(alloc: Global, words: &[&str], err: &mut E) {
     }
 }
 
-/// Returns whether `explain` reads the files of a command.
+/// Whether a command has a hint: `check`, `replay`, `explore` and `live` do, in all their forms.
 fn is_explained(id: CommandId) -> bool {
     match id {
         CommandId::Check

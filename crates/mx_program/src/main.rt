@@ -1,5 +1,6 @@
-//! `mx`, the program. It passes the arguments, files and streams of the process to the call of the
-//! command that the arguments name, and to `command` if they name none.
+//! `mx`, the program. It passes the arguments, files and streams of the process to the function for
+//! the command that the arguments name. `command` takes `check`, `replay` and `explore`, unless an
+//! option chooses another form of these, and arguments that name no command.
 #![tactic(auto)]
 
 mod hints;
@@ -24,7 +25,7 @@ use std::process::ExitCode;
 use std::rt::{Clock, Env, Files};
 use std::thread::Threads;
 
-/// Runs a command line over the files and threads of the process and two outputs, and returns the
+/// Runs a command line with the files and threads of the process and two outputs, and returns the
 /// exit status.
 fn carry_out<R: Files + Clock + Input + AllocGlobal + Threads, O: Output, E: Output>(
     rt: &R,
@@ -96,8 +97,7 @@ where
     Ok(status)
 }
 
-/// Replaces the argument `help` by `--help`, and `help` before a command by the option `--help` of
-/// that command.
+/// Replaces a first argument `help` by a last one `--help`: `help replay` becomes `replay --help`.
 fn with_help(mut words: Vec<&str>) -> Result<Vec<&str>, AllocError> {
     if !matches!(words.first(), Some(&"help")) {
         return Ok(words);

@@ -14,7 +14,7 @@ row_of f i = slice_index_or f.rows i []
 abbrev pub has_of : Family → ℕ → ℕ → Bool
 has_of f i j = slice_index_or (row_of f i) j false
 
--- any two sets meet, and each contains only nodes, and its own node
+-- there are 1 to 21 nodes; each set contains its own node and only nodes, and any two sets meet
 pub record IsMeeting (f : Family) : Type 0 where
   pub some : 0 < f.count
   pub few : f.count ≤ MAX_NODES
@@ -23,7 +23,7 @@ pub record IsMeeting (f : Family) : Type 0 where
   pub meet : (i j : ℕ) → i < f.count → j < f.count →
       (a : ℕ) × (has_of f i a ≡ true) × (has_of f j a ≡ true)
 
--- a number that is no node has no set, and is in none
+-- a number that is no node has no members in its set, and is in no set
 pub record IsWithin (f : Family) : Type 0 where
   pub owners : (i j : ℕ) → has_of f i j ≡ true → i < f.count
   pub members : (i j : ℕ) → has_of f i j ≡ true → j < f.count

@@ -1,5 +1,6 @@
--- Family: the family in a `Quorums`. Rules: the rules of meeting sets, and the first broken rule.
--- Lists, Shapes: families by lists, grids and planes. Rows: the sets as rows of marks.
+-- Family: the family of arbiter sets that a `Quorums` holds. Rules: the rules of meeting sets, and
+-- the first that is broken. Lists: sets given as lists of members. Shapes: the families of grids
+-- and of planes. Rows: sets as rows of marks.
 pub mod Family
 pub mod Rules
 pub mod Lists

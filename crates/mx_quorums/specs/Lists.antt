@@ -8,7 +8,7 @@ use Rattle.mx_quorums.specs.Rules.{IsLeast, AllOwn, AllMeet, IsFirstNotOwn, IsFi
 use Rattle.mx_quorums.specs.declared.fault.QuorumFault.{QuorumFault}
 use Rattle.mx_quorums.specs.declared.fault.QuorumFault.TheVariants.{NoNodes, TooMany, EmptySet, Stranger, NotOwnMember, Apart, NoPlane}
 
--- the members of each vector
+-- the list of members that each vector holds
 abbrev pub lists_of : List (Vec ℕ Global) → List (List ℕ)
 lists_of vectors = map (λ v. v.items) vectors
 
@@ -31,7 +31,8 @@ NoneEmpty lists = (i : ℕ) → i < length lists → list_of lists i ≢ []
 abbrev pub AllNodes : List (List ℕ) → Type 0
 AllNodes lists = (i j : ℕ) → i < length lists → IsListed lists i j → j < length lists
 
--- the lists are a meeting family of 1 to 21 nodes
+-- there are 1 to 21 lists, none of them empty, of nodes only; each node is in its own list, and any
+-- two lists have a node in common
 pub record AreMeeting (lists : List (List ℕ)) : Type 0 where
   pub counted : IsCounted lists
   pub filled : NoneEmpty lists
@@ -47,13 +48,14 @@ pub record IsFamilyOf (lists : List (List ℕ)) (f : Family) : Type 0 where
 abbrev pub IsFirstEmpty : List (List ℕ) → ℕ → Type 0
 IsFirstEmpty lists i = IsLeast (λ k. list_of lists k ≡ []) (length lists) i
 
--- i is the least node with a member that is no node, and j the first such member of its list
+-- i is the least node whose list has a member that is no node, and j is the first such member
 abbrev pub IsFirstStranger : List (List ℕ) → ℕ → ℕ → Type 0
 IsFirstStranger lists i j =
     IsLeast (λ k. (m : ℕ) × IsListed lists k m × (length lists ≤ m)) (length lists) i
     × (find (nat_le (length lists)) (list_of lists i) ≡ Some j)
 
--- the first rule that the lists break, in the order of the faults, at its least witness
+-- the fault is that of the first rule, in the order of `QuorumFault`, that the lists break; its
+-- numbers are those of the first breach
 abbrev pub IsFirstFault : List (List ℕ) → QuorumFault → Type 0
 IsFirstFault lists NoNodes = length lists ≡ 0
 IsFirstFault lists TooMany = MAX_NODES < length lists
@@ -67,14 +69,16 @@ IsFirstFault lists (Apart i j) =
     × IsFirstApart (IsListed lists) (length lists) i j
 IsFirstFault lists (NoPlane n) = ⊥
 
--- the faults that the check of the count finds, and those that the checks of the members find
+-- the fault of a number of nodes that is 0 or above 21
 abbrev pub IsCountFault : ℕ → QuorumFault → Type 0
 IsCountFault count fault =
     ((fault ≡ NoNodes) × (count ≡ 0)) ⊎ ((fault ≡ TooMany) × (MAX_NODES < count))
 
+-- the fault of the first empty list
 abbrev pub IsEmptyFault : List (List ℕ) → QuorumFault → Type 0
 IsEmptyFault lists fault = (i : ℕ) × (fault ≡ EmptySet i) × IsFirstEmpty lists i
 
+-- the fault of the first member that is no node
 abbrev pub IsStrangerFault : List (List ℕ) → QuorumFault → Type 0
 IsStrangerFault lists fault =
     (i : ℕ) × (j : ℕ) × (fault ≡ Stranger i j) × IsFirstStranger lists i j

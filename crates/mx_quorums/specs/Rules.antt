@@ -5,7 +5,7 @@ use Rattle.std.specs.Prelude.{ℕ, ◌<◌}
 abbrev pub IsLeast : (ℕ → Type 0) → ℕ → ℕ → Type 0
 IsLeast P n i = (i < n) × P i × ((k : ℕ) → k < i → P k → ⊥)
 
--- some node is in both sets
+-- some node is in the set of node i and in that of node j
 abbrev pub Meet : (ℕ → ℕ → Type 0) → ℕ → ℕ → Type 0
 Meet In i j = (a : ℕ) × In i a × In j a
 

@@ -3,7 +3,7 @@ use Rattle.std.specs.Prelude.{ℕ, ◌+◌, ◌*◌, ◌/◌, ◌%◌, ◌<◌, 
 use Rattle.mx_stamps.specs.Lists.{IsIn}
 use Rattle.mx_quorums.specs.Family.{Family, has_of}
 
--- two nodes are in the same row or in the same column
+-- in a grid with this many columns, nodes i and j are in the same row or in the same column
 abbrev pub ShareLine : ℕ → ℕ → ℕ → Type 0
 ShareLine cols i j = (i / cols ≡ j / cols) ⊎ (i % cols ≡ j % cols)
 
@@ -17,11 +17,12 @@ pub record IsGrid (rows cols : ℕ) (f : Family) : Type 0 where
   pub sets : (i j : ℕ) →
       (has_of f i j ≡ true) ↔ ((i < rows * cols) × IsInLine (rows * cols) cols i j)
 
--- the numbers of nodes that have a plane
+-- a plane of n nodes is known here
 abbrev pub IsPlaneSize : ℕ → Type 0
 IsPlaneSize n = (n ≡ 7) ⊎ (n ≡ 13) ⊎ (n ≡ 21)
 
--- each number below n is the difference, modulo n, of two of these (Singer 1938)
+-- for the size n of a plane, each number below n is the difference, modulo n, of two of these
+-- numbers (Singer 1938)
 abbrev pub difference_set : ℕ → List ℕ
 difference_set n =
     if nat_eq n 7 then 0 ∷ 1 ∷ 3 ∷ []
@@ -32,7 +33,7 @@ difference_set n =
 abbrev pub IsShifted : ℕ → List ℕ → ℕ → ℕ → Type 0
 IsShifted n differences i j = (d : ℕ) × IsIn d differences × ((i + d) % n ≡ j)
 
--- each node's set is the node plus each of the differences
+-- each node's set has the nodes that are this node plus one of the differences, modulo n
 pub record IsPlane (n : ℕ) (f : Family) : Type 0 where
   pub count : f.count ≡ n
   pub sets : (i j : ℕ) → (has_of f i j ≡ true) ↔ ((i < n) × IsShifted n (difference_set n) i j)

@@ -1,4 +1,4 @@
--- The worlds that are reached from the start.
+-- What holds in every world that is reached from the start.
 use Rattle.std.specs.Prelude.{ℕ, ◌<◌, ◌≤◌, ◌≡◌, ◌⊎◌, true, Some, length}
 use Rattle.mx_letters.specs.declared.raymond.RaymondMsg.{RaymondMsg}
 use Rattle.mx_letters.specs.declared.raymond.RaymondMsg.TheVariants.{Request, Privilege, Got}
@@ -12,15 +12,15 @@ use Rattle.mx_raymond.specs.Queue.{is_queued}
 use Rattle.mx_raymond.specs.Node.{Node}
 use Rattle.mx_raymond.specs.Step.{heard_from}
 
--- some node has entered a section of this number or a later one
+-- some node has entered section n or a later one, or n is 0
 abbrev pub IsReached : World Node RaymondMsg → ℕ → Type 0
 IsReached w n = IsReachedBy (λ (s : Node). s.mine) w n
 
--- no node has entered a later section than this number's
+-- no node has entered a section with a number above n
 abbrev pub IsLast : World Node RaymondMsg → ℕ → Type 0
 IsLast w n = (j : ℕ) (t : Node) → IsNode w j t → t.mine ≤ n
 
--- node j has seen this hop
+-- the `hop` of node j has reached this number
 abbrev pub HasSeen : World Node RaymondMsg → ℕ → ℕ → Type 0
 HasSeen w j hop = HasComeTo (λ (s : Node). s.hop) w j hop
 
@@ -28,8 +28,7 @@ HasSeen w j hop = HasComeTo (λ (s : Node). s.hop) w j hop
 pub record IsNodeOk (w : World Node RaymondMsg) (highest i : ℕ) (s : Node) : Type 0 where
   pub me : s.me ≡ i
   pub hop : s.hop ≤ highest
-  -- `top` is at least the number of the node's last section, and at most one that some node has
-  -- entered
+  -- `top` is at least `mine`, and at most the greatest `mine` of all nodes
   pub mine_top : s.mine ≤ s.top
   pub top_reached : IsReached w s.top
   -- a node that is inside has the privilege
@@ -42,7 +41,7 @@ pub record IsPrivilegeOk (w : World Node RaymondMsg) (highest to hop last : ℕ)
   pub low : hop ≤ highest
   -- it carries a section number that some node has reached
   pub reached : IsReached w last
-  -- the addressee of each hop but the highest has seen it
+  -- the addressee has seen the hop, unless the hop is the highest
   pub seen : hop < highest → HasSeen w to hop
 
 abbrev pub IsLetterOk : World Node RaymondMsg → ℕ → ℕ → RaymondMsg → Type 0
@@ -56,15 +55,15 @@ pub record IsHeld (w : World Node RaymondMsg) (highest : ℕ) : Type 0 where
   pub here : node < length w.nodes
   pub holder : (t : Node) → IsNode w node t → t.holder ≡ node
   pub hop : (t : Node) → IsNode w node t → t.hop ≡ highest
-  -- it knows all sections
+  -- no section above its `top` has been entered
   pub top : (t : Node) → IsNode w node t → IsLast w t.top
-  -- no other node has it
+  -- no other node has the privilege
   pub alone : (j : ℕ) (t : Node) → IsNode w j t → t.holder ≡ j → j ≡ node
-  -- the addressees of the privileges of the highest hop have seen them
+  -- each addressee of a privilege with the highest hop has seen this hop
   pub seen : (a b last : ℕ) → WasSent w a b (Privilege highest last) → HasSeen w b highest
 
--- the privilege of the highest hop is on its way: no other has this hop, and its addressee has not
--- seen it
+-- the privilege with the highest hop is on its way: no other privilege was sent with this hop, and
+-- the addressee has not seen the hop
 pub record IsUnderWay (w : World Node RaymondMsg) (highest : ℕ) : Type 0 where
   pub from : ℕ
   pub to : ℕ
@@ -72,12 +71,12 @@ pub record IsUnderWay (w : World Node RaymondMsg) (highest : ℕ) : Type 0 where
   pub sent : WasSent w from to (Privilege highest last)
   pub only : (a b c : ℕ) → WasSent w a b (Privilege highest c) → (a ≡ from) × (b ≡ to) × (c ≡ last)
   pub unseen : (t : Node) → IsNode w to t → t.hop < highest
-  -- it carries the number of the last section
+  -- no section above the number that it carries has been entered
   pub top : IsLast w last
-  -- no node has it
+  -- no node has the privilege
   pub nobody : (j : ℕ) (t : Node) → IsNode w j t → t.holder ≡ j → ⊥
 
--- each node and each letter is as above, and the privilege is in one place
+-- each node and each letter is as above, and the privilege is with one node or on its way
 pub record IsSafeAt (w : World Node RaymondMsg) (highest : ℕ) : Type 0 where
   pub nodes : (i : ℕ) (s : Node) → IsNode w i s → IsNodeOk w highest i s
   pub letters : (a b : ℕ) (m : RaymondMsg) → WasSent w a b m → IsLetterOk w highest b m
@@ -93,7 +92,7 @@ BoundedLetter n (Request number) = IsU64 number
 BoundedLetter n (Privilege hop last) = IsU64 hop × IsU64 last
 BoundedLetter n (Got hop) = IsU64 hop
 
--- the same for the unacknowledged privilege, among n nodes
+-- the same for the unacknowledged privilege, which was sent to one of n nodes
 abbrev pub BoundedUnacked : ℕ → Unacked → Type 0
 BoundedUnacked n u = (u.to < n) × IsU64 u.hop × IsU64 u.last
 

@@ -1,4 +1,4 @@
--- The knowledge of a node, as it is shown.
+-- What a node knows, as the facts that it shows.
 use Rattle.std.specs.Prelude.{List, [], ◌++◌, Option, Some, None, codes, if◌then◌else◌}
 use Rattle.mx_nodelaws.specs.Phases.{is_waiting}
 use Rattle.mx_knowledge.specs.declared.fact.Item.TheVariants as item
@@ -8,7 +8,7 @@ use Rattle.mx_raymond.specs.Queue.{queue_items}
 use Rattle.mx_raymond.specs.Node.{Node}
 use Rattle.mx_raymond.specs.Step.{has_permission, is_holder}
 
--- it has the privilege, or the neighbour in whose direction that is
+-- whether the node has the privilege, and if not, the neighbour in whose direction the privilege is
 abbrev pub place_of : Node → List Known
 place_of s =
     if is_holder s then word (codes "has the privilege")
@@ -17,7 +17,7 @@ place_of s =
 abbrev pub asked_of : Node → List Known
 asked_of s = if s.has_asked then word (codes "has asked") else []
 
--- the neighbour to which it sent a privilege that may not have arrived, with the hop
+-- the neighbour to which the node sent a privilege that may not have arrived, with the hop
 abbrev pub unacked_of : Option Unacked → List Known
 unacked_of None = []
 unacked_of (Some u) = one (codes "unacknowledged") (item.Numbered u.to u.hop)
@@ -25,12 +25,12 @@ unacked_of (Some u) = one (codes "unacknowledged") (item.Numbered u.to u.hop)
 abbrev pub granted_of : Node → List Known
 granted_of s = if has_permission s then word (codes "may enter") else []
 
--- it may enter, if it waits and has the permission
+-- `may enter`, if the node waits and has the permission
 abbrev pub permission_of : Node → List Known
 permission_of s = if is_waiting s.phase then granted_of s else []
 
--- the place of the privilege; its queue; whether it has asked; the hop; what is unacknowledged;
--- whether it may enter
+-- where the privilege is; the queue of the node; whether it has asked for the privilege; the hop;
+-- the privilege that is not acknowledged; whether the node may enter
 abbrev pub known_of : Node → List Known
 known_of s =
     place_of s ++ listed (codes "queue") (queue_items s.queue) ++ asked_of s

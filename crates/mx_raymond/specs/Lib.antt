@@ -1,4 +1,5 @@
--- Queue and Node (the state), Step (the step table), Knows (what it shows), Good (the invariant); laws (their proofs).
+-- Queue and Node: the state of a node. Step: the step table. Knows: what a node shows of its state.
+-- Good: the invariant. laws: proofs that the table keeps the invariant, and the laws that follow.
 pub mod Queue
 pub mod Node
 pub mod Step

@@ -18,7 +18,7 @@ abbrev pub head_of : List ℕ → Option ℕ
 head_of [] = None
 head_of (name ∷ rest) = Some name
 
--- the names after it
+-- the names after the oldest
 abbrev pub rest_of : List ℕ → List ℕ
 rest_of [] = []
 rest_of (name ∷ rest) = rest
@@ -31,11 +31,11 @@ joined queue node = if is_queued queue node then queue else queue ++ node ∷ []
 abbrev pub without : List ℕ → ℕ → List ℕ
 without queue node = filter (λ name. not (nat_eq name node)) queue
 
--- each name is in it at most once, and each is the name of a node
+-- each name is in the queue at most once, and is below 21
 pub record IsQueue (queue : List ℕ) : Type 0 where
   pub once : IsDistinct nat_eq queue
   pub nodes : (node : ℕ) → is_queued queue node ≡ true → node < MAX_NODES
 
--- its names, as the values of a fact
+-- the names in the queue, as the values of a fact
 abbrev pub queue_items : List ℕ → List Item
 queue_items = map (λ name. item.Node name)

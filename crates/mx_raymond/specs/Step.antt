@@ -17,6 +17,7 @@ use Rattle.mx_raymond.specs.declared.unacked.Unacked.{Unacked}
 use Rattle.mx_raymond.specs.Queue.{is_empty, head_of, rest_of, joined, without}
 use Rattle.mx_raymond.specs.Node.{Node}
 
+-- a step of the node: its next state, its result and its letters
 abbrev pub NodeDone : Type 0 → Type 0
 NodeDone A = Done Node A RaymondMsg
 
@@ -39,15 +40,15 @@ start_of tree me origin limit = record {
   mine = 0;
 }
 
--- it has the privilege
+-- the node has the privilege
 abbrev pub is_holder : Node → Bool
 is_holder s = nat_eq s.holder s.me
 
--- the permission: it has the privilege, and heads its own queue
+-- the permission: the node has the privilege, and is at the head of its own queue
 abbrev pub HasPermission : Node → Type 0
 HasPermission s = (s.holder ≡ s.me) × (head_of s.queue ≡ Some s.me)
 
--- the same as a test
+-- the permission as a test
 abbrev pub is_named : Option ℕ → ℕ → Bool
 is_named None node = false
 is_named (Some name) node = nat_eq name node
@@ -55,12 +56,12 @@ is_named (Some name) node = nat_eq name node
 abbrev pub has_permission : Node → Bool
 has_permission s = is_holder s && is_named (head_of s.queue) s.me
 
--- Assign: a node that has the privilege and is not inside passes it on to the head of its queue, if
--- that is another node.
--- Published: procedure ASSIGN_PRIVILEGE. Its case of a node that heads its own queue is `enter`
--- here.
--- Added: the hop, by which an old privilege is known; `unacked`, so that it can be sent again; the
--- highest section number. If no hop remains, the privilege stays.
+-- Assign: a node that has the privilege and is not inside passes the privilege on to the head of
+-- its queue, if that is another node.
+-- Published: procedure ASSIGN_PRIVILEGE. The case of a node that is at the head of its own queue is
+-- `enter` here.
+-- Added: the hop, by which an old privilege is recognized; `unacked`, so that the privilege can be
+-- sent again; the highest section number. If no hop remains, the privilege stays.
 abbrev pub can_pass : Node → ℕ → Bool
 can_pass s next =
     is_holder s && (not (is_inside s.phase) && (not (nat_eq next s.me) && nat_lt s.hop last_number))
@@ -86,7 +87,8 @@ assign_privilege s = assign_privilege_to (head_of s.queue) s
 
 -- Make: a node that wants the privilege and does not have it sends one request to its holder.
 -- Published: procedure MAKE_REQUEST.
--- Added: the request's number, by which an old request is known; none is sent if no number remains.
+-- Added: the request's number, by which an old request is recognized; no request is sent if no
+-- number remains.
 abbrev pub must_request : Node → Bool
 must_request s =
     not (is_holder s) && (not (is_empty s.queue) && (not s.has_asked && nat_lt s.sent last_number))
@@ -106,22 +108,22 @@ serving step = and_then (and_then step assign_privilege) make_request
 
 -- ask: the node joins its own queue; then Assign and Make.
 -- Published: the node wishes to enter the critical section.
--- Added: the number of the request, which is that of the stamp; if no number remains, the call is
--- refused.
+-- Added: the stamp, whose number counts the accepted calls of `ask`; if no number remains, the call
+-- is refused.
 abbrev pub asking : Node → Node
 asking s = record s { phase = Waiting; queue = s.queue ++ s.me ∷ []; asks = s.asks + 1 }
 
 abbrev pub asked : Node → NodeDone Stamp
 asked s = serving (answering (becoming (asking s)) (record { number = s.asks + 1; node = s.me }))
 
--- the privilege that it sent last is sent again, while its arrival is not acknowledged
+-- the privilege that the node sent last is sent again, while its arrival is not known
 abbrev pub privilege_again : Option Unacked → List (ℕ × RaymondMsg)
 privilege_again None = []
 privilege_again (Some u) = (u.to, Privilege u.hop u.last) ∷ []
 
--- a request of the holder: it shows that the privilege has not reached the holder, or had not when
--- the request was sent. The privilege is sent again, to the node that it was sent to: that is the
--- holder, and so the sender of the request (`unacked` of `IsState`).
+-- a request of the holder: when it was sent, the holder did not have the privilege. The privilege
+-- is sent again to the node that it was sent to, if its arrival is not known. That node is the
+-- holder (`unacked` of `IsState`), and so the sender of the request.
 -- Added, since the privilege may have been lost.
 abbrev pub take_holders_request : Node → NodeDone (Unit {0})
 take_holders_request s = sending s (privilege_again s.unacked)
@@ -151,11 +153,12 @@ take_request from number s =
 
 -- a privilege: its arrival is acknowledged each time, and it counts only if its hop is new; then
 -- Assign and Make.
--- Published: the node receives the PRIVILEGE. There ASKED is cleared when it is used or passed on.
--- Added: ASKED is cleared at once. This changes nothing else: no row reads ASKED while the node has
--- the privilege, and passing it on clears ASKED as there. The acknowledgement, and the test of the
--- hop, since a privilege may come late or twice; `top` takes in the section number of the
--- privilege.
+-- Published: the node receives the PRIVILEGE. There ASKED is cleared when the privilege is used or
+-- passed on.
+-- Added: ASKED is cleared at once. This changes nothing else: no row depends on ASKED while the
+-- node has the privilege, and passing the privilege on clears ASKED, as in the publication. The
+-- acknowledgement, and the test of the hop, since a privilege may come late or twice; `top` rises
+-- to the section number of the privilege, if that is higher.
 abbrev pub holding : Node → ℕ → ℕ → Node
 holding s hop last = record s {
   holder = s.me;
@@ -184,7 +187,7 @@ abbrev pub take_got : ℕ → ℕ → Node → NodeDone (Unit {0})
 take_got from hop s =
     if is_unacked s.unacked from hop then becoming (record s { unacked = None }) else becoming s
 
--- each letter comes from a neighbour. Added: any other is ignored
+-- each letter comes from a neighbour. Added: any other letter is ignored
 abbrev pub is_neighbour : Node → ℕ → Bool
 is_neighbour s from = are_neighbours s.tree s.me from
 
@@ -195,9 +198,10 @@ deliver_of from (Privilege hop last) s =
     if is_neighbour s from then take_privilege from hop last s else becoming s
 deliver_of from (Got hop) s = if is_neighbour s from then take_got from hop s else becoming s
 
--- enter: the node leaves the head of its queue, and the section's number is one above the highest
--- that it knows.
--- Published: procedure ASSIGN_PRIVILEGE, if the node that has the privilege heads its own queue.
+-- enter: the node is removed from the head of its queue, and the section's number is one above the
+-- highest that the node knows.
+-- Published: procedure ASSIGN_PRIVILEGE, if the node that has the privilege is at the head of its
+-- own queue.
 -- Added: the section's number, and the refusal if the limit is reached.
 abbrev pub entering : Node → Node
 entering s = record s {
@@ -207,7 +211,7 @@ entering s = record s {
   mine = s.top + 1;
 }
 
--- leave: then Assign and Make.
+-- leave: the node becomes idle; then Assign and Make.
 -- Published: the node exits the critical section.
 -- Added: nothing.
 abbrev pub leaving : Node → Node
@@ -216,8 +220,9 @@ leaving s = record s { phase = Idle }
 abbrev pub left : Node → NodeDone (Unit {0})
 left s = serving (becoming (leaving s))
 
--- cancel: the node leaves its own queue; then Assign and Make. A request that it has sent its
--- holder is not taken back, and the privilege that comes for it is kept, or passed on.
+-- cancel: the node becomes idle and is removed from its own queue; then Assign and Make. A request
+-- that it has sent to its holder is not withdrawn, and the privilege that comes for this request is
+-- kept, or passed on.
 -- Added, as the publication has no way to withdraw a request.
 abbrev pub withdrawing : Node → Node
 withdrawing s = record s { phase = Idle; queue = without s.queue s.me }
@@ -225,7 +230,8 @@ withdrawing s = record s { phase = Idle; queue = without s.queue s.me }
 abbrev pub cancelled : Node → NodeDone (Unit {0})
 cancelled s = serving (becoming (withdrawing s))
 
--- tick: the privilege that it sent last is sent again, and then its latest request.
+-- tick: the node sends again the privilege that it sent last, if the arrival is not known, and then
+-- its latest request, if the privilege has not come since.
 -- Added, since either may have been lost.
 abbrev pub request_again : Node → List (ℕ × RaymondMsg)
 request_again s = if s.has_asked && not (is_holder s) then (s.holder, Request s.sent) ∷ [] else []

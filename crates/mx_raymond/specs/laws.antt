@@ -1,7 +1,8 @@
--- Tests: what the table's tests mean. Frame: what a step does not change. PrivilegeStays and
--- PrivilegeMoves: steps that keep the privilege in its place, and steps that do not. Keeps: each
--- row keeps a world safe. ServingBounds and Bounds: numbers are u64 values, and names are nodes.
--- Safety: exclusion and numbering. Laws: all together, with the promises on phases.
+-- Tests: what the tests of the step table mean. Frame: what a step does not change. PrivilegeStays
+-- and PrivilegeMoves: steps that keep the privilege in its place, and steps that move it or use it.
+-- Keeps: each row keeps a world safe. ServingBounds and Bounds: each number is a u64 value, and
+-- each name that of a node. Safety: at most one node is inside, and sections are numbered in order.
+-- Laws: the promises on phases, and all laws together.
 pub mod Tests
 pub mod Frame
 pub mod PrivilegeStays

@@ -14,7 +14,7 @@ use mx_journal::{Cell, Write};
 pub struct Content {
     /// The value, 0 if no section wrote the register.
     pub value: u64,
-    /// The number of the section that wrote it.
+    /// The number of the section that wrote the register, or `None` if none did.
     pub by: Option<u64>,
 }
 
@@ -34,7 +34,7 @@ pub(crate) fn shown_cell(cell: Cell) -> Content
     }
 }
 
-/// Applies the writes of a section, in order.
+/// Applies the writes of section `number` to the registers, in order.
 pub(crate) fn write_all(contents: &mut [Content], number: u64, writes: &[Write])
     ensures { (register : ℕ) → register < length contents.old
         → get_or contents.new register blank
@@ -45,8 +45,8 @@ pub(crate) fn write_all(contents: &mut [Content], number: u64, writes: &[Write])
     }
 }
 
-/// Applies one write of a section. It is skipped if its register does not exist, or was written by
-/// a later section.
+/// Applies one write of section `number`, unless its register does not exist or a section with a
+/// greater number wrote that register.
 fn put(contents: &mut [Content], number: u64, write: Write)
     ensures { (register : ℕ) → register < length contents.old
         → get_or contents.new register blank

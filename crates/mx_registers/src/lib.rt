@@ -1,4 +1,4 @@
-//! The registers that sections share, after the records of closed sections.
+//! The registers that sections share: their contents after the writes of closed sections.
 #![tactic(auto)]
 
 mod contents;

@@ -1,4 +1,4 @@
-//! A view of the registers, derived from records.
+//! A view of the registers: their contents after some records of sections.
 
 ghost use Rattle.std.specs.Prelude.{ℕ, ◌≡◌, ◌≤◌, List, [], ◌∷◌, ◌++◌, length};
 ghost use Rattle.mx_journal.specs.declared.records.Record.{Record};
@@ -17,8 +17,9 @@ use std::marker::Model;
 /// The greatest number of registers in a view.
 const ROOM: usize = MAX_REGISTERS as usize;
 
-/// A view of the registers 0 to count - 1. Each has the last write to it in the record of the
-/// greatest number that writes it. Records may be applied in any order, and more than once.
+/// The contents of some registers, numbered from 0, after the records that were applied. Each
+/// register has the last write to it in the record of the greatest number that writes it. Records
+/// may be applied in any order, and more than once.
 #[derive(Drop)]
 pub struct View {
     contents: ArrayVec<Content, ROOM>,
@@ -34,7 +35,7 @@ impl Model for View {
 }
 
 impl View {
-    /// Creates a view of this many registers, which no section has written.
+    /// Creates a view of `count` (1 to 32) registers, which no section has written.
     pub fn new(count: u8) -> View
         requires least { 1 ≤ count }
         requires most { count ≤ MAX_REGISTERS }
@@ -47,14 +48,15 @@ impl View {
         View { contents }
     }
 
-    /// Creates a view of this many registers after the sections of a base.
+    /// Creates a view of the first `count` (1 to 32) registers after the sections that the base
+    /// covers.
     pub(crate) fn at(base: &Base, count: u8) -> View
         requires least { 1 ≤ count }
         requires most { count ≤ MAX_REGISTERS }
         ensures value { result ≡ registers_from base.now count [] }
         ensures cells { AreCellsOf base.now.upto base.now.cells }
     {
-        // the call shows that the base's sections wrote the cells
+        // for the prover: the call shows that the base's sections wrote the cells
         let _ = base.upto();
         let mut contents = ArrayVec::new();
         for register in 0..count {
@@ -63,8 +65,9 @@ impl View {
         View { contents }
     }
 
-    /// Applies a record: each register that it writes has the last of these writes, unless a
-    /// section of a greater number wrote it. Writes to registers that do not exist are skipped.
+    /// Applies a record: each register that the record writes takes the record's last write to it,
+    /// unless a section with a greater number wrote the register. Writes to registers that do not
+    /// exist are skipped.
     pub fn take(&mut self, entry: &Record)
         ensures value { self.new ≡ with_taken entry.now self.old }
         ensures more { (count : ℕ) (records : List Record)

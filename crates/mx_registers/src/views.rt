@@ -12,8 +12,9 @@ ghost use Rattle.mx_registers.specs.Registers.{AreHeld, HaveSameMembers, registe
 use crate::registers::View;
 use mx_journal::{Journal, Record};
 
-/// Returns the registers after all records of the list, whatever their order. If the records agree,
-/// these are the registers of the map that they make. The time grows with the number of records.
+/// Returns the first `count` (1 to 32) registers after all records of the list. If records of the
+/// same number are equal, neither their order nor repetitions change the result. The time grows
+/// with the number of records.
 pub fn view_of(records: &[Record], count: u8) -> View
     requires least { 1 ≤ count }
     requires most { count ≤ MAX_REGISTERS }
@@ -31,8 +32,8 @@ pub fn view_of(records: &[Record], count: u8) -> View
     shown
 }
 
-/// Returns the registers of a journal: those of its base, changed by the records above it. The time
-/// grows with the number of records.
+/// Returns the first `count` (1 to 32) registers after all sections that the journal covers: those
+/// of its base, changed by its records. The time grows with the number of records.
 pub fn view(journal: &Journal, count: u8) -> View
     requires least { 1 ≤ count }
     requires most { count ≤ MAX_REGISTERS }
@@ -57,8 +58,9 @@ pub fn view(journal: &Journal, count: u8) -> View
     view
 }
 
-/// Returns the registers after a journal's sections below a number, as a section of that number
-/// reads them. If the journal's base is not below the number, these are the registers of the base.
+/// Returns the first `count` (1 to 32) registers after the journal's sections numbered below
+/// `number`, as section `number` reads them before its own writes. If the journal's base covers
+/// section `number`, these are the registers of the base.
 pub fn view_below(journal: &Journal, count: u8, number: u64) -> View
     requires least { 1 ≤ count }
     requires most { count ≤ MAX_REGISTERS }

@@ -9,7 +9,7 @@ use std::io::{BufWriter, Write};
 use std::process::ExitCode;
 use std::rt::{Env, Files};
 
-/// Runs a command line over the files of the process and two outputs, and returns the exit status.
+/// Runs a command line with the files of the process and two outputs, and returns the exit status.
 fn carry_out<R: Files + Input + AllocGlobal, O: Output, E: Output>(
     rt: &R,
     words: &[&str],

@@ -1,4 +1,4 @@
--- The worlds that are reached from the start.
+-- What holds in every world that is reached from the start.
 use Rattle.std.specs.Prelude.{ℕ, ◌<◌, ◌≤◌, ◌≡◌, ◌≢◌, true, Some, length}
 use Rattle.mx_stamps.specs.declared.stamp.Stamp.{Stamp}
 use Rattle.mx_stamps.specs.Stamp.{Before}
@@ -17,11 +17,11 @@ use Rattle.mx_ricart.specs.Step.{has_reply, deferred_at}
 abbrev pub IsBusy : Node → Type 0
 IsBusy s = is_busy s.phase ≡ true
 
--- node i has seen this number
+-- the clock of node i (its `highest`) has reached this number
 abbrev pub HasSeen : World Node RicartMsg → ℕ → ℕ → Type 0
 HasSeen w i number = HasComeTo (λ (s : Node). s.highest) w i number
 
--- some node has entered a section of this number or a later one
+-- some node has entered section n or a later one, or n is 0
 abbrev pub IsReached : World Node RicartMsg → ℕ → Type 0
 IsReached w n = IsReachedBy (λ (s : Node). s.mine) w n
 
@@ -32,21 +32,22 @@ pub record IsNodeOk (w : World Node RicartMsg) (i : ℕ) (s : Node) : Type 0 whe
   -- a current stamp is the node's own, and its clock has seen it
   pub ours_node : IsBusy s → s.ours.node ≡ i
   pub ours_seen : IsBusy s → s.ours.number ≤ s.highest
-  -- `top` is at least the number of the node's last section, and at most one that some node has
-  -- entered
+  -- `top` is at least `mine`, and at most the greatest `mine` of all nodes
   pub mine_top : s.mine ≤ s.top
   pub top_reached : IsReached w s.top
   -- a node that is inside has every reply
   pub inside_has : (n : ℕ) → s.phase ≡ Inside n → (j : ℕ) → j < length w.nodes → j ≢ i →
       has_reply s j ≡ true
-  -- each reply that counts was sent, for the current stamp
+  -- each reply that has counted was sent for the current stamp, with a section number up to `top`
   pub replies : IsBusy s → (j : ℕ) → has_reply s j ≡ true →
       (top : ℕ) × (WasSent w j i (Reply s.ours top)) × (top ≤ s.top)
-  -- a deferred request is stored under its own node, and both clocks have seen it
+  -- a deferred request is that of another node, at the place of that node, and the clocks of both
+  -- nodes have seen it
   pub waits : (j : ℕ) (d : Stamp) → deferred_at s j ≡ Some d →
       (j ≢ i) × (d.node ≡ j) × (d.number ≤ s.highest) × HasSeen w j d.number
 
--- what holds for each request that was sent: its sender has drawn its stamp
+-- what holds for each request that was sent: the stamp is the sender's, and the sender's clock has
+-- seen it
 pub record IsRequestOk (w : World Node RicartMsg) (a : ℕ) (stamp : Stamp) : Type 0 where
   pub node : stamp.node ≡ a
   pub issued : HasSeen w a stamp.number
@@ -54,13 +55,13 @@ pub record IsRequestOk (w : World Node RicartMsg) (a : ℕ) (stamp : Stamp) : Ty
 -- what holds for each reply that was sent
 pub record IsReplyOk (w : World Node RicartMsg) (a b : ℕ) (stamp : Stamp) (top : ℕ) : Type 0 where
   pub other : a ≢ b
-  -- both clocks have seen the stamp
+  -- the clocks of both nodes have seen the stamp
   pub issued : HasSeen w b stamp.number
   pub seen : HasSeen w a stamp.number
   -- it carries a section number that some node has reached
   pub reached : IsReached w top
-  -- while the stamp is current, its sender has entered no section since, and has no earlier current
-  -- stamp
+  -- while the stamp is the current one of the addressee, the sender of the reply has entered no
+  -- section above `top`, and a current stamp of the sender comes after this one
   pub stands : (s t : Node) → IsNode w a s → IsNode w b t → IsBusy t → t.ours ≡ stamp →
       (s.mine ≤ top) × (IsBusy s → Before stamp s.ours)
 

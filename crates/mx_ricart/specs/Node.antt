@@ -7,16 +7,16 @@ pub record Node : Type 0 where
   pub me : ℕ
   -- the number of nodes in the cluster
   pub count : ℕ
-  -- the greatest section number
+  -- the greatest number that a section may have
   pub limit : ℕ
   pub phase : Phase
   -- the highest stamp number that it has seen or drawn
   pub highest : ℕ
-  -- the stamp of its request, current while it waits or is inside
+  -- the stamp of its latest request, current while the node waits or is inside
   pub ours : Stamp
   -- for each node, whether its reply to the current request has counted
   pub got : List Bool
-  -- for each node, its request if the reply is deferred
+  -- for each node, the stamp of its request, if the reply to it is deferred
   pub deferred : List (Option Stamp)
   -- the highest section number that it knows
   pub top : ℕ

@@ -15,7 +15,7 @@ use Rattle.mx_nodelaws.specs.Tests.{all_below}
 use Rattle.mx_nodelaws.specs.Rows.{Rows, core_of}
 use Rattle.mx_ricart.specs.Node.{Node}
 
--- the number of nodes that a cluster may have
+-- a cluster may have n nodes
 abbrev pub IsCount : ℕ → Type 0
 IsCount n = (0 < n) × (n ≤ MAX_NODES)
 
@@ -42,7 +42,7 @@ is_other s j = nat_lt j s.count && not (nat_eq j s.me)
 abbrev pub has_reply : Node → ℕ → Bool
 has_reply s j = slice_index_or s.got j false
 
--- the request of node j whose reply is deferred
+-- the request of node j whose reply is deferred, if there is one
 abbrev pub deferred_at : Node → ℕ → Option Stamp
 deferred_at s j = slice_index_or s.deferred j None
 
@@ -50,7 +50,7 @@ deferred_at s j = slice_index_or s.deferred j None
 abbrev pub HasAllReplies : Node → Type 0
 HasAllReplies s = (j : ℕ) → j < s.count → j ≢ s.me → has_reply s j ≡ true
 
--- the same as a test
+-- the permission as a test, node by node
 abbrev pub is_replied : Node → ℕ → Bool
 is_replied s j = nat_eq j s.me || has_reply s j
 
@@ -60,9 +60,10 @@ has_all_replies s = all_below (is_replied s) s.count
 -- ask: the clock's next stamp, no reply yet, and a request to every other node.
 -- Published: the process that invokes mutual exclusion, up to its wait for the replies. There the
 -- request takes the highest number + 1, and does not change the highest number.
--- Added: the request's number becomes the highest, so that no two requests of a node have one
--- stamp, and a reply to an older one is known by it. As in the publication, a request is above all
--- that its node has seen. If no number remains, the call is refused.
+-- Added: the request's number becomes the highest, so that no two requests of a node have the same
+-- stamp, and a reply to an older request is recognized by its stamp. As in the publication, the
+-- number of a request is above all numbers that its node has seen. If no number remains, the call
+-- is refused.
 abbrev pub asking : Node → Node
 asking s = record s {
   highest = s.highest + 1;
@@ -83,9 +84,9 @@ asked s = record {
 
 -- a request comes: the clock sees its number, and the reply is sent at once or deferred.
 -- Published: the process that receives REQUEST messages.
--- Added: the reply repeats the stamp of the request, as it may come late, and carries `top`, for
--- the numbers of sections. Of two deferred requests of one node the later counts, as requests are
--- sent again and may overtake one another.
+-- Added: the reply repeats the stamp of the request, since a reply may come late, and carries
+-- `top`, for the numbers of sections. Of two deferred requests of one node only the later is kept,
+-- since requests are sent again and may overtake one another.
 abbrev pub seeing : Node → ℕ → Node
 seeing s number = record s { highest = max s.highest number }
 
@@ -94,17 +95,17 @@ abbrev pub later_of : Option Stamp → Stamp → Stamp
 later_of None stamp = stamp
 later_of (Some old) stamp = if is_before_of old stamp then stamp else old
 
--- its reply is deferred
+-- the reply to the request is deferred
 abbrev pub deferring : Node → Stamp → Node
 deferring s stamp = record s {
   deferred = slice_set s.deferred stamp.node (Some (later_of (deferred_at s stamp.node) stamp));
 }
 
--- its reply is sent
+-- the reply to the request is sent
 abbrev pub replied : Node → Stamp → Done Node (Unit {0}) RicartMsg
 replied s stamp = sending s ((stamp.node, Reply stamp s.top) ∷ [])
 
--- it is deferred if the node's own request is current and comes first
+-- the reply is deferred if the node's own request is current and comes first
 abbrev pub take_request : Node → Stamp → Done Node (Unit {0}) RicartMsg
 take_request s stamp =
     if is_busy s.phase && is_before_of s.ours stamp
@@ -113,7 +114,7 @@ take_request s stamp =
 
 -- a reply comes: it counts once, while the node waits, if it has the current stamp.
 -- Published: the process that receives REPLY messages, which counts every reply.
--- Added: both tests, since replies may come late or twice; and the section number `top`.
+-- Added: these tests, since replies may come late or twice; and the section number `top`.
 abbrev pub counting : Node → ℕ → ℕ → Node
 counting s from top = record s { got = slice_set s.got from true; top = max s.top top }
 
@@ -123,7 +124,7 @@ take_reply s from stamp top =
     then becoming (counting s from top)
     else becoming s
 
--- both letters come from another node, and the stamp of a request is its sender's.
+-- each letter comes from another node, and the stamp of a request is that of its sender.
 -- Added: any other letter is ignored.
 abbrev pub deliver_of : ℕ → RicartMsg → Node → Done Node (Unit {0}) RicartMsg
 deliver_of from (Request stamp) s =
@@ -140,7 +141,7 @@ entering s = record s { top = s.top + 1; mine = s.top + 1; phase = Inside (s.top
 -- leave: each deferred reply is sent.
 -- Published: the end of the process that invokes mutual exclusion.
 -- Added: the stamp and `top` in each reply.
--- cancel: the same, for a waiting node. Added: its request has ended, and it enters nothing.
+-- cancel: the same, for a waiting node. Added: its request ends, and the node does not enter.
 abbrev pub ending : Node → Node
 ending s = record s { phase = Idle; deferred = replicate MAX_NODES None }
 

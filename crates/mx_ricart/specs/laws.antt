@@ -1,6 +1,7 @@
--- Tests: what the table's tests mean. Frame: what a step does not change. Rows: each row keeps a
--- world safe. Bounds: numbers are u64 values, and names are nodes. Safety: exclusion and numbering.
--- Laws: all together, with the promises on phases.
+-- Tests: what the tests of the step table mean. Frame: what a step does not change. Rows: each row
+-- keeps a world safe. Bounds: each number is a u64 value, and each name that of a node. Safety: at
+-- most one node is inside, and sections are numbered in order. Laws: the promises on phases, and
+-- all laws together.
 pub mod Tests
 pub mod Frame
 pub mod Rows

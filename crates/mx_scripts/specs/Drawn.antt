@@ -1,4 +1,4 @@
--- What is drawn of a plan and a seed.
+-- The events of a schedule, or of a walk, that is drawn from a seed, in the cluster of a plan.
 use Rattle.std.specs.Prelude.{ℕ, List, length}
 use Rattle.mx_ricart.specs.Step.{ricart_core}
 use Rattle.mx_maekawa.specs.Step.{maekawa_core}
@@ -16,8 +16,8 @@ use Rattle.mx_walks.specs.Walked.{after_walk}
 use Rattle.mx_scripts.specs.Files.{file_text}
 use Rattle.mx_scripts.specs.Played.{events_of}
 
--- what happens of a schedule in the cluster of a plan: each drawn event at its place among the
--- parcels sent
+-- the events that happen if the schedule `es` runs in the cluster of a plan, at rest: each drawn
+-- delivery is of one of the newest 64 parcels, and is passed over before any was sent
 abbrev pub placed_in : Fields → List Event → Shape → List Event
 placed_in p es (Ricart count) =
     events_of (after_drawn ricart_core (at_rest ricart_core p count) es).trace
@@ -26,11 +26,11 @@ placed_in p es (Maekawa family) =
 placed_in p es (Raymond tree) =
     events_of (after_drawn raymond_core (at_rest raymond_core p tree) es).trace
 
--- the schedule of a seed, placed in the cluster of a plan
+-- the events that happen if the schedule of a seed runs in the cluster of a plan, at rest
 abbrev pub placed_schedule : Fields → ℕ → ℕ → List Event
 placed_schedule p seed steps = placed_in p (schedule_of p seed steps) p.shape
 
--- how many parcels are sent in it
+-- the number of parcels that are sent if the schedule `es` runs in the cluster of a plan, at rest
 abbrev pub parcels_in : Fields → List Event → Shape → ℕ
 parcels_in p es (Ricart count) =
     length (after_drawn ricart_core (at_rest ricart_core p count) es).sent
@@ -39,7 +39,8 @@ parcels_in p es (Maekawa family) =
 parcels_in p es (Raymond tree) =
     length (after_drawn raymond_core (at_rest raymond_core p tree) es).sent
 
--- these events lead to the same cluster as the drawn ones
+-- the events `es` lead from the cluster of a plan, at rest, to the cluster after the schedule
+-- `drawn`
 abbrev pub LeadsAs : Fields → List Event → List Event → Shape → Type 0
 LeadsAs p drawn es (Ricart count) =
     RunsTo ricart_core (at_rest ricart_core p count) es
@@ -51,11 +52,11 @@ LeadsAs p drawn es (Raymond tree) =
     RunsTo raymond_core (at_rest raymond_core p tree) es
     (after_drawn raymond_core (at_rest raymond_core p tree) drawn)
 
--- the file of what `explore` does from a seed
+-- the file of the events that happen in `explore`, with this seed and number of steps
 abbrev pub drawn_file : Fields → ℕ → ℕ → Text
 drawn_file p seed steps = file_text p (placed_schedule p seed steps)
 
--- what happens in the walk of a seed, in the cluster of a plan
+-- the events that happen in the walk of a seed, from the cluster of a plan, at rest
 abbrev pub walked_in : Fields → Conditions → ℕ → ℕ → Shape → List Event
 walked_in p conditions seed steps (Ricart count) =
     events_of (after_walk ricart_core p conditions seed steps (at_rest ricart_core p count)).trace
@@ -64,6 +65,6 @@ walked_in p conditions seed steps (Maekawa family) =
 walked_in p conditions seed steps (Raymond tree) =
     events_of (after_walk raymond_core p conditions seed steps (at_rest raymond_core p tree)).trace
 
--- the file of that
+-- the file of the events of that walk
 abbrev pub walked_file : Fields → Conditions → ℕ → ℕ → Text
 walked_file p conditions seed steps = file_text p (walked_in p conditions seed steps p.shape)

@@ -1,4 +1,4 @@
--- What has become of the parcels that were sent.
+-- Which parcels are under way, and which links are cut.
 use Rattle.std.specs.Prelude.{ℕ, ◌≡◌, ◌<◌, ◌-◌, ◌==◌, ◌&&◌, Bool, true, false, IsTrue, not, List, [], ◌++◌, Option, Some, None, length, replicate, slice_get, slice_index_or, slice_set}
 use Rattle.mx_events.specs.declared.event.Event.{Event}
 use Rattle.mx_events.specs.declared.event.Event.TheVariants.{Deliver}
@@ -9,26 +9,26 @@ use Rattle.mx_scripts.specs.declared.in_flight.Wanted.{Wanted}
 use Rattle.mx_scripts.specs.declared.in_flight.Wanted.TheVariants.{Waiting, Arriving}
 use Rattle.mx_scripts.specs.Links.{LinkState, changed, is_cut, link_of, uncut}
 
--- of each parcel that was sent, whether it is under way no more; of each link, the parcel that was
--- delivered last; and which links are cut
+-- for each parcel that was sent, whether it is no longer under way; for each link, the number of
+-- the parcel that was delivered last over it; and which links are cut
 pub record Fates : Type 0 where
   pub gone : List Bool
   pub last : List (Option ℕ)
   pub links : LinkState
 
--- before any parcel was sent
+-- no parcel was sent yet, and no link is cut
 abbrev pub at_first : Fates
 at_first = record { gone = []; last = replicate 441 None; links = uncut }
 
--- each parcel up to this number was sent; a new one is under way
+-- the list `gone`, extended to `sent` parcels: the new ones are under way
 abbrev pub grown : ℕ → List Bool → List Bool
 grown sent gone = gone ++ replicate (sent - length gone) false
 
--- a parcel was lost: it is under way no more
+-- a parcel was lost: it is no longer under way
 abbrev pub lost : ℕ → Fates → Fates
 lost k f = record { gone = slice_set f.gone k true; last = f.last; links = f.links }
 
--- a parcel was delivered: it is under way no more, and is the last of its link
+-- a parcel was delivered: it is no longer under way, and was delivered last over its link
 abbrev pub arrived : {P : Type 0} → ℕ → Option (ℕ × ℕ × P) → Fates → Fates
 arrived k None f = lost k f
 arrived k (Some p) f = record {
@@ -42,7 +42,8 @@ abbrev pub delivered : {P : Type 0} → List (ℕ × ℕ × P) → Event → Fat
 delivered sent (Deliver k) f = arrived k (slice_get sent k) f
 delivered sent _ f = f
 
--- an event happened, after which these parcels are those that were sent
+-- an event happened, after which `sent` are all parcels ever sent: the new ones are under way, and
+-- the parcel that the event delivers has arrived
 abbrev pub noted : {P : Type 0} → List (ℕ × ℕ × P) → Event → Fates → Fates
 noted sent event f =
     delivered sent event
@@ -56,40 +57,40 @@ relinked change f = record { gone = f.gone; last = f.last; links = changed chang
 abbrev pub is_under_way : Fates → ℕ → Bool
 is_under_way f k = not (slice_index_or f.gone k true)
 
--- the parcel is so, and none that was sent before it
+-- parcel k satisfies `is_so`, and no parcel that was sent before it does
 abbrev pub IsOldest : (ℕ → Bool) → ℕ → Type 0
 IsOldest is_so k = IsTrue (is_so k) × ((j : ℕ) → j < k → is_so j ≡ false)
 
--- the link that bears the parcel is cut
+-- the parcel was sent, and its link is cut
 abbrev pub is_held : {P : Type 0} → Fates → Option (ℕ × ℕ × P) → Bool
 is_held f None = false
 is_held f (Some p) = is_cut f.links p.0 p.1
 
--- an event delivers a parcel over a link that is not cut, or none
+-- the event delivers no parcel over a link that is cut
 abbrev pub can_pass : {P : Type 0} → Fates → List (ℕ × ℕ × P) → Event → Bool
 can_pass f sent (Deliver k) = not (is_held f (slice_get sent k))
 can_pass f sent _ = true
 
--- `all` speaks of the parcels from one node to another
+-- the scope, which is all parcels or those of one link, includes those from one node to another
 abbrev pub is_within : Scope → ℕ → ℕ → Bool
 is_within All from to = true
 is_within (Link first second) from to = (from == first) && (to == second)
 
--- the parcel was sent, and `all` speaks of it
+-- the parcel was sent, and is in the scope
 abbrev pub is_in : {P : Type 0} → Scope → Option (ℕ × ℕ × P) → Bool
 is_in scope None = false
 is_in scope (Some p) = is_within scope p.0 p.1
 
 module _ {P : Type 0} (f : Fates) (sent : List (ℕ × ℕ × P)) (scope : Scope) where
-  -- the parcel is under way, and `all` speaks of it
+  -- the parcel is under way, and in the scope
   abbrev pub is_waiting : ℕ → Bool
   is_waiting k = is_under_way f k && is_in scope (slice_get sent k)
 
-  -- and its link is not cut
+  -- the parcel is under way and in the scope, and its link is not cut
   abbrev pub can_arrive : ℕ → Bool
   can_arrive k = is_waiting k && not (is_held f (slice_get sent k))
 
-  -- the parcel is under way, `all` speaks of it, and it is wanted
+  -- the parcel is wanted: it is under way and in the scope, and for `Arriving` its link is not cut
   abbrev pub is_wanted : Wanted → ℕ → Bool
   is_wanted Waiting k = is_waiting k
   is_wanted Arriving k = can_arrive k

@@ -40,7 +40,7 @@ items_text p (Deliver k) = quoted (word_of kind.Deliver) ++ codes "," ++ decimal
 abbrev pub item_text : Fields → Event → Text
 item_text p event = codes "[" ++ items_text p event ++ codes "]"
 
--- a further event has a line of its own
+-- an event after the first: a comma, and then the event on the next line
 abbrev pub next_text : Fields → Event → Text
 next_text p event = codes "," ++ line_feed ++ item_text p event
 

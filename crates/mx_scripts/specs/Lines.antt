@@ -30,24 +30,26 @@ use Rattle.mx_scripts.specs.declared.session_event.SessionEvent.TheVariants.{Hap
 abbrev pub arrival : ℕ → SessionEvent
 arrival k = Happens (Deliver k)
 
--- an event of the oldest parcel that is so; none, if no parcel is so
+-- the event of the oldest parcel that satisfies `is_so`; `None` if no parcel does
 abbrev pub Finds : (ℕ → Bool) → (ℕ → SessionEvent) → Option SessionEvent → Type 0
 Finds is_so event None = (k : ℕ) → is_so k ≡ false
 Finds is_so event (Some e) = (k : ℕ) × IsOldest is_so k × (e ≡ event k)
 
--- once, and then no more
+-- the next event of an order that has just one: it satisfies `IsIt`, and once it is done there is
+-- none
 abbrev pub Once : ℕ → (SessionEvent → Type 0) → Option SessionEvent → Type 0
 Once zero IsIt None = ⊥
 Once zero IsIt (Some e) = IsIt e
 Once (suc done) IsIt next = next ≡ None
 
--- another delivery of the parcel of a link that was delivered last
+-- the event delivers again the parcel that was delivered last over a link
 abbrev pub IsAgain : Fates → ℕ → ℕ → SessionEvent → Type 0
 IsAgain d from to e =
     (k : ℕ) × (slice_index_or d.last (link_of from to) None ≡ Some k) × (e ≡ arrival k)
 
 module _ {P : Type 0} (d : Fates) (sent : List (ℕ × ℕ × P)) where
-  -- what an order asks for next, after `done` of its events
+  -- the event that an order asks for next, after `done` of its events; `None` if it asks for no
+  -- more
   abbrev pub IsNext : Order → ℕ → Option SessionEvent → Type 0
   IsNext (order.Happens event) done next = Once done (λ e. e ≡ Happens event) next
   IsNext (order.Arrives from to) done next =
@@ -70,29 +72,29 @@ module _ {P : Type 0} (d : Fates) (sent : List (ℕ × ℕ × P)) where
       × (slice_index_or d.last (link_of from to) None ≡ None)
   Misses _ done fault = ⊥
 
--- why an order, after `done` of its events, asks for nothing that can happen: there is no
--- such parcel, or the next event is held up
+-- why an order, after `done` of its events, asks for nothing that can happen: there is no such
+-- parcel; or the next event delivers a parcel over a cut link, or would be one too many
 abbrev pub IsNoNext : {S M : Type 0} → RunState S M → Order → ℕ → LineFault → Type 0
 IsNoNext s order done fault =
     Misses s.fates s.cluster.sent order done fault
     ⊎ ((next : Option SessionEvent) × IsNext s.fates s.cluster.sent order done next
     × Bars s next fault)
 
--- the words of a line ask for this
+-- what the words of a line ask for, without its comment; `None` if it has no words
 abbrev pub Reads : Fields → Text → Option Line → Type 0
 Reads p text read =
     (words : List (Bor Text)) × AreWords (before_comment text) words
     × (line_of (known_of p) (texts_of words) ≡ Ok read)
 
--- a word of a line is wrong
+-- a word of a line is wrong, and that is why the line is not done
 abbrev pub Misreads : Fields → Text → LineFailure → Type 0
 Misreads p text why =
     (words : List (Bor Text)) × (error : LineError) × AreWords (before_comment text) words
     × (line_of (known_of p) (texts_of words) ≡ Err error) × (why ≡ failure.WrongWord error)
 
 module _ {H S M : Type 0} (core : Core H S M) where
-  -- after `done` of its events, an order asks for these, and each leads to the state in
-  -- which it asks for the next
+  -- after `done` of its events, an order asks for these events in turn, and then for no more. Each
+  -- is allowed, and together they lead from the old state to the new one
   abbrev pub Performs : Order → ℕ → RunState S M → List SessionEvent → RunState S M → Type 0
   Performs order done old [] new =
       (new ≡ old) × IsNext old.fates old.cluster.sent order done None
@@ -100,7 +102,8 @@ module _ {H S M : Type 0} (core : Core H S M) where
       (mid : RunState S M) × IsNext old.fates old.cluster.sent order done (Some e)
       × IsAllowed old e × Brings core old e mid × Performs order (suc done) mid es new
 
-  -- the same, `times` times
+  -- the order is performed `times` times, each time from its first event on; these are all its
+  -- events
   abbrev pub Repeats : Order → ℕ → RunState S M → List SessionEvent → RunState S M → Type 0
   Repeats order zero old es new = (new ≡ old) × (es ≡ [])
   Repeats order (suc times) old es new =
@@ -111,8 +114,8 @@ module _ {H S M : Type 0} (core : Core H S M) where
   abbrev pub Does : Line → RunState S M → RunState S M → Type 0
   Does line old new = (es : List SessionEvent) × Repeats line.order line.times old es new
 
-  -- after `done` of its events, an order stops here: it has no next event that can happen,
-  -- the next is not applied, or there have been too many
+  -- after `done` of its events, an order stops here: it has no next event that can happen, the next
+  -- is not applied, or it has had the greatest number of events
   abbrev pub Stops : Order → ℕ → RunState S M → LineFailure → Type 0
   Stops order done s why =
       ((fault : LineFault) × IsNoNext s order done fault × (why ≡ failure.Refused fault))
@@ -120,14 +123,15 @@ module _ {H S M : Type 0} (core : Core H S M) where
       × IsNext s.fates s.cluster.sent order done (Some e) × IsNotApplied core s e new why)
       ⊎ ((MAX_EVENTS ≤ done) × (why ≡ failure.Refused TooMany)))
 
-  -- it stops after these events
+  -- the order does these events, and then stops
   abbrev pub StopsAfter : Order → ℕ → RunState S M → List SessionEvent → LineFailure → Type 0
   StopsAfter order done old [] why = Stops order done old why
   StopsAfter order done old (e ∷ es) why =
       (mid : RunState S M) × IsNext old.fates old.cluster.sent order done (Some e)
       × IsAllowed old e × Brings core old e mid × StopsAfter order (suc done) mid es why
 
-  -- it stops at one of `times` times
+  -- the order is to be performed `times` times: it stops in one of them, and those before are
+  -- complete
   abbrev pub StopsWithin : Order → ℕ → RunState S M → LineFailure → Type 0
   StopsWithin order zero old why = ⊥
   StopsWithin order (suc times) old why =
@@ -135,7 +139,7 @@ module _ {H S M : Type 0} (core : Core H S M) where
       ⊎ ((mid : RunState S M) × (es : List SessionEvent) × Performs order 0 old es mid
       × StopsWithin order times mid why)
 
-  -- a line without words asks for nothing
+  -- what a line asks for was done; a line without words changes nothing
   abbrev pub DoesIfSome : Option Line → RunState S M → RunState S M → Type 0
   DoesIfSome None old new = new ≡ old
   DoesIfSome (Some line) old new = Does line old new
@@ -151,20 +155,21 @@ module _ {H S M : Type 0} (core : Core H S M) where
     DoesAll (text ∷ texts) old new =
         (mid : RunState S M) × DoesText text old mid × DoesAll texts mid new
 
-    -- why a line is not done: memory ran out, a word is wrong, or what it asks for stops
+    -- why a line is not done: memory ran out, a word is wrong, or its order stops
     abbrev pub IsNotDone : Text → RunState S M → LineFailure → Type 0
     IsNotDone text old why =
         (why ≡ failure.Memory)
         ⊎ (Misreads p text why
         ⊎ ((line : Line) × Reads p text (Some line) × StopsWithin line.order line.times old why))
 
-    -- the lines before this one, counted from 0, were done, and it is not
+    -- the first n lines were done, and the next one is not, for this reason
     abbrev pub StopsAt : List Text → RunState S M → ℕ → LineFailure → Type 0
     StopsAt texts old n why =
         (text : Text) × (mid : RunState S M) × DoesAll (take n texts) old mid
         × (slice_get texts n ≡ Some text) × IsNotDone text mid why
 
-    -- the error is that of the first line that is not done, whose number is counted from 1 in 64 bits
+    -- the error is that of the first line that is not done. Its number counts from 1, up to the
+    -- greatest of 64 bits
     abbrev pub StopsBy : List Text → RunState S M → ScriptError → Type 0
     StopsBy texts old error =
         (n : ℕ) × (why : LineFailure) × StopsAt texts old n why

@@ -3,12 +3,12 @@ use Rattle.std.specs.Prelude.{ℕ, ◌+◌, ◌*◌, ◌||◌, Bool, true, false
 use Rattle.mx_lines.specs.declared.orders.LinkChange.{LinkChange}
 use Rattle.mx_lines.specs.declared.orders.LinkChange.TheVariants.{Cut, CutAll, Heal}
 
--- of each link, whether it is cut alone; of each node, whether all its links are cut
+-- for each link, whether it was cut by itself; for each node, whether all its links were cut
 pub record LinkState : Type 0 where
   pub cut : List Bool
   pub apart : List Bool
 
--- the place of the link from one node to another
+-- the index of the link from one node to another, in lists of the links between 21 nodes
 abbrev pub link_of : ℕ → ℕ → ℕ
 link_of from to = from * 21 + to
 
@@ -16,7 +16,7 @@ link_of from to = from * 21 + to
 abbrev pub uncut : LinkState
 uncut = record { cut = replicate 441 false; apart = replicate 21 false }
 
--- links are cut, one both ways, or all of a node; or all heal
+-- the link between two nodes is cut, both ways; or all links of a node are cut; or all links heal
 abbrev pub changed : LinkChange → LinkState → LinkState
 changed (Cut one other) l = record {
   cut = slice_set (slice_set l.cut (link_of one other) true) (link_of other one) true;

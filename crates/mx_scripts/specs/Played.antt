@@ -16,7 +16,7 @@ use Rattle.mx_explorer.specs.Drawn.{IsDrawn}
 use Rattle.mx_commands.specs.Runs.{at_rest}
 use Rattle.mx_scripts.specs.Files.{file_text}
 
--- the events of a trace, without what came of them
+-- the events of a trace, without their outcomes
 abbrev pub events_of : List Entry → List Event
 events_of = map (λ entry. entry.event)
 
@@ -24,21 +24,23 @@ events_of = map (λ entry. entry.event)
 abbrev pub AreOver : ℕ → ℕ → List Event → Type 0
 AreOver nodes registers es = (e : Event) → IsIn e es → IsDrawn nodes registers e
 
--- the events of the trace lead from the start to the cluster, and name its nodes and registers
+-- the events of the cluster's trace lead from the start to the cluster, and name only nodes below
+-- `nodes` and registers below `registers`
 pub record IsPlayed {H S M : Type 0} (core : Core H S M) (nodes registers : ℕ)
     (start g : ClusterState S M) : Type 0 where
   pub runs : RunsTo core start (events_of g.trace) g
   pub over : AreOver nodes registers (events_of g.trace)
 
--- events over these nodes and registers lead from one cluster to another
+-- if the events of the old cluster's trace lead from a start to the old cluster, so do those of the
+-- new one's trace to the new one; they name only these nodes and registers
 abbrev pub Plays : {H S M : Type 0} → Core H S M → ℕ → ℕ → ClusterState S M → ClusterState S M
     → Type 0
 Plays {H} {S} {M} core nodes registers old new =
     (start : ClusterState S M) → IsPlayed core nodes registers start old
     → IsPlayed core nodes registers start new
 
--- the text is a file of events over the names of the plan that lead from the start to some cluster:
--- each parcel that is delivered was sent
+-- the text is the file of events that name only nodes and registers of the plan, and lead from the
+-- start to some cluster: so each parcel that they deliver was sent
 pub record IsFileOf {H S M : Type 0} (core : Core H S M) (p : Fields) (start : ClusterState S M)
     (text : Text) : Type 0 where
   pub events : List Event
@@ -47,7 +49,7 @@ pub record IsFileOf {H S M : Type 0} (core : Core H S M) (p : Fields) (start : C
   pub last : ClusterState S M
   pub runs : RunsTo core start events last
 
--- the same of the cluster of a plan, at rest, by its algorithm
+-- the text is the file of events that can happen from the cluster of a plan, at rest
 abbrev pub IsEventFile : Fields → Text → Shape → Type 0
 IsEventFile p text (Ricart count) = IsFileOf ricart_core p (at_rest ricart_core p count) text
 IsEventFile p text (Maekawa family) = IsFileOf maekawa_core p (at_rest maekawa_core p family) text

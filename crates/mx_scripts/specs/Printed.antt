@@ -1,4 +1,4 @@
--- What comes of the words of `draw` and `script`.
+-- What the commands `draw` and `script` print, and with which status they end.
 use Rattle.std.specs.Prelude.{◌&&◌, ⊤, ℕ, Bool, Option, Result, IfSome, option_map}
 use Rattle.std.specs.Io.KnownBytes.{Appends}
 use Rattle.mx_plan.specs.Text.{Text}
@@ -17,7 +17,7 @@ use Rattle.mx_scripts.specs.Ended.{IsScriptOf, ScriptsOf}
 use Rattle.mx_scripts.specs.ScriptFiles.{IsScriptFile}
 use Rattle.mx_scripts.specs.Requests.{Request, draw, walk, script}
 
--- what is told of the plan
+-- what the source states about the plan of a request
 abbrev pub told_of_plan : (Text → Option Telling) → Request → Option Telling
 told_of_plan told (draw name seed steps) = told name
 told_of_plan told (walk name seed steps conditions) = told name
@@ -29,13 +29,14 @@ PrintsScript told names p old new =
     (script text : Text) × IsScriptOf told names script × IsScriptFile p script text p.shape
     × Appends old new text
 
--- the file of the walk of the seed was printed, whose events can happen in the plan's cluster
+-- the file of the walk of the seed was printed, and its events can happen in the plan's cluster
 abbrev pub PrintsWalk : Fields → ℕ → ℕ → Conditions → Held → Held → Type 0
 PrintsWalk p seed steps conditions old new =
     IsEventFile p (walked_file p conditions seed steps) p.shape
     × Appends old new (walked_file p conditions seed steps)
 
--- what was printed: without a walk the placed schedule of the seed, and nothing else
+-- what the request asks for was printed, and nothing else: the file of the schedule of a seed, of a
+-- walk, or of a script
 abbrev pub Prints : (Text → Option Telling) → Request → Fields → Held → Held → Type 0
 Prints told (draw name seed steps) p old new = Appends old new (drawn_file p seed steps)
 Prints told (walk name seed steps conditions) p old new =
@@ -47,24 +48,26 @@ abbrev pub HasDone : (Text → Option Telling) → Request → Held → Held →
 HasDone told request old new =
     (p : Fields) × IsPlanOf (told_of_plan told request) p × Prints told request p old new
 
--- to print the placed schedule of the seed, of what a source tells of the plan
+-- the job of `draw` without a walk, if the source states what the name of the plan holds: to print
+-- the file of the schedule of the seed
 abbrev pub draw_job : (Text → Option Telling) → Text → ℕ → ℕ → Option Job
 draw_job told name seed steps = option_map (on_plan (λ p. drawn_file p seed steps)) (told name)
 
--- that was done: the file was printed whole, status 0; or the line of the plan's fault was told,
+-- the job was run: the file was printed whole; or the line of the plan's fault was printed, with
 -- status 1; or memory ran out, or an output refused
 abbrev pub DrawsPlan : Bool → Bool → Text → Option Job → Held → Held → Held → Held → ℕ → Type 0
 DrawsPlan takes_out takes_err name job out out' err err' status =
     (ended : Result ℕ CommandError) × IfSome job (λ j. RanOn takes_out out out' j ended)
     × Closes (takes_out && takes_err) (name, name) ended err err' status
 
--- a script ends so, where one is asked for
+-- if the request is for a script, it ended with this status, and standard error got what is printed
+-- of that end
 abbrev pub Scripts : Bool → Bool → (Text → Option Telling) → Request → Held → Held → ℕ → Type 0
 Scripts takes_out takes_err told (script names) err err' status =
     ScriptsOf takes_out takes_err told names err err' status
 Scripts takes_out takes_err told _ err err' status = ⊤
 
--- the same, where `draw` is asked for without a walk
+-- if the request is for `draw` without a walk, its job was run, and ended with this status
 abbrev pub Draws : Bool → Bool → (Text → Option Telling) → Request → Held → Held → Held → Held → ℕ
     → Type 0
 Draws takes_out takes_err told (draw name seed steps) out out' err err' status =

@@ -20,8 +20,8 @@ use Rattle.mx_scripts.specs.States.{RunState, before_any}
 use Rattle.mx_scripts.specs.declared.script_error.ScriptError.{ScriptError}
 use Rattle.mx_scripts.specs.declared.script_error.ScriptError.TheVariants as script_error
 
--- the text is the file of what the lines of a script do, one after another: no more events than are
--- read back, which can happen in the cluster
+-- the text is the file of what the lines of a script do, one after another: at most a million
+-- events, which can happen in the cluster
 pub record IsFileOfScript {H S M : Type 0} (core : Core H S M) (p : Fields)
     (start : ClusterState S M) (script text : Text) : Type 0 where
   pub last : RunState S M
@@ -30,7 +30,7 @@ pub record IsFileOfScript {H S M : Type 0} (core : Core H S M) (p : Fields)
   pub few : length last.cluster.trace ≤ MAX_EVENTS
   pub file : IsFileOf core p start text
 
--- the same of the cluster of a plan, at rest, by its algorithm
+-- the text is the file of what the lines of a script do in the cluster of a plan, at rest
 abbrev pub IsScriptFile : Fields → Text → Text → Shape → Type 0
 IsScriptFile p script text (Ricart count) =
     IsFileOfScript ricart_core p (at_rest ricart_core p count) script text
@@ -39,7 +39,7 @@ IsScriptFile p script text (Maekawa family) =
 IsScriptFile p script text (Raymond tree) =
     IsFileOfScript raymond_core p (at_rest raymond_core p tree) script text
 
--- memory ran out
+-- the error is that memory ran out
 abbrev pub IsShort : ScriptError → Type 0
 IsShort error = error ≡ script_error.Command command_error.Memory
 
@@ -48,7 +48,8 @@ pub record StopsFrom {H S M : Type 0} (core : Core H S M) (p : Fields) (start : 
     (script : Text) (error : ScriptError) : Type 0 where
   pub stops : StopsBy core p (lines script) (before_any start) error
 
--- the same in the cluster of a plan, at rest, by its algorithm
+-- the error is that of the first line of a script that is not done in the cluster of a plan, at
+-- rest
 abbrev pub StopsInPlan : Fields → Text → ScriptError → Shape → Type 0
 StopsInPlan p script error (Ricart count) =
     StopsFrom ricart_core p (at_rest ricart_core p count) script error

@@ -31,23 +31,24 @@ failure_of_step step_fault.NoNode = failure.Refused NoNode
 failure_of_step step_fault.NoParcel = failure.Refused NoParcel
 failure_of_step step_fault.Memory = failure.Memory
 
--- why a line is refused that is not done; not at all, where memory ran out
+-- the fault of a line that is not done; `None` if memory ran out, since the line is not refused
+-- then
 abbrev pub fault_of : LineFailure → Option LineFault
 fault_of (failure.WrongWord error) = Some error.fault
 fault_of (failure.Refused fault) = Some fault
 fault_of failure.Memory = None
 
--- a refused line, by its number and its fault
+-- the refused line has this number, and the fault of this failure
 abbrev pub IsRefused : ℕ → LineFailure → RefusedLine → Type 0
 IsRefused number failure line =
     (line.number ≡ number) × (fault_of failure ≡ Some line.fault)
 
--- the line of this number is not done: it is refused, or memory ran out
+-- the error is that the line of this number is not done: it is refused, or memory ran out
 abbrev pub IsErrorAt : ℕ → LineFailure → ScriptError → Type 0
 IsErrorAt number failure (script_error.Command why) = why ≡ command_error.Memory
 IsErrorAt number failure (script_error.AtLine line) = IsRefused number failure line
 
--- the line of a fault in the k-th line of a script, with the message about its words
+-- what is printed of a fault in line k of a script, with the message about the words of that line
 abbrev pub script_line : ℕ → LineFault → Text → Text
 script_line k fault message =
     codes "mx: script: line " ++ decimal k ++ codes ": " ++ fault_text fault ++ message

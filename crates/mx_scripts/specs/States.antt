@@ -1,4 +1,5 @@
--- A cluster with what has become of its parcels, and what happens to both.
+-- A cluster with its fates (which parcels are under way, and which links are cut), and what happens
+-- to both.
 use Rattle.std.specs.Prelude.{ℕ, ◌≡◌, ◌≤◌, ◌<◌, ◌⊎◌, ⊤, false, IsTrue, Ok, Err, Option, Some, length}
 use Rattle.mx_stamps.specs.declared.limits.TheConstants.{MAX_EVENTS}
 use Rattle.mx_nodelaws.specs.Core.{Core}
@@ -18,12 +19,12 @@ pub record RunState (S M : Type 0) : Type 0 where
   pub cluster : ClusterState S M
   pub fates : Fates
 
--- a cluster before any parcel was sent
+-- a cluster with no parcel sent yet, and no link cut
 abbrev pub before_any : {S M : Type 0} → ClusterState S M → RunState S M
 before_any start = record { cluster = start; fates = at_first }
 
--- only a parcel that is under way is lost; an event of the cluster delivers none over a link that is
--- cut, and there have been fewer than may be
+-- the event is allowed: only a parcel that is under way is lost; an event of the cluster delivers
+-- no parcel over a cut link, and the cluster has had fewer than the greatest number of events
 abbrev pub IsAllowed : {S M : Type 0} → RunState S M → SessionEvent → Type 0
 IsAllowed s (Happens e) =
     IsTrue (can_pass s.fates s.cluster.sent e)
@@ -31,12 +32,13 @@ IsAllowed s (Happens e) =
 IsAllowed s (IsLost k) = IsTrue (is_under_way s.fates k)
 IsAllowed s (LinksChange change) = ⊤
 
--- the same of the events of the cluster alone
+-- the next event, if it is one of the cluster, is allowed
 abbrev pub Admits : {S M : Type 0} → RunState S M → Option SessionEvent → Type 0
 Admits s (Some (Happens e)) = IsAllowed s (Happens e)
 Admits s _ = ⊤
 
--- why an event can't happen: the cluster has had as many as may be, or a link is cut
+-- why an event of the cluster is not allowed: the cluster has had the greatest number of events, or
+-- the event delivers a parcel over a cut link
 abbrev pub Bars : {S M : Type 0} → RunState S M → Option SessionEvent → LineFault → Type 0
 Bars s (Some (Happens e)) fault =
     ((fault ≡ TooMany) × (MAX_EVENTS ≤ length s.cluster.trace))
@@ -50,8 +52,8 @@ IsDrawnOf nodes registers (IsLost k) = ⊤
 IsDrawnOf nodes registers (LinksChange change) = ⊤
 
 module _ {H S M : Type 0} (core : Core H S M) where
-  -- this happens, and leads from one state to another; only a parcel that is under way is lost, and
-  -- none is delivered over a link that is cut
+  -- the event happens, and leads from one state to another; only a parcel that is under way is
+  -- lost, and no parcel is delivered over a cut link
   abbrev pub Brings : RunState S M → SessionEvent → RunState S M → Type 0
   Brings old (Happens e) new =
       (step_of core old.cluster e ≡ Ok new.cluster)
@@ -63,7 +65,7 @@ module _ {H S M : Type 0} (core : Core H S M) where
   Brings old (LinksChange change) new =
       (new.cluster ≡ old.cluster) × (new.fates ≡ relinked change old.fates)
 
-  -- the cluster has no such node or parcel, and nothing changes
+  -- the event names a node or a parcel that the cluster does not have, and nothing changes
   abbrev pub IsRefusedBy : RunState S M → SessionEvent → RunState S M → LineFailure → Type 0
   IsRefusedBy old (Happens e) new why =
       (new ≡ old) × (fault : StepFault) × (step_of core old.cluster e ≡ Err fault)
@@ -71,6 +73,6 @@ module _ {H S M : Type 0} (core : Core H S M) where
   IsRefusedBy old (IsLost k) new why = ⊥
   IsRefusedBy old (LinksChange change) new why = ⊥
 
-  -- why this does not happen: memory ran out, or the cluster refuses it
+  -- why the event does not happen: memory ran out, or the cluster refuses it
   abbrev pub IsNotApplied : RunState S M → SessionEvent → RunState S M → LineFailure → Type 0
   IsNotApplied old e new why = (why ≡ failure.Memory) ⊎ IsRefusedBy old e new why

@@ -11,7 +11,7 @@ use Rattle.mx_scripts.specs.Requests.{Request, draw, walk, script}
 use Rattle.mx_scripts.specs.declared.words.Request.{Request as Told}
 use Rattle.mx_scripts.specs.declared.words.Request.TheVariants as asked
 
--- the whole command line
+-- the command line of `mx` with `draw` and `script` alone
 unfoldable pub file_line : App
 file_line = line_of (id.Draw ∷ id.Script ∷ [])
 
@@ -23,21 +23,22 @@ request_of (asked.Walk exploration conditions) =
     walk exploration.plan.now exploration.seed exploration.steps conditions
 request_of (asked.Script names) = script (names_of names)
 
--- what becomes of parcels is said
+-- `--loss`, `--repeat` or `--in-order` was given
 abbrev pub has_conditions : List Row → Bool
 has_conditions rows =
     option_map_or (λ _. true) (first_of (codes "loss") rows) false
     || option_map_or (λ _. true) (first_of (codes "repeat") rows) false
     || is_given (codes "in-order") rows
 
--- a walk; or what `explore` does, unless it is said what becomes of parcels
+-- a walk, if `--walk` was given; else the events of `explore`, or `None` if a condition of walks
+-- was given
 abbrev pub drawing : List Row → Text × (ℕ × ℕ) → Option Request
 drawing rows e =
     if is_given (codes "walk") rows then Some (walk e.0 e.1.0 e.1.1 (conditions_in rows))
     else if has_conditions rows then None
     else Some (draw e.0 e.1.0 e.1.1)
 
--- what was given for the arguments of each command
+-- what each command asks for, by what was given for its arguments
 abbrev pub draw_in : List Row → Option Request
 draw_in rows = option_and_then (drawing rows) (exploration_at rows)
 
@@ -47,7 +48,7 @@ script_in rows =
     (λ plan. option_map (λ text. script (plan, text)) (first_of (codes "SCRIPT") rows))
     (first_of (codes "PLAN") rows)
 
--- the command that was met, and what was given for it
+-- what the command that was met asks for, by what was given for its arguments
 abbrev pub request_in : Option (Text × List Row) → Option Request
 request_in None = None
 request_in (Some p) =
@@ -55,6 +56,6 @@ request_in (Some p) =
     else if bytes_eq p.0 (codes "script") then script_in p.1
     else None
 
--- what the words ask for, where they are `draw` or `script` with its arguments
+-- what the words ask for, if they are `draw` or `script` with its arguments
 unfoldable pub request_asked : List Text → Option Request
 request_asked words = asked_of file_line request_in words

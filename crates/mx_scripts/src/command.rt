@@ -1,4 +1,4 @@
-//! `draw` and `script`: from words, named bytes and two outputs to a status.
+//! `draw` and `script`, from the words of a command line to the exit status.
 
 ghost use Rattle.std.specs.Prelude.{◌≡◌, IsSome, IfSome};
 ghost use Rattle.mx_cli.specs.Words.{texts_of};
@@ -49,7 +49,7 @@ pub fn event_file<S: Source, O: Output, E: Output>(
     }
 }
 
-/// Tells that an option needs `--walk`. Returns the status.
+/// Reports that an option of `draw` needs `--walk`. Returns the status.
 fn need_walk<E: Output>(err: &mut E) -> u8
     ensures { result ≡ 2 }
 {
@@ -57,7 +57,7 @@ fn need_walk<E: Output>(err: &mut E) -> u8
     2
 }
 
-/// Does what is asked for, and tells why there is no file where there is none. Returns the status.
+/// Prints the file of events that is asked for, or reports why there is none. Returns the status.
 fn run_request<S: Source, O: Output, E: Output>(
     alloc: Global,
     request: &Request<'_>,

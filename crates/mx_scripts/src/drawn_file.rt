@@ -1,4 +1,4 @@
-//! `draw`: what `explore` does from a seed, as a file of events.
+//! `draw`: the events of `explore` from a seed, as a file.
 
 ghost use Rattle.std.specs.Prelude.{◌≡◌, ◌≤◌, ◌^◌, ◌++◌, Ok, string_bytes, IfOk, OnOk};
 ghost use Rattle.mx_plan.specs.Events.{events_at};
@@ -22,9 +22,9 @@ use mx_plan::Plan;
 use mx_stamps::MAX_EVENTS;
 use std::alloc::{AllocError, Global};
 
-/// Prints the file of the events that `explore` does from a seed: the schedule of this many steps,
-/// each delivery at its place among the parcels sent, and without the deliveries before any was
-/// sent. A replay of that file does the same to the cluster. Returns the status.
+/// Prints the events of `explore` from a seed, as a file, and returns the status. They are a
+/// schedule of `steps` events: each delivery gets the number of its parcel, and a delivery before
+/// any parcel was sent is left out. A replay of the file does the same to the cluster.
 pub(crate) fn draw_schedule<O: Output>(
     alloc: Global,
     plan: &Plan,
@@ -44,8 +44,9 @@ pub(crate) fn draw_schedule<O: Output>(
     print(text.as_bytes(), out)
 }
 
-/// A replay of the file of a seed reads the placed schedule, and that leads to the very cluster
-/// that `explore` judges: the same members, parcels and trace. There is nothing to do.
+/// Proves that a replay of the file that `draw` prints leads to the cluster that `explore` judges:
+/// the same members, parcels and trace. It assumes at most 1,000,000 steps and 2^64 parcels. Does
+/// nothing.
 pub fn replays_as_explored(plan: &Plan, seed: u64, steps: u64)
     ensures reads { IsPlan plan.now → steps ≤ MAX_EVENTS
         → parcels_in plan.now (schedule_of plan.now seed steps) plan.now.shape ≤ 2 ^ 64
@@ -55,7 +56,7 @@ pub fn replays_as_explored(plan: &Plan, seed: u64, steps: u64)
         (placed_schedule plan.now seed steps) plan.now.shape }
 {}
 
-/// The drawn events happen, by the plan's algorithm; then the file of what happened.
+/// Runs the drawn events by the plan's algorithm, then appends the file of what happened.
 fn add_placed(
     alloc: Global,
     plan: &Plan,
@@ -73,7 +74,7 @@ fn add_placed(
     )
 }
 
-/// The drawn events happen in a cluster; then the file of what happened.
+/// Runs the drawn events in a cluster, then appends the file of what happened.
 fn add_happened<C: Exclusion>(
     plan: &Plan,
     mut cluster: Cluster<C>,

@@ -46,7 +46,7 @@ impl fmt::Display for OfNode<'_> {
 }
 
 impl<'a> OfNode<'a> {
-    /// And a further name.
+    /// Adds a further name, of a register or of another node.
     fn and_name(self, name: &'a str) -> WithName<'a>
         ensures begun { result.begun ≡ self.entry }
         ensures name { result.name.now ≡ name.now }
@@ -54,7 +54,7 @@ impl<'a> OfNode<'a> {
         WithName { begun: self, name }
     }
 
-    /// And a number.
+    /// Adds a number.
     fn and_number(self, number: u64) -> WithNumber<'a>
         ensures begun { result.begun ≡ self.entry }
         ensures number { result.number ≡ number }
@@ -98,7 +98,7 @@ impl fmt::Display for WithNumber<'_> {
     }
 }
 
-/// An event, as a file has it, without the brackets.
+/// The items of an event, as a file has them between brackets.
 #[derive(Clone, Copy)]
 struct ItemsText<'a> {
     plan: &'a Plan,
@@ -106,7 +106,7 @@ struct ItemsText<'a> {
 }
 
 impl<'a> ItemsText<'a> {
-    /// The word of the event, and the name of its node.
+    /// Returns the word of the event, and the name of this node.
     fn of(&self, node: NodeId) -> OfNode<'a>
         ensures word { result.word.now ≡ word_of (kind_of self.now.event.now) }
         ensures name { result.name.now ≡ name_of self.now.plan.now node }
@@ -170,7 +170,7 @@ impl fmt::Display for ItemText<'_> {
     }
 }
 
-/// A further event, on a line of its own.
+/// An event after the first of a file: a comma, and the event on a line of its own.
 #[derive(Clone, Copy)]
 struct NextText<'a> {
     plan: &'a Plan,
@@ -189,8 +189,8 @@ impl fmt::Display for NextText<'_> {
     }
 }
 
-/// Shows that the file of events over a plan's names is read as these events, by the rules of
-/// `replay`. Does nothing.
+/// Proves that the file of at most 1,000,000 events over a plan's names is read as these events, by
+/// the rules of `replay`. Does nothing.
 pub fn reads_back(plan: &Plan, events: &[Event])
     ensures { IsPlan plan.now → AreReadable plan.now events.now
         → events_at plan.now (file_text plan.now events.now) ≡ Ok events.now }
@@ -223,7 +223,7 @@ pub fn add_file(plan: &Plan, trace: &[Entry], text: &mut String) -> Result<(), A
     text.push_str("\n]\n")
 }
 
-/// Appends the further events of a trace.
+/// Appends the events after the first of a file, each on a line of its own.
 fn add_next(plan: &Plan, trace: &[Entry], text: &mut String) -> Result<(), AllocError>
     ensures { OnOk result (string_bytes text.new
         ≡ string_bytes text.old ++ each_text (λ entry. next_text plan.now entry.event) trace.now) }

@@ -1,6 +1,6 @@
-//! The texts of refused arguments.
+//! The error text for refused arguments of `draw`.
 
-/// What is told where it is said what becomes of the parcels of a walk, but no walk is asked for.
+/// The error text for `--loss`, `--repeat` or `--in-order` without `--walk`.
 pub(crate) const NEEDS_WALK: &str = "error: the following required arguments were not provided:
   --walk
 

@@ -1,4 +1,4 @@
-//! Which parcels are under way.
+//! Which parcels are under way, and which links are cut.
 
 ghost use Rattle.std.specs.Prelude.{◌≡◌, ◌≤◌, ℕ, false, IfNone, IfSome, None, OnOk, slice_get, slice_index_or};
 ghost use Rattle.mx_scripts.specs.Fates.{IsOldest, arrived, at_first, can_arrive, can_pass, delivered, is_held, is_in, is_under_way, is_waiting, is_wanted, is_within, lost, noted, relinked};
@@ -13,16 +13,16 @@ use mx_stamps::NodeId;
 use std::alloc::{AllocError, Global};
 use std::marker::Model;
 
-/// Which parcels were delivered or lost, and which links are cut.
+/// Which parcels are under way, which was delivered last over each link, and which links are cut.
 #[derive(Drop)]
 pub struct InFlight {
     under_way: UnderWay,
-    /// The parcel of the link that was delivered last.
+    /// For each link, the number of the parcel that was delivered last over it.
     last: [Option<u64>; LINKS],
     links: Links,
 }
 
-/// Which parcels under way are wanted.
+/// Which of the parcels under way `oldest` looks for.
 #[derive(Clone, Copy)]
 pub(crate) enum Wanted {
     /// All.
@@ -39,7 +39,8 @@ impl Model for InFlight {
     ghost view = { λ m. record { gone = m.under_way; last = m.last; links = m.links } };
 }
 
-/// Whether a parcel was sent, and is in this scope.
+/// Whether a parcel was sent and is in this scope, which is all parcels or those from one node to
+/// another.
 fn is_in<C: Exclusion>(cluster: &Cluster<C>, scope: &Scope, number: u64) -> bool
     ensures { result ≡ is_in scope.now (slice_get cluster.now.sent number) }
 {
@@ -49,7 +50,7 @@ fn is_in<C: Exclusion>(cluster: &Cluster<C>, scope: &Scope, number: u64) -> bool
     }
 }
 
-/// Whether a parcel from one node to another is in this scope.
+/// Whether a parcel from `from` to `to` is in this scope.
 fn is_within(scope: &Scope, from: NodeId, to: NodeId) -> bool
     ensures { result ≡ is_within scope.now from to }
 {
@@ -60,7 +61,7 @@ fn is_within(scope: &Scope, from: NodeId, to: NodeId) -> bool
 }
 
 impl InFlight {
-    /// Before any parcel was sent.
+    /// Creates an `InFlight` before any parcel was sent. No link is cut.
     pub fn new(alloc: Global) -> InFlight
         ensures { result ≡ at_first }
     {
@@ -71,7 +72,7 @@ impl InFlight {
         }
     }
 
-    /// Takes in what an event did: the parcels that were sent, and the one that was delivered.
+    /// Notes which parcels an event sent and delivered. `cluster` is the cluster after the event.
     pub fn note<C: Exclusion>(
         &mut self,
         event: &Event,
@@ -84,7 +85,7 @@ impl InFlight {
         Ok(())
     }
 
-    /// Takes in which parcel was delivered, if one was.
+    /// Notes the parcel that an event delivered, if it is a delivery.
     fn take_in<C: Exclusion>(&mut self, event: &Event, cluster: &Cluster<C>)
         ensures { self.new ≡ delivered cluster.now.sent event.now self.old }
     {
@@ -93,7 +94,7 @@ impl InFlight {
         }
     }
 
-    /// A parcel is delivered.
+    /// Notes that a parcel was delivered: it is under way no more, and is the last of its link.
     fn arrive<C: Exclusion>(&mut self, number: u64, cluster: &Cluster<C>)
         ensures { self.new ≡ arrived number (slice_get cluster.now.sent number) self.old }
     {
@@ -103,21 +104,21 @@ impl InFlight {
         }
     }
 
-    /// A parcel is under way no more.
+    /// Notes that the parcel of this number is under way no more.
     pub fn lose(&mut self, number: u64)
         ensures { self.new ≡ lost number self.old }
     {
         self.under_way.lose(number);
     }
 
-    /// Whether a parcel was neither delivered nor lost.
+    /// Whether the parcel of this number was sent, and neither delivered nor lost.
     pub fn is_under_way(&self, number: u64) -> bool
         ensures { result ≡ is_under_way self.now number }
     {
         self.under_way.is_under_way(number)
     }
 
-    /// Links are cut, or heal.
+    /// Cuts the links that `change` names, or heals all.
     pub fn change(&mut self, change: &LinkChange)
         ensures { self.new ≡ relinked change.now self.old }
     {
@@ -131,7 +132,7 @@ impl InFlight {
         self.links.is_cut(from, to)
     }
 
-    /// Whether an event delivers no parcel over a link that is cut.
+    /// Returns `false` only for the delivery of a parcel over a cut link.
     pub fn can_pass<C: Exclusion>(&self, event: &Event, cluster: &Cluster<C>) -> bool
         ensures { result ≡ can_pass self.now cluster.now.sent event.now }
     {
@@ -141,7 +142,7 @@ impl InFlight {
         }
     }
 
-    /// Whether the link that bears a parcel is cut.
+    /// Whether the parcel of this number was sent over a link that is cut.
     fn is_held<C: Exclusion>(&self, cluster: &Cluster<C>, number: u64) -> bool
         ensures { result ≡ is_held self.now (slice_get cluster.now.sent number) }
     {
@@ -165,7 +166,8 @@ impl InFlight {
         self.is_waiting(cluster, scope, number) && !self.is_held(cluster, number)
     }
 
-    /// Whether a parcel is in this scope, and wanted.
+    /// Whether a parcel is under way, in this scope, and, if `wanted` is `Arriving`, over a link
+    /// that is not cut.
     fn is_wanted<C: Exclusion>(
         &self,
         cluster: &Cluster<C>,
@@ -181,7 +183,8 @@ impl InFlight {
         }
     }
 
-    /// The oldest parcel in this scope that is wanted. Looks only at those under way.
+    /// Returns the oldest parcel under way that is in this scope and, if `wanted` is `Arriving`,
+    /// over a link that is not cut.
     pub(crate) fn oldest<C: Exclusion>(
         &self,
         cluster: &Cluster<C>,
@@ -203,7 +206,7 @@ impl InFlight {
         None
     }
 
-    /// The parcel from one node to another that was delivered last.
+    /// Returns the parcel that was delivered last from one node to another, if one was.
     pub fn last_between(&self, from: NodeId, to: NodeId) -> Option<u64>
         ensures { result ≡ slice_index_or self.now.last (link_of from to) None }
     {

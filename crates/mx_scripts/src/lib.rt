@@ -1,4 +1,4 @@
-//! `mx draw` and `mx script`: files of events, drawn from a seed or written as a script.
+//! `mx draw` and `mx script` print files of events, drawn from a seed or made by a script.
 #![tactic(auto)]
 
 mod command;

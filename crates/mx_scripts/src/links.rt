@@ -7,7 +7,7 @@ use mx_lines::LinkChange;
 use mx_stamps::{MAX_NODES, NodeId};
 use std::marker::Model;
 
-/// How many links there are between the nodes of the greatest cluster, each with itself too.
+/// How many links the greatest cluster has: one from each node to each, itself included.
 pub(crate) const LINKS: usize = 441;
 
 /// How many nodes the greatest cluster has.
@@ -16,9 +16,9 @@ const NODES: usize = 21;
 /// Which links are cut.
 #[derive(Drop)]
 pub(crate) struct Links {
-    /// Whether a link is cut alone, the same both ways.
+    /// For each link, whether it was cut on its own. Both directions always agree.
     cut: [bool; LINKS],
-    /// Whether all links of a node are cut.
+    /// For each node, whether all its links were cut at once.
     apart: [bool; NODES],
 }
 
@@ -30,7 +30,7 @@ impl Model for Links {
     ghost view = { λ l. record { cut = l.cut; apart = l.apart } };
 }
 
-/// The place of a link.
+/// Returns the place of the link from one node to another in an array of all links.
 pub(crate) fn link(from: NodeId, to: NodeId) -> usize
     ensures value { result ≡ link_of from to }
     ensures below { result < 441 }
@@ -39,7 +39,7 @@ pub(crate) fn link(from: NodeId, to: NodeId) -> usize
 }
 
 impl Links {
-    /// No link is cut.
+    /// Creates the links of a cluster, none of them cut.
     pub(crate) fn uncut() -> Links
         ensures { result ≡ uncut }
     {
@@ -49,7 +49,7 @@ impl Links {
         }
     }
 
-    /// Links are cut, or heal.
+    /// Cuts the links that `change` names, or heals all.
     pub(crate) fn change(&mut self, change: &LinkChange)
         ensures { self.new ≡ changed change.now self.old }
     {

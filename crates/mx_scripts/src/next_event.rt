@@ -1,4 +1,4 @@
-//! What an order asks for next.
+//! The next event that an order asks for.
 
 ghost use Rattle.std.specs.Prelude.{◌≡◌, None, Some, IfErr, IfOk, IfSome, OnOk, slice_index_or};
 ghost use Rattle.mx_scripts.specs.Fates.{IsOldest, NoneWaits, can_arrive, is_waiting};
@@ -21,7 +21,8 @@ fn arrival(number: u64) -> SessionEvent
     SessionEvent::Happens(Event::Deliver(number))
 }
 
-/// An event that happens once; nothing, if it has happened.
+/// Returns the event of an order that has only one, or `None` if `done`, the number of events done,
+/// is not 0.
 fn once(done: u64, event: SessionEvent) -> Option<SessionEvent>
     ensures { Once done (λ e. e ≡ event) result }
 {
@@ -29,13 +30,13 @@ fn once(done: u64, event: SessionEvent) -> Option<SessionEvent>
 }
 
 impl<C: Exclusion> State<C> {
-    /// Returns the next event that an order asks for, after `done` of its events; none if it asks for
-    /// no more.
+    /// Returns the next event that an order asks for, or `None` if it asks for no more. `done` is
+    /// how many of its events have been done.
     ///
     /// # Errors
     ///
-    /// `NotUnderWay` or `NotDelivered` if there is no such parcel, `LinkCut` if its link is cut, and
-    /// `TooMany` if the cluster has had 1,000,000 events.
+    /// `NotUnderWay` or `NotDelivered` if there is no such parcel, `LinkCut` for a delivery over a
+    /// cut link, and `TooMany` for an event of the cluster beyond 1,000,000.
     pub fn next_event(&self, order: &Order, done: u64) -> Result<Option<SessionEvent>, LineFault>
         ensures next { IfOk result
             (IsNext self.now.fates self.now.cluster.sent order.now done) }
@@ -47,7 +48,8 @@ impl<C: Exclusion> State<C> {
         Ok(next)
     }
 
-    /// The next event that an order asks for, whether or not it can happen.
+    /// Returns the next event that an order asks for after `done` of its events, even if it can't
+    /// happen.
     fn asked(&self, order: &Order, done: u64) -> Result<Option<SessionEvent>, LineFault>
         ensures next { IfOk result
             (IsNext self.now.fates self.now.cluster.sent order.now done) }
@@ -65,7 +67,8 @@ impl<C: Exclusion> State<C> {
         }
     }
 
-    /// The delivery of the oldest of these parcels that is under way over a link that is not cut.
+    /// Returns the delivery of the oldest parcel in this scope that is under way over a link that
+    /// is not cut.
     fn next_arrival(&self, scope: &Scope) -> Option<SessionEvent>
         ensures { Finds (can_arrive self.now.fates self.now.cluster.sent scope.now)
             arrival result }
@@ -79,7 +82,7 @@ impl<C: Exclusion> State<C> {
         }
     }
 
-    /// The loss of the oldest of these parcels that is under way.
+    /// Returns the loss of the oldest parcel in this scope that is under way.
     fn next_loss(&self, scope: &Scope) -> Option<SessionEvent>
         ensures { Finds (is_waiting self.now.fates self.now.cluster.sent scope.now)
             SessionEvent.IsLost result }
@@ -90,7 +93,8 @@ impl<C: Exclusion> State<C> {
         }
     }
 
-    /// The delivery of the oldest parcel under way from one node to another, once.
+    /// Returns the delivery of the oldest parcel under way from one node to another; `None` if
+    /// `done` is not 0.
     fn arrival_between(
         &self,
         from: NodeId,
@@ -110,7 +114,8 @@ impl<C: Exclusion> State<C> {
         Ok(Some(arrival(number)))
     }
 
-    /// The loss of the oldest parcel under way from one node to another, once.
+    /// Returns the loss of the oldest parcel under way from one node to another; `None` if `done`
+    /// is not 0.
     fn loss_between(
         &self,
         from: NodeId,
@@ -130,7 +135,8 @@ impl<C: Exclusion> State<C> {
         Ok(Some(SessionEvent::IsLost(number)))
     }
 
-    /// Another delivery of the parcel from one node to another that was delivered last, once.
+    /// Returns one more delivery of the parcel that was delivered last from one node to another;
+    /// `None` if `done` is not 0.
     fn arrival_again(
         &self,
         from: NodeId,
@@ -165,7 +171,7 @@ impl<C: Exclusion> State<C> {
         }
     }
 
-    /// The parcel from one node to another that was delivered last.
+    /// Returns the parcel that was delivered last from one node to another.
     fn last_between(&self, from: NodeId, to: NodeId) -> Result<u64, LineFault>
         ensures found { IfOk result (λ k.
             slice_index_or self.now.fates.last (link_of from to) None ≡ Some k) }
@@ -178,7 +184,8 @@ impl<C: Exclusion> State<C> {
         }
     }
 
-    /// Whether the next event can happen: the cluster may have one more, and its link is not cut.
+    /// Returns an error if the next event can't happen: the cluster has had 1,000,000 events, or a
+    /// link is cut.
     fn admit(&self, next: &Option<SessionEvent>) -> Result<(), LineFault>
         ensures ok { OnOk result (Admits self.now next.now) }
         ensures err { IfErr result (Bars self.now next.now) }
@@ -189,7 +196,7 @@ impl<C: Exclusion> State<C> {
         }
     }
 
-    /// Whether an event can happen.
+    /// Returns an error if this event of the cluster can't happen, as `admit` does.
     fn admit_event(&self, event: &Event) -> Result<(), LineFault>
         ensures ok { OnOk result (IsAllowed self.now (SessionEvent.Happens event.now)) }
         ensures err { IfErr result (Bars self.now (Some (SessionEvent.Happens event.now))) }

@@ -1,4 +1,4 @@
-//! `draw` and `script`: from names, named bytes and two outputs to a status.
+//! `draw` and `script` with given names: they print a file of events, and return a status.
 
 ghost use Rattle.std.specs.Prelude.{◌≡◌, string_bytes, IfErr, IfSome, IfOk};
 ghost use Rattle.std.specs.Io.KnownBytes.{Appends};
@@ -21,7 +21,7 @@ use mx_plan::Plan;
 use mx_walks::Conditions;
 use std::alloc::Global;
 
-/// Prints what `explore` does, or tells why not. Returns the status.
+/// Prints the events of `explore` as a file for `replay`, or reports why not. Returns the status.
 pub fn run_draw<S: Source, O: Output, E: Output>(
     alloc: Global,
     exploration: &Exploration<'_>,
@@ -45,7 +45,7 @@ pub fn run_draw<S: Source, O: Output, E: Output>(
     close(alloc, ended, &names, out, err)
 }
 
-/// Prints a walk, or tells why not. Returns the status.
+/// Prints the events of a walk as a file for `replay`, or reports why not. Returns the status.
 pub fn run_walk<S: Source, O: Output, E: Output>(
     alloc: Global,
     exploration: &Exploration<'_>,
@@ -67,7 +67,7 @@ pub fn run_walk<S: Source, O: Output, E: Output>(
     close(alloc, ended, &names, out, err)
 }
 
-/// Prints the events of a script, or reports why it cannot. Returns the status.
+/// Prints the events of a script as a file for `replay`, or reports why not. Returns the status.
 pub fn run_script<S: Source, O: Output, E: Output>(
     alloc: Global,
     names: &Names<'_>,
@@ -87,7 +87,7 @@ pub fn run_script<S: Source, O: Output, E: Output>(
     close_script(alloc, ended, names, out, err)
 }
 
-/// The names that the lines of faults have, where there is a plan alone.
+/// Returns the names for reports of faults. As only a plan is named, its name stands for both.
 fn plan_alone<'a>(exploration: &Exploration<'a>) -> Names<'a>
     ensures { names_of result ≡ (exploration.now.plan.now, exploration.now.plan.now) }
 {
@@ -97,7 +97,7 @@ fn plan_alone<'a>(exploration: &Exploration<'a>) -> Names<'a>
     }
 }
 
-/// Prints what `explore` does. Returns the status.
+/// Reads the plan, and prints the events of `explore` as a file. Returns the status.
 fn draw_file<S: Source, O: Output>(
     alloc: Global,
     exploration: &Exploration<'_>,
@@ -117,7 +117,7 @@ fn draw_file<S: Source, O: Output>(
     draw_schedule(alloc, &plan, exploration.seed, exploration.steps, out)
 }
 
-/// Prints a walk. Returns the status.
+/// Reads the plan, and prints the events of a walk as a file. Returns the status.
 fn print_walk<S: Source, O: Output>(
     alloc: Global,
     exploration: &Exploration<'_>,
@@ -142,7 +142,8 @@ fn print_walk<S: Source, O: Output>(
     )
 }
 
-/// Prints a walk of a plan. Returns the status.
+/// Prints the events of a walk over this plan as a file. `conditions` are the options of the walk.
+/// Returns the status.
 fn print_walked<O: Output>(
     alloc: Global,
     plan: &Plan,
@@ -159,7 +160,7 @@ fn print_walked<O: Output>(
     print(file.as_bytes(), out)
 }
 
-/// Prints the events of a script. Returns the status.
+/// Reads a plan and a script, and prints the events of the script as a file. Returns the status.
 fn print_script<S: Source, O: Output>(
     alloc: Global,
     names: &Names<'_>,

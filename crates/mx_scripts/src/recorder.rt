@@ -1,4 +1,4 @@
-//! What takes in the events of a script while they happen.
+//! Recorders, which are told of each event of a script.
 
 use crate::script_error::RefusedLine;
 use crate::session_event::SessionEvent;
@@ -7,10 +7,10 @@ use mx_nodelaws::Exclusion;
 use mx_plan::Plan;
 use std::alloc::AllocError;
 
-/// What takes in the events of a script while they happen, in a state `R`.
+/// A recorder: it is told of each event of a script, with the state `R` after it.
 pub trait Recorder<R> {
-    /// Takes in the newest event of a state, which the line of this number asked for. Lines are
-    /// counted from 1.
+    /// Notes an event that line `number` of the script asked for. Lines are counted from 1, and
+    /// `state` is that after the event.
     ///
     /// # Errors
     ///
@@ -23,7 +23,8 @@ pub trait Recorder<R> {
         state: &R,
     ) -> Result<(), AllocError>;
 
-    /// Takes in that a line is refused in a state, to which the lines and events before it led.
+    /// Notes a line that is refused. `state` is that after all events before the fault, also those
+    /// of the same line.
     ///
     /// # Errors
     ///
@@ -31,7 +32,7 @@ pub trait Recorder<R> {
     fn refused(&mut self, plan: &Plan, line: &RefusedLine, state: &R) -> Result<(), AllocError>;
 }
 
-/// A recorder that takes in nothing.
+/// A recorder that notes nothing.
 #[derive(Clone, Copy)]
 pub struct NoRecorder;
 

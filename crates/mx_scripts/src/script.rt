@@ -26,7 +26,7 @@ use mx_raymond::Raymond;
 use mx_ricart::Ricart;
 use std::alloc::Global;
 
-/// The file of the events of a script, by the plan's algorithm.
+/// Runs a script by the plan's algorithm, and returns the file of its events.
 pub(crate) fn script_file<K>(
     alloc: Global,
     plan: &Plan,
@@ -46,7 +46,7 @@ where
     })
 }
 
-/// The file of what the lines do, from before any parcel was sent.
+/// Runs a script in a state before any event, and returns the file of its events.
 fn file_of_script<C: Exclusion, K: Recorder<State<C>>>(
     alloc: Global,
     plan: &Plan,
@@ -64,7 +64,7 @@ fn file_of_script<C: Exclusion, K: Recorder<State<C>>>(
     file_after(alloc, plan, script, state, recorder)
 }
 
-/// Does the lines; then makes the file of all that has happened.
+/// Does the lines of a script, and returns the file of all events so far.
 fn file_after<C: Exclusion, K: Recorder<State<C>>>(
     alloc: Global,
     plan: &Plan,
@@ -105,7 +105,8 @@ fn do_script<C: Exclusion, K: Recorder<State<C>>>(
     Ok(())
 }
 
-/// Lets the recorder take in the line of an error, if it is of a line. Returns the error.
+/// Tells the recorder of the refused line, if the error is about one. Returns the error, or lack of
+/// memory if the recorder runs out of it.
 fn record_error<C: Exclusion, K: Recorder<State<C>>>(
     plan: &Plan,
     error: ScriptError,
@@ -142,7 +143,7 @@ fn do_line<C: Exclusion, K: Recorder<State<C>>>(
     }
 }
 
-/// What a line asks for.
+/// Returns what a line asks for; `None` if it has no words.
 fn line_in(alloc: Global, plan: &Plan, line: &str) -> Result<Option<Line>, LineFailure>
     ensures ok { IfOk result (Reads plan.now line.now) }
     ensures err { IfErr result (λ why.
@@ -173,7 +174,7 @@ fn repeat<C: Exclusion, K: Recorder<State<C>>>(
     Ok(())
 }
 
-/// Does what an order of the line of this number asks for, once.
+/// Does, once, all events that an order asks for. `number` is that of its line.
 fn perform<C: Exclusion, K: Recorder<State<C>>>(
     plan: &Plan,
     number: u64,
@@ -196,7 +197,7 @@ fn perform<C: Exclusion, K: Recorder<State<C>>>(
     Err(LineFailure::Refused(LineFault::TooMany))
 }
 
-/// Does an event that the line of this number asks for, and lets the recorder take it in.
+/// Does an event that line `number` asks for, and tells the recorder of it.
 fn do_event<C: Exclusion, K: Recorder<State<C>>>(
     plan: &Plan,
     number: u64,

@@ -1,4 +1,4 @@
-//! How a script ends, and how that is told.
+//! The file of events that a script makes, or the report of why there is none.
 
 ghost use Rattle.std.specs.Prelude.{◌≡◌, ◌&&◌, false, string_bytes, IfErr, IfOk};
 ghost use Rattle.std.specs.Io.KnownBytes.{Keeps};
@@ -20,8 +20,9 @@ use mx_raymond::Raymond;
 use mx_ricart::Ricart;
 use std::alloc::Global;
 
-/// The file of the events of a script, or why there is none. The recorder takes in each event, and
-/// the line that is refused.
+/// Reads a plan and a script by their names, and returns the file of the events that the script
+/// makes, or why there is none. The recorder is told of each event, and of the line that is
+/// refused, unless the script is not UTF-8.
 pub fn file_of_names<S: Source, K>(
     alloc: Global,
     names: &Names<'_>,
@@ -40,7 +41,7 @@ where
     }
 }
 
-/// The file of the events that the bytes of a script ask for.
+/// Returns the file of the events that a script makes, or why there is none.
 fn file_of_bytes<K>(
     alloc: Global,
     plan: &Plan,
@@ -57,8 +58,8 @@ where
     script_file(alloc, plan, text, recorder)
 }
 
-/// Flushes the output, reports why there is no file, and returns the status: that of the end, 1
-/// after a fault or a refused write, 5 if memory ran out.
+/// Flushes `out`, unless it has refused, and reports why there is no file. Returns the status: that
+/// of `ended` if there is one, 1 after a fault or if an output refuses, 5 if memory ran out.
 pub fn close_script<O: Output, E: Output>(
     alloc: Global,
     ended: Result<u8, ScriptError>,

@@ -1,4 +1,4 @@
-//! Why there is no file, and why a line is not done.
+//! Why a script makes no file, and why a line of it is not done.
 
 ghost use Rattle.std.specs.Prelude.{◌≡◌, Some, string_bytes, IfOk};
 ghost use Rattle.mx_scripts.specs.Scripts.{IsErrorAt, IsRefused, script_line};
@@ -84,9 +84,9 @@ pub struct RefusedLine {
     /// Its number, counted from 1.
     pub number: u64,
     pub fault: LineFault,
-    /// Whether one of its words is wrong.
+    /// Whether the line could not be read: one of its words is wrong, or it is not UTF-8.
     pub is_unread: bool,
-    /// The message about its words, after a colon; or nothing.
+    /// What is printed after the fault: a colon and a message about the line, or nothing.
     pub message: String,
 }
 
@@ -102,16 +102,18 @@ impl fmt::Display for RefusedLine {
     }
 }
 
-/// Why there is no file.
+/// Why a script makes no file.
 #[derive(Drop)]
 pub enum ScriptError {
+    /// A fault of the plan or of a file, an output that refused, or lack of memory.
     Command(CommandError),
     /// A line of a script is refused.
     AtLine(RefusedLine),
 }
 
 impl ScriptError {
-    /// The line of this number of a script is not done.
+    /// Returns the error that line `number` of a script, with the text `line`, is not done because
+    /// of `failure`; or that memory ran out.
     pub(crate) fn at_line(
         alloc: Global,
         plan: &Plan,
@@ -128,6 +130,7 @@ impl ScriptError {
     }
 }
 
+/// Returns the refused line with its message. Lack of memory as the `failure` is an error here.
 fn refused_line(
     alloc: Global,
     plan: &Plan,
@@ -155,7 +158,8 @@ fn refused_line(
     }
 }
 
-/// The message about the words of a line that is not done, after a colon.
+/// Returns a colon and a message about a line that is not done: about its wrong word, or the line
+/// itself if no word is wrong. `first_words` says with which words a line may begin.
 pub fn message_of(
     alloc: Global,
     plan: &Plan,

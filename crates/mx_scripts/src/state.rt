@@ -1,4 +1,4 @@
-//! A cluster, and what has become of its parcels.
+//! A cluster, which of its parcels are under way, and which links are cut.
 
 ghost use Rattle.std.specs.Prelude.{◌≡◌, IfErr, IfOk, IsTrue, OnOk};
 ghost use Rattle.mx_commands.specs.Runs.{at_rest};
@@ -16,7 +16,7 @@ use mx_plan::Plan;
 use std::alloc::{AllocError, Global};
 use std::marker::Model;
 
-/// A cluster, and what has become of its parcels.
+/// A cluster, which of its parcels are under way, and which links are cut.
 #[derive(Drop)]
 pub struct State<C: Exclusion> {
     pub(crate) cluster: Cluster<C>,
@@ -32,7 +32,7 @@ impl<C: Exclusion> Model for State<C> {
 }
 
 impl<C: Exclusion> State<C> {
-    /// The cluster of a plan, at rest, before any parcel was sent.
+    /// Creates the cluster of a plan, at rest, before any parcel was sent. `shape` is the plan's.
     pub fn start(alloc: Global, plan: &Plan, shape: &C::Shape) -> Result<Self, AllocError>
         ensures { IfOk result (λ state.
             state ≡ before_any (at_rest C.core plan.now shape.now)) }
@@ -43,7 +43,7 @@ impl<C: Exclusion> State<C> {
         })
     }
 
-    /// A cluster before any parcel was sent.
+    /// Creates the state of a cluster before any parcel was sent.
     pub fn of(alloc: Global, cluster: Cluster<C>) -> Self
         ensures { result ≡ before_any cluster }
     {
@@ -59,7 +59,7 @@ impl<C: Exclusion> State<C> {
         &self.cluster
     }
 
-    /// What has become of the parcels, and which links are cut.
+    /// Returns which parcels are under way, and which links are cut.
     pub fn in_flight(&self) -> &InFlight
         ensures { result.now ≡ self.now.fates }
     {
@@ -73,26 +73,26 @@ impl<C: Exclusion> State<C> {
         self.cluster.trace()
     }
 
-    /// Whether a parcel was neither delivered nor lost.
+    /// Whether the parcel of this number was sent, and neither delivered nor lost.
     pub fn is_under_way(&self, number: u64) -> bool
         ensures { result ≡ is_under_way self.now.fates number }
     {
         self.in_flight.is_under_way(number)
     }
 
-    /// Whether an event delivers no parcel over a link that is cut.
+    /// Returns `false` only for the delivery of a parcel over a cut link.
     pub(crate) fn can_pass(&self, event: &Event) -> bool
         ensures { result ≡ can_pass self.now.fates self.now.cluster.sent event.now }
     {
         self.in_flight.can_pass(event, &self.cluster)
     }
 
-    /// Does what was asked for.
+    /// Applies an event to the cluster, to a parcel that is under way, or to the links.
     ///
     /// # Errors
     ///
-    /// `Refused` if the cluster has no such node or parcel: then nothing changes. `Memory` if it
-    /// runs out.
+    /// `Refused` if the cluster has no such node or parcel: then nothing changes. `Memory` if
+    /// memory runs out.
     pub fn apply(&mut self, event: &SessionEvent) -> Result<(), LineFailure>
         requires { IsAllowed self.old event.now }
         ensures ok { OnOk result (Brings C.core self.old event.now self.new) }
@@ -111,7 +111,7 @@ impl<C: Exclusion> State<C> {
         }
     }
 
-    /// A parcel that is under way is lost.
+    /// Loses the parcel of this number, which is under way.
     fn lose(&mut self, number: u64)
         requires { IsTrue (is_under_way self.old.fates number) }
         ensures { Brings C.core self.old (SessionEvent.IsLost number) self.new }
@@ -119,14 +119,14 @@ impl<C: Exclusion> State<C> {
         self.in_flight.lose(number);
     }
 
-    /// Links are cut, or heal.
+    /// Cuts the links that `change` names, or heals all.
     fn change(&mut self, change: &LinkChange)
         ensures { Brings C.core self.old (SessionEvent.LinksChange change.now) self.new }
     {
         self.in_flight.change(change);
     }
 
-    /// An event happens.
+    /// Applies an event to the cluster, and notes which parcels it sent and delivered.
     fn advance(&mut self, event: &Event) -> Result<(), LineFailure>
         requires { IsTrue (can_pass self.old.fates self.old.cluster.sent event.now) }
         ensures ok { OnOk result

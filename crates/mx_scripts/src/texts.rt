@@ -8,8 +8,8 @@ use mx_lines::LineFault;
 use std::alloc::Global;
 use std::str;
 
-/// The text that bytes are. Where they are not in UTF-8, the line of the first that is not is at
-/// fault.
+/// Returns these bytes as a text. If they are not UTF-8, the error has the line of the first byte
+/// that is wrong.
 pub(crate) fn text_in(alloc: Global, bytes: &[u8]) -> Result<&str, ScriptError>
     ensures ok { IfOk result (λ text. text.now ≡ bytes.now) }
     ensures err { IfErr result (IsNotText bytes.now) }
@@ -25,7 +25,7 @@ pub(crate) fn text_in(alloc: Global, bytes: &[u8]) -> Result<&str, ScriptError>
     }
 }
 
-/// The number of the line that a byte is in, counted from 1.
+/// Returns the number of the line, counted from 1, in which the byte at `place` stands.
 fn line_at(bytes: &[u8], place: usize) -> u64 {
     let feeds = bytes.iter().take(place).filter(|b| **b == b'\n').count();
     (feeds as u64).saturating_add(1)

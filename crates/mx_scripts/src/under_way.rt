@@ -7,19 +7,19 @@ ghost use Rattle.mx_scripts.specs.UnderWay.{AreGone, AreGoneBetween, AreSkipped}
 use std::alloc::{AllocError, Global};
 use std::marker::Model;
 
-/// Which parcels are under way no more. Those under way form a list, the oldest first, so that who
-/// looks at them passes over the others at once.
+/// Which parcels are under way. A list leads through them, the oldest first, so that a search need
+/// not look at every parcel that was sent.
 #[derive(Drop)]
 pub(crate) struct UnderWay {
-    /// Whether a parcel is under way no more.
+    /// For each parcel that was sent, whether it is under way no more.
     gone: Vec<bool>,
-    /// The oldest parcel under way, or the number of the next one that is sent.
+    /// Where the list begins: no parcel below this number is under way.
     first: u64,
-    /// After each parcel the next one in the list, or the number of the next one that is sent.
+    /// For each parcel, the next number in the list. No parcel between the two is under way.
     next: Vec<u64>,
-    /// Before each parcel the one in the list, if it is not the first.
+    /// For each parcel, the one that probably precedes it in the list: `skip` checks that.
     previous: Vec<u64>,
-    /// The parcel under way that was sent last, if one is under way.
+    /// The number that is probably last in the list, for `previous` of the next parcel sent.
     last: u64,
 }
 
@@ -34,7 +34,7 @@ impl Model for UnderWay {
     ghost invariant = { λ u. AreGone u.first u.gone.items × AreSkipped u.next.items u.gone.items };
 }
 
-/// The parcel after this one in the list.
+/// Returns the number after this one in the list, which is always greater.
 fn after(next: &[u64], number: u64) -> u64
     requires { number < 2 ^ 64 - 1 }
     ensures ahead { number < result }
@@ -47,7 +47,8 @@ fn after(next: &[u64], number: u64) -> u64
     }
 }
 
-/// Takes a parcel that is under way no more out of the list, if `previous` leads to it.
+/// Takes `number`, which is under way no more, out of the list if it follows `previous` there: then
+/// `after` follows `previous`.
 fn skip(next: &mut Vec<u64>, previous: u64, number: u64, after: u64)
     ensures { (gone : List Bool) → AreSkipped next.old.items gone
         → IsTrue (slice_index_or gone number false) → AreGoneBetween number after gone
@@ -59,7 +60,7 @@ fn skip(next: &mut Vec<u64>, previous: u64, number: u64, after: u64)
     }
 }
 
-/// Puts a number at a place, if there is one.
+/// Sets the item at this place, if there is such a place.
 fn put(numbers: &mut Vec<u64>, place: u64, number: u64) {
     let place = place as usize;
     if place < numbers.len() {
@@ -68,7 +69,7 @@ fn put(numbers: &mut Vec<u64>, place: u64, number: u64) {
 }
 
 impl UnderWay {
-    /// Before any parcel was sent.
+    /// Creates the empty list, before any parcel was sent.
     pub(crate) fn new(alloc: Global) -> UnderWay
         ensures { result ≡ [] }
     {
@@ -81,7 +82,7 @@ impl UnderWay {
         }
     }
 
-    /// Takes in that each parcel up to this number was sent.
+    /// Notes how many parcels were sent so far. Those that are new are under way.
     pub(crate) fn grow(&mut self, sent: u64) -> Result<(), AllocError>
         ensures { OnOk result (self.new ≡ grown sent self.old) }
     {
@@ -91,7 +92,7 @@ impl UnderWay {
         Ok(())
     }
 
-    /// Takes in that one more parcel was sent.
+    /// Adds the next parcel, which is under way.
     fn add(&mut self) -> Result<(), AllocError>
         ensures { OnOk result (self.new ≡ self.old ++ false ∷ []) }
     {
@@ -103,7 +104,7 @@ impl UnderWay {
         Ok(())
     }
 
-    /// A parcel is under way no more.
+    /// Notes that the parcel of this number, if it was sent, is under way no more.
     pub(crate) fn lose(&mut self, number: u64)
         ensures { self.new ≡ slice_set self.old number true }
     {
@@ -114,7 +115,8 @@ impl UnderWay {
         }
     }
 
-    /// Takes a parcel that is under way no more out of the list.
+    /// Takes a parcel that is under way no more out of the list, if it is the first or its
+    /// `previous` leads to it.
     fn take_out(&mut self, number: u64)
         requires room { number < 2 ^ 64 - 1 }
         requires gone { IsTrue (slice_index_or self.old number false) }
@@ -132,7 +134,7 @@ impl UnderWay {
         }
     }
 
-    /// The parcel before this one in the list, if it is not the first.
+    /// Returns the `previous` of a parcel, or 0 if it was not sent.
     fn before(&self, number: u64) -> u64 {
         match self.previous.get(number as usize) {
             Some(before) => *before,
@@ -150,14 +152,14 @@ impl UnderWay {
         }
     }
 
-    /// The oldest parcel under way, or the number of the next one that is sent.
+    /// Returns where the list begins: no parcel below this number is under way.
     pub(crate) fn first(&self) -> u64
         ensures { AreGone result self.now }
     {
         self.first
     }
 
-    /// The parcel under way after this one, or the number of the next one that is sent.
+    /// Returns the number after this one in the list. No parcel between the two is under way.
     pub(crate) fn after(&self, number: u64) -> u64
         requires { number < 2 ^ 64 - 1 }
         ensures ahead { number < result }

@@ -1,4 +1,4 @@
-//! `draw --walk`: events drawn with purpose, as a file.
+//! `draw --walk`: the events of a walk, as a file.
 
 ghost use Rattle.std.specs.Prelude.{◌≡◌, [], string_bytes, IfOk};
 ghost use Rattle.mx_walks.specs.Walked.{after_walk};
@@ -14,7 +14,8 @@ use mx_plan::Plan;
 use mx_walks::{Conditions, walk_cluster};
 use std::alloc::{AllocError, Global};
 
-/// The file of the walk of a seed, of this many steps, by the plan's algorithm.
+/// Returns the file of the events of a walk, from this seed and of this many steps, by the plan's
+/// algorithm.
 pub(crate) fn walk_file(
     alloc: Global,
     plan: &Plan,
@@ -33,7 +34,7 @@ pub(crate) fn walk_file(
     )
 }
 
-/// A walk through a cluster at rest, and the file of what happened.
+/// Runs a walk in a cluster without events, and returns the file of its events.
 fn file_of_walk<C: Exclusion>(
     alloc: Global,
     plan: &Plan,

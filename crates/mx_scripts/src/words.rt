@@ -10,18 +10,19 @@ use mx_cli::{CommandId, Exploration, Names, exploration_at, is_given, matches_in
 use mx_walks::{Conditions, conditions_in};
 use std::alloc::Global;
 
-/// Which file of events is asked for.
+/// The file of events that a command line asks for.
 #[derive(Clone, Copy, Debug, PartialEq, Eq)]
 pub enum Request<'a> {
-    /// What `explore` does.
+    /// The events of `explore`.
     Draw(Exploration<'a>),
-    /// A walk of this plan, seed and number of steps, and what becomes of parcels in it.
+    /// The events of a walk, with how parcels are lost, repeated and kept in order.
     Walk(Exploration<'a>, Conditions),
-    /// What a script says: the names of the plan and of the script.
+    /// The events that a script makes. The names are those of the plan and of the script.
     Script(Names<'a>),
 }
 
-/// Parses a command line that begins with `draw` or `script`.
+/// Parses a command line that begins with `draw` or `script`. Returns `None` for options of a walk
+/// without `--walk`.
 ///
 /// # Errors
 ///
@@ -45,6 +46,7 @@ fn from_matches<'a>(matches: &ArgMatches<'a>) -> Option<Request<'a>>
     }
 }
 
+/// Returns the request that the arguments of `draw` make.
 fn draw_in<'a>(matches: &ArgMatches<'a>) -> Option<Request<'a>>
     ensures { option_map request_of result ≡ draw_in (rows_of (found_of matches.now)) }
 {
@@ -54,7 +56,8 @@ fn draw_in<'a>(matches: &ArgMatches<'a>) -> Option<Request<'a>>
     }
 }
 
-/// A walk; or what `explore` does, unless it is said what becomes of parcels.
+/// Returns the request for a walk if `--walk` is given, else that for the events of `explore`;
+/// `None` for options of a walk without `--walk`.
 fn drawing<'a>(matches: &ArgMatches<'a>, exploration: Exploration<'a>) -> Option<Request<'a>>
     ensures { option_map request_of result
         ≡ drawing (rows_of (found_of matches.now)) (explored exploration.entry) }
@@ -68,7 +71,7 @@ fn drawing<'a>(matches: &ArgMatches<'a>, exploration: Exploration<'a>) -> Option
     }
 }
 
-/// Whether it is said what becomes of parcels.
+/// Whether an option of a walk is given: `--loss`, `--repeat` or `--in-order`.
 fn has_conditions(matches: &ArgMatches<'_>) -> bool
     ensures { result ≡ has_conditions (rows_of (found_of matches.now)) }
 {
@@ -77,6 +80,7 @@ fn has_conditions(matches: &ArgMatches<'_>) -> bool
         || is_given(matches, "in-order")
 }
 
+/// Returns the request that the arguments of `script` make.
 fn script_in<'a>(matches: &ArgMatches<'a>) -> Option<Request<'a>>
     ensures { option_map request_of result ≡ script_in (rows_of (found_of matches.now)) }
 {

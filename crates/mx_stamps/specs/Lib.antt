@@ -1,5 +1,5 @@
--- Stamp: the stamp order. Numbers: the last number. Lists: definitions on lists that all crates
--- use.
+-- Stamp: the order of stamps. Numbers: the last number that a node can draw. Lists: definitions on
+-- lists that all crates use.
 pub mod Stamp
 pub mod Numbers
 pub mod Lists

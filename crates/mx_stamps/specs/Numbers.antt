@@ -1,6 +1,6 @@
 -- The last number that a node can draw.
 use Rattle.std.specs.Prelude.{ℕ}
 
--- the number of the last stamp, grant, request and hop: no other is drawn after it
+-- the greatest number of a stamp, grant, request or hop: after it no other is drawn
 abbrev pub last_number : ℕ
 last_number = 18446744073709551615

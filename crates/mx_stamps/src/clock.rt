@@ -31,7 +31,7 @@ impl Clock {
         Clock { highest: number }
     }
 
-    /// Returns the highest number that it has seen or drawn.
+    /// Returns the highest number that the clock has seen or drawn.
     pub fn highest(&self) -> u64
         ensures { result ≡ self.now }
     {
@@ -45,8 +45,8 @@ impl Clock {
         self.highest = self.highest.max(number);
     }
 
-    /// Draws the node's next stamp, with a number above all that the clock has seen. Returns `None`
-    /// after 18446744073709551615, the greatest `u64` value.
+    /// Draws the node's next stamp, with a number above all that the clock has seen or drawn.
+    /// Returns `None` if the highest of them is 18446744073709551615, the greatest `u64` value.
     pub fn next(&mut self, node: NodeId) -> Option<Stamp>
         ensures spent { IsNone result ↔ (self.old ≡ last_number) }
         ensures value { IfSome result

@@ -1,18 +1,19 @@
--- The knowledge of a seat about one node.
+-- What a seat knows about one node.
 use Rattle.std.specs.Prelude.{ℕ, List, Option}
 use Rattle.mx_journal.specs.declared.receipts.Receipt.{Receipt}
 use Rattle.mx_member.specs.declared.parcel.Parcel.{Parcel}
 use Rattle.mx_member.specs.Member.{MemberState}
 use Rattle.mx_member.specs.Running.{Owned}
 
--- the stage of the node's move of a parcel: it has claimed this slot, or has taken it
+-- what the node is moving: nothing, a parcel into this slot, which it has claimed (`Writing`), or a
+-- parcel out of this slot, which it has taken (`Reading`)
 pub data Stage : Type 0 where
   Idle : Stage
   Writing : ℕ → Stage
   Reading : ℕ → Stage
 
--- A parcel is in `sent` with its addressee, in `hand` with its sender, and in `placed` and `taken`
--- with the slot.
+-- What a seat knows about one node. A parcel is in `sent` with its addressee, in `hand` with its
+-- sender, and in `placed` and `taken` with the slot.
 pub record Entry (T P : Type 0) : Type 0 where
   pub node : ℕ
   pub member : T
@@ -23,7 +24,7 @@ pub record Entry (T P : Type 0) : Type 0 where
   pub placed : List (ℕ × P)
   pub taken : List (ℕ × P)
 
--- with a member, and its parcels
+-- an entry with the state of a member, and with parcels
 abbrev pub Node : Type 0 → Type 0 → Type 0
 Node S M = Entry (MemberState S) (Parcel M)
 

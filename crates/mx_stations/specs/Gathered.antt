@@ -29,7 +29,7 @@ module _ {T P : Type 0} where
   abbrev pub me_of : Post T P → Entry T P
   me_of s = s.me
 
-  -- the stations are of one table, of some number of nodes
+  -- all stations are at one table, and have the same number of nodes
   abbrev pub OfOneTable : List (Post T P) → Type 0
   OfOneTable posts = (table : TableId) × (n : ℕ) × ((k : ℕ) (s : Post T P)
       → get_elem? posts k ≡ some s → (s.table ≡ table) × (s.nodes ≡ n))
@@ -38,12 +38,12 @@ module _ {T P : Type 0} where
   abbrev pub KeepsTable : Post T P → Post T P → Type 0
   KeepsTable s t = (t.table ≡ s.table) × (t.nodes ≡ s.nodes)
 
-  -- the number of nodes of their table, or 1 if there is no station
+  -- the number of nodes of the stations' table, or 1 if there is no station
   abbrev pub nodes_in : List (Post T P) → ℕ
   nodes_in [] = 1
   nodes_in (s ∷ posts) = s.nodes
 
-  -- the station of a node is among these
+  -- the station of node i is among these
   abbrev pub Has : List (Post T P) → ℕ → Type 0
   Has posts i = (k : ℕ) × (s : Post T P) × (get_elem? posts k ≡ some s) × (s.me.node ≡ i)
 
@@ -64,6 +64,7 @@ module _ {T P : Type 0} where
   receipts_of (s ∷ posts) = s.me.receipts ++ receipts_of posts
 
 module _ {H S M : Type 0} (core : Core H S M) where
+  -- the station of node i is among these, and node i is inside
   abbrev pub HasInside : List (Post (MemberState S) (Parcel M)) → ℕ → Type 0
   HasInside posts i = (k : ℕ) × (s : Post (MemberState S) (Parcel M))
       × (get_elem? posts k ≡ some s) × (s.me.node ≡ i) × IsInside core s.me.member.core
@@ -72,7 +73,7 @@ module _ {H S M : Type 0} (core : Core H S M) where
   NotInside posts i = (k : ℕ) (s : Post (MemberState S) (Parcel M))
       → get_elem? posts k ≡ some s → s.me.node ≡ i → IsInside core s.me.member.core → ⊥
 
-  -- nobody is inside
+  -- no node is inside
   abbrev pub IsQuiet : List (Post (MemberState S) (Parcel M)) → Type 0
   IsQuiet posts = (i : ℕ) → i < nodes_in posts → NotInside posts i
 
@@ -81,17 +82,18 @@ module _ {H S M : Type 0} (core : Core H S M) where
   IsLeastInside posts i = (i < nodes_in posts) × HasInside posts i
       × ((j : ℕ) → j < i → NotInside posts j)
 
-  -- every station is there, and nobody is inside
+  -- the station of each node is among these, and no node is inside
   abbrev pub IsReady : List (Post (MemberState S) (Parcel M)) → Type 0
   IsReady posts = IsWhole posts × IsQuiet posts
 
-  -- why stations are not gathered
+  -- why the stations are not gathered: i is the least node whose station is missing; none is
+  -- missing, and i is the least node inside; or no node is inside either, and memory ran out
   abbrev pub Refuses : List (Post (MemberState S) (Parcel M)) → GatherFault → Type 0
   Refuses posts (NotAll i) = IsLeastMissing posts i
   Refuses posts (StillInside i) = IsWhole posts × IsLeastInside posts i
   Refuses posts Memory = IsReady posts
 
-  -- a look at the rule: the nodes in view are nodes of one running world of n nodes, each once
+  -- the nodes in view are different nodes of one running cluster of n nodes
   pub record Knows (Good : World S M → Type 0) (n : ℕ) (v : List (Node S M)) : Type 0 where
     pub world : List (Node S M)
     pub long : length world ≡ n
@@ -100,16 +102,17 @@ module _ {H S M : Type 0} (core : Core H S M) where
     pub stands : (e : Node S M) → IsIn e v → get_elem? world e.node ≡ some e
     pub once : Once v
 
--- their nodes, each with its receipts
+-- the nodes of the stations, each with its receipts
 abbrev pub owned_in : {S M : Type 0} → List (Post (MemberState S) (Parcel M)) → List (Owned S)
 owned_in posts = map (λ s. owned_of s.me) posts
 
--- the join of the first journals and the next one do not agree
+-- some node's journal does not agree with the join of the journals before it
 abbrev pub Disagree : {S : Type 0} → List (Owned S) → Type 0
 Disagree {S} nodes = (k : ℕ) × (o : Owned S) × (all : JournalState) × IsNode nodes k o
     × IsJoinOfNodes (take k nodes) all × (DoAgree all o.member.journal → ⊥)
 
--- the join of all journals, and all receipts, each once, by number
+-- the journal is the join of the stations' journals, with its records in order. The receipts are
+-- those of all stations, each once, sorted by number
 pub record IsTogether {S M : Type 0} (posts : List (Post (MemberState S) (Parcel M)))
     (journal : JournalState) (receipts : List Receipt) : Type 0 where
   pub join : IsJoinOfNodes (owned_in posts) journal
@@ -128,12 +131,12 @@ pub record IsGathered {T P : Type 0} (posts : List (Post T P)) (journal : Journa
   pub ascends : (j k l : ℕ) (s : Post T P) (r t : Receipt) → get_elem? posts j ≡ some s
       → slice_get s.me.receipts k ≡ Some r → slice_get s.me.receipts l ≡ Some t → k < l
       → r.number < t.number
-  -- they have the numbers 1, 2, 3 and so on
+  -- the gathered receipts have the numbers 1, 2, 3 and so on
   pub numbered : (k : ℕ) (r : Receipt) → slice_get receipts k ≡ Some r → r.number ≡ suc k
-  -- the journal has exactly their records, in order, except that those up to its base are settled:
-  -- the base has the registers after them
+  -- the journal has exactly the records of the receipts, in order, except that those up to its base
+  -- are settled: the base has the registers after them
   pub records : journal ≡ settled journal.base.upto (unsettled (map record_of receipts))
-  -- so it covers the numbers up to their count, and no others
+  -- so the journal covers the numbers from 1 to the number of receipts, and no others
   pub covers : (n : ℕ) → Covers n journal ↔ ((1 ≤ n) × (n ≤ length receipts))
   -- each value read is the register's after the writes of the receipts before, in order, and the
   -- receipt's own writes before the read

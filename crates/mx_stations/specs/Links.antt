@@ -1,5 +1,5 @@
 -- The slots between the nodes: each link from a node to a node has four. A slot carries one parcel
--- at a time, and its word is the word n + the place of the slot.
+-- at a time. At a table of n nodes, the word of slot k is the word n + k.
 use Rattle.std.specs.Prelude.{◌≡◌, ◌≢◌, ℕ, ◌+◌, ◌*◌, ◌<◌, List, [], ◌∷◌, ◌++◌, length, Option, Some, None, ◌==◌, cond}
 use mathlib.Core.Option.{some}
 use mathlib.Core.Option as maybe
@@ -10,34 +10,36 @@ use Rattle.mx_stations.specs.declared.slots.Link.{Link}
 use Rattle.mx_stations.specs.declared.slots.TheConstants.{SLOTS, EMPTY, CLAIMED, FILLED, TAKEN}
 use Rattle.mx_stations.specs.Entries.{Entry, Stage, Idle, Writing, Reading}
 
--- nothing lies in the slot, its sender fills it, a parcel lies there, its receiver empties it
+-- the state of a slot: it is empty, its sender is filling it, a parcel lies there, or its receiver
+-- is emptying it
 pub data SlotState (P : Type 0) : Type 0 where
   empty : SlotState P
   claimed : SlotState P
   filled : P → SlotState P
   taken : SlotState P
 
--- the place of one slot of a link between two of n nodes; the index is that among the four
+-- the place, among all slots of n nodes, of the slot with this index (0 to 3) of the link from one
+-- node to another
 abbrev pub slot_at : ℕ → ℕ → ℕ → ℕ → ℕ
 slot_at n from to index = (from * n + to) * SLOTS + index
 
 abbrev pub slot_in : ℕ → Link → ℕ → ℕ
 slot_in n link index = slot_at n link.from link.to index
 
--- a link between two of n nodes
+-- both ends of the link are among n nodes
 abbrev pub IsLink : ℕ → Link → Type 0
 IsLink n link = (link.from < n) × (link.to < n)
 
--- and the seat is at the table of these nodes
+-- the seat is at this table, and both ends of the link are among its n nodes
 abbrev pub IsLinkAt : TableId → TableId → ℕ → Link → Type 0
 IsLinkAt seat table n link = (seat ≡ table) × (IsLink n link)
 
--- the parcels of one slot, in order
+-- the parcels of slot k in this list, in order
 abbrev pub of : {P : Type 0} → ℕ → List (ℕ × P) → List P
 of k [] = []
 of k (x ∷ xs) = cond (x.0 == k) (x.1 ∷ of k xs) (of k xs)
 
--- the node is about to give this slot back
+-- the node has claimed slot k, and has not given it back yet
 abbrev pub Writes : ℕ → Stage → Type 0
 Writes k Idle = ⊥
 Writes k (Writing j) = j ≡ k
@@ -73,21 +75,23 @@ module _ {P : Type 0} where
   IsTaken (filled p) = ⊥
   IsTaken taken = Unit {0}
 
-  -- the contents of the slot
+  -- slot k has the contents of this state; while a node fills or empties the slot, this says
+  -- nothing
   abbrev pub Lies : List (maybe.Option (Option P)) → ℕ → SlotState P → Type 0
   Lies homes k empty = get_elem? homes k ≡ some (some None)
   Lies homes k claimed = Unit {0}
   Lies homes k (filled p) = get_elem? homes k ≡ some (some (Some p))
   Lies homes k taken = Unit {0}
 
-  -- a parcel that lies there was sent to the receiver
+  -- a parcel that lies in the slot was sent to node `to`
   abbrev pub WasSent : ℕ → List (ℕ × P) → SlotState P → Type 0
   WasSent to sent empty = Unit {0}
   WasSent to sent claimed = Unit {0}
   WasSent to sent (filled p) = IsIn (to, p) sent
   WasSent to sent taken = Unit {0}
 
--- What was taken is what was placed, in order, except a parcel that lies there.
+-- Slot k, through which e sends to f, is in this state. What f took from it is what e placed in it,
+-- in order, except a parcel that lies there.
 pub record IsSlot {T P : Type 0} (n : ℕ) (words : List ℕ) (homes : List (maybe.Option (Option P)))
     (k to : ℕ) (e f : Entry T P) (st : SlotState P) : Type 0 where
   pub word : get_elem? words (n + k) ≡ some (word_for st)
@@ -98,6 +102,7 @@ pub record IsSlot {T P : Type 0} (n : ℕ) (words : List ℕ) (homes : List (may
   pub reader : (Reads k f.stage → IsTaken st) × (IsTaken st → Reads k f.stage)
   pub used : IsTaken st → of k f.taken ≢ []
 
+-- each slot of the links between the nodes of the world is in some state
 pub record Links {T P : Type 0} (n : ℕ) (words : List ℕ) (homes : List (maybe.Option (Option P)))
     (world : List (Entry T P)) : Type 0 where
   pub state : ℕ → SlotState P

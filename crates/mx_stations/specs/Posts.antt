@@ -23,8 +23,8 @@ use Rattle.mx_stations.specs.Links.{of, slot_at}
 use Rattle.mx_stations.specs.Running.{acted}
 use Rattle.mx_stations.specs.Slides.{placing, taking, releasing}
 
--- its table, the number of its nodes, its node, and the parcels that wait in it, each with its
--- addressee
+-- a station: its table, the number of nodes of the table, its own node, and the parcels that wait
+-- to be put out, each with its addressee
 pub record Post (T P : Type 0) : Type 0 where
   pub table : TableId
   pub nodes : ℕ
@@ -44,7 +44,8 @@ module _ {T P : Type 0} where
   taken_in [] = []
   taken_in (e ∷ v) = e.taken
 
-  -- the node, with the knowledge of its seat only; it moves no parcel
+  -- the entry of node i with this member, hand and receipts, while it is not moving a parcel; the
+  -- parcels that it sent, placed and took are those in the seat's view
   abbrev pub shown : ℕ → T → Option (ℕ × P) → List Receipt → List (Entry T P) → Entry T P
   shown i x hand receipts v =
       record {
@@ -68,20 +69,22 @@ module _ {T P : Type 0} where
   abbrev pub slot_from : Post T P → ℕ → ℕ → ℕ
   slot_from s from index = slot_at s.nodes from s.me.node index
 
--- what waits was sent, to nodes of the cluster
+-- each waiting parcel is one of those sent, and its addressee is one of n nodes
 abbrev pub Waits : {P : Type 0} → ℕ → List (ℕ × P) → List (ℕ × P) → Type 0
 Waits {P} n sent waiting = (x : ℕ × P) → IsIn x waiting → IsIn x sent × (x.0 < n)
 
--- what is sent waits; what exceeds the room is lost
+-- the waiting parcels after an act that sent `out`: these join the end, and those for which there
+-- is no room are lost
 abbrev pub waiting_after : {P : Type 0} → List (ℕ × P) → List (ℕ × P) → List (ℕ × P)
 waiting_after waiting out = take WAITING_ROOM (waiting ++ out)
 
--- the contents of the hand after a delivery
+-- the contents of the hand after a delivery: the same parcel if it is to be delivered again,
+-- otherwise nothing
 abbrev pub left_in : {P : Type 0} → Bool → Option (ℕ × P) → Option (ℕ × P)
 left_in true hand = hand
 left_in false hand = None
 
--- this holds if the result is no refusal
+-- if the result is no refusal, P holds
 abbrev pub OnDone : Answer → Type 0 → Type 0
 OnDone (answer.Asked r) P = OnOk r P
 OnDone (answer.Entered r) P = OnOk r P
@@ -92,7 +95,7 @@ OnDone (answer.Cancelled r) P = OnOk r P
 OnDone (answer.Settled r) P = OnOk r P
 OnDone _ P = P
 
--- this holds if it is one
+-- if the result is a refusal, P holds
 abbrev pub OnRefusal : Answer → Type 0 → Type 0
 OnRefusal (answer.Asked r) P = OnErr r P
 OnRefusal (answer.Entered r) P = OnErr r P
@@ -104,7 +107,7 @@ OnRefusal (answer.Settled r) P = OnErr r P
 OnRefusal _ P = Unit {0}
 
 module _ {H S M : Type 0} (core : Core H S M) where
-  -- one act of the node, with this in hand after it; its receipt, if it returns one, joins the
+  -- the node after this act, with this in hand; the act's receipt, if it returns one, joins the
   -- node's receipts
   abbrev pub act_on : Act M → Option (ℕ × Parcel M) → Entry (MemberState S) (Parcel M)
       → Entry (MemberState S) (Parcel M)
@@ -122,13 +125,13 @@ module _ {H S M : Type 0} (core : Core H S M) where
   abbrev pub does : Act M → Post (MemberState S) (Parcel M) → Post (MemberState S) (Parcel M)
   does a s = after_act a s.me.hand s
 
-  -- the parcel in hand is delivered by one act
+  -- the parcel in hand is delivered by one act, after which the hand is empty
   abbrev pub Delivers : Post (MemberState S) (Parcel M) → Post (MemberState S) (Parcel M) → Type 0
   Delivers s t =
       (from : ℕ) × (p : Parcel M) × (s.me.hand ≡ Some (from, p))
       × (t ≡ after_act (Deliver from p) None s)
 
-  -- the same, or the parcel remains there to be delivered again
+  -- the parcel in hand is delivered by one act; it remains in hand if it is to be delivered `again`
   abbrev pub DeliversAs : Bool → Post (MemberState S) (Parcel M) → Post (MemberState S) (Parcel M)
       → Type 0
   DeliversAs again s t =
@@ -142,16 +145,17 @@ module _ {T P : Type 0} where
       (s.me.hand ≡ None) × ((p : P) × (index : ℕ) × (index < SLOTS) × (t ≡ post s.table s.nodes
       (releasing (Some (from, p)) (taking (slot_from s from index) from p s.me)) s.waiting))
 
-  -- nothing lies there for the empty hand, and nothing changes; from each slot of a link to itself
-  -- all that was placed was taken
+  -- the hand is empty, no parcel is found in the link from node `from`, and nothing changes. If
+  -- this is the node's link to itself, all that it placed in each of the slots was taken
   abbrev pub FindsNone : ℕ → Post T P → Post T P → Type 0
   FindsNone from s t =
       (s.me.hand ≡ None) × (t ≡ s)
       × (from ≡ s.me.node → (index : ℕ) → index < SLOTS
       → of (slot_from s from index) s.me.placed ≡ of (slot_from s from index) s.me.taken)
 
-  -- the first waiting parcel goes out, and is placed in a slot of its link; or it moves to the end.
-  -- In that case this station has placed a parcel in every slot of that link before
+  -- `Sent`: the first waiting parcel was placed in a slot of its link. `Full`: it moved to the end
+  -- of the waiting ones, and this station has placed a parcel in every slot of that link before.
+  -- `Nothing`: no parcel waits
   abbrev pub PutsOut : Post T P → PutOut → Post T P → Type 0
   PutsOut s Sent t =
       (to : ℕ) × (p : P) × (rest : List (ℕ × P)) × (s.waiting ≡ (to, p) ∷ rest)
@@ -164,8 +168,8 @@ module _ {T P : Type 0} where
   PutsOut s Nothing t = (s.waiting ≡ []) × (t ≡ s)
 
 module _ {H S M : Type 0} (core : Core H S M) where
-  -- a parcel in hand is delivered, and no other taken; otherwise one parcel is taken and delivered,
-  -- or there was none
+  -- `Got`: the parcel in hand was delivered, or one was taken from the link and delivered. `Empty`:
+  -- no parcel was in hand, and none was found in the link
   abbrev pub TakesIn : ℕ → Post (MemberState S) (Parcel M) → Taken → Post (MemberState S) (Parcel M)
       → Type 0
   TakesIn from s Got t =

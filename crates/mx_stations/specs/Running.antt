@@ -1,4 +1,4 @@
--- The knowledge of the seats about the nodes, and the rule over all of them.
+-- What the seats of a table know about the nodes, and the rule that the table keeps.
 use Rattle.std.specs.Prelude.{◌≡◌, ◌≢◌, ◌⊎◌, ℕ, zero, suc, ◌+◌, ◌*◌, ◌<◌, List, [], ◌∷◌, ◌++◌, map, length, Option, Some, None}
 use mathlib.Core.Option.{some}
 use lib.ListN.{get_elem?}
@@ -20,7 +20,7 @@ use Rattle.mx_member.specs.Steps.{IsTakeable}
 use Rattle.mx_stations.specs.Entries.{Entry, Idle, Node, owned_of}
 use Rattle.mx_stations.specs.Links.{Links}
 
--- f k, f (k + 1), .., n of them
+-- the n values f k, f (k + 1), ..
 abbrev pub all_from : {A : Type 0} → ℕ → ℕ → (ℕ → A) → List A
 all_from k zero f = []
 all_from k (suc n) f = f k ∷ all_from (suc k) n f
@@ -48,12 +48,13 @@ module _ {T P : Type 0} where
   Once [] = Unit {0}
   Once (e ∷ v) = ((f : Entry T P) → IsIn f v → f.node ≢ e.node) × Once v
 
-  -- all parcels that the nodes sent
+  -- all parcels that the nodes sent, each with its sender and its addressee
   abbrev pub sent_of : List (Entry T P) → List (ℕ × ℕ × P)
   sent_of [] = []
   sent_of (e ∷ es) = sent_by e.node e.sent ++ sent_of es
 
--- each node of the world is in exactly one view, as it is
+-- the world lists nodes 0 to n - 1. Each of them is in exactly one view, once, with the same entry
+-- as in the world
 pub record Stands {T P : Type 0} (n : ℕ) (views : List (List (Entry T P)))
     (world : List (Entry T P)) : Type 0 where
   pub owner : ℕ → ℕ
@@ -75,8 +76,8 @@ module _ {H S M : Type 0} (core : Core H S M) where
   abbrev pub word_of : MemberState S → ℕ
   word_of m = status (core.phase m.core) (core.mine m.core)
 
-  -- the words show the nodes, which run as a cluster does, and a parcel in hand was sent to its
-  -- holder
+  -- word i is the status word of node i, the nodes are a running cluster (`IsRunning`), and each
+  -- parcel in a hand was sent to the node that has it
   pub record Shown (Good : World S M → Type 0) (words : List ℕ)
       (world : List (Node S M)) : Type 0 where
     pub shows : (i : ℕ) (e : Node S M) → get_elem? world i ≡ some e
@@ -85,7 +86,8 @@ module _ {H S M : Type 0} (core : Core H S M) where
     pub held : (i : ℕ) (e : Node S M) (x : ℕ × Parcel M) → get_elem? world i ≡ some e
         → e.hand ≡ Some x → IsIn (x.0, i, x.1) (sent_of world)
 
-  -- the rule of a table of n nodes
+  -- the rule that a table of n nodes keeps: its views, status words and slots are those of one
+  -- running cluster
   pub record Holds (Good : World S M → Type 0) (n : ℕ)
       (s : State (Option (Parcel M)) (List (Node S M))) : Type 0 where
     pub world : List (Node S M)
@@ -93,8 +95,8 @@ module _ {H S M : Type 0} (core : Core H S M) where
     pub shown : Shown Good s.words world
     pub links : Links n s.words s.homes world
 
--- a node of n, with this in hand, may do this: a delivery is of the parcel in hand, a want goes to
--- a node
+-- a node with this in its hand may do this act: a delivered parcel is the one in hand, and a want
+-- goes to one of n nodes
 abbrev pub MayDo : {M : Type 0} → ℕ → Option (ℕ × Parcel M) → Act M → Type 0
 MayDo n hand act.Ask = Unit {0}
 MayDo n hand act.Enter = Unit {0}
@@ -108,7 +110,7 @@ MayDo n hand (act.Want to) = to < n
 MayDo n hand (act.Deliver from p) = hand ≡ Some (from, p)
 MayDo n hand act.Restart = Unit {0}
 
--- an act that takes no memory, moves no parcel and closes no section; a want goes to one of n nodes
+-- the act takes no memory, delivers no parcel and leaves no section; a want goes to one of n nodes
 abbrev pub IsPlain : {M : Type 0} → ℕ → Act M → Type 0
 IsPlain n act.Ask = Unit {0}
 IsPlain n act.Enter = Unit {0}
@@ -127,7 +129,8 @@ abbrev pub Keeps : {P : Type 0} → Option (ℕ × P) → Option (ℕ × P) → 
 Keeps before after = (after ≡ before) ⊎ (after ≡ None)
 
 module _ {T P : Type 0} where
-  -- the node after an act: its member, its receipts, all that it sent, and its hand
+  -- the node after an act that led to this member, sent these parcels, and led to this hand and
+  -- these receipts
   abbrev pub acted : Entry T P → T → List (ℕ × P) → Option (ℕ × P) → List Receipt → Entry T P
   acted e y out hand receipts =
       record e { member = y; receipts = receipts; sent = e.sent ++ out; hand = hand }
@@ -138,7 +141,8 @@ module _ {T P : Type 0} where
   acted_view [] y out hand receipts = []
   acted_view (e ∷ v) y out hand receipts = acted e y out hand receipts ∷ []
 
-  -- how a seat hands its first node on
+  -- a seat hands its first node on to a new seat: it keeps all but the first, and the new seat has
+  -- only the first
   abbrev pub all_but_first : List (Entry T P) → List (Entry T P)
   all_but_first [] = []
   all_but_first (e ∷ v) = v
@@ -165,11 +169,12 @@ pub record DidAct {H S M : Type 0} (core : Core H S M) (n : ℕ) (v : List (Node
 abbrev pub GoToNodes : {T P : Type 0} → ℕ → List (Entry T P) → Type 0
 GoToNodes {T} {P} n v = (e : Entry T P) → IsIn e v → (x : ℕ × P) → IsIn x e.sent → x.0 < n
 
--- a parcel in hand meets no stranger and no conflict
+-- each node in view can take the parcel in its hand: one of the cluster's nodes is the sender, and
+-- the parcel does not conflict with the journal
 abbrev pub HandFits : {S M : Type 0} → List (Node S M) → Type 0
 HandFits {S} {M} v =
     (e : Node S M) (x : ℕ × Parcel M) → IsIn e v → e.hand ≡ Some x → IsTakeable x.0 x.1 e.member
 
--- the seat has just this node, which moves no parcel, and no slot
+-- the seat has this node alone and no slot, and the node is not moving a parcel
 abbrev pub IsIdle : {T P : Type 0} → Me (Option P) (List (Entry T P)) → ℕ → Type 0
 IsIdle {T} {P} m node = (e : Entry T P) × (m ≡ (e ∷ [], [])) × (e.node ≡ node) × (e.stage ≡ Idle)

@@ -17,11 +17,12 @@ module _ {T P : Type 0} where
   taking k from p e =
       record e { hand = Some (from, p); stage = Reading k; taken = e.taken ++ (k, p) ∷ [] }
 
-  -- the parcel remains in hand, or is thrown away
+  -- the node has given its slot back, and has this in hand: the parcel, or nothing if it was thrown
+  -- away
   abbrev pub releasing : Option (ℕ × P) → Entry T P → Entry T P
   releasing hand e = record e { hand = hand; stage = Idle }
 
-  -- the slot was empty, and the seat has it
+  -- the seat has claimed slot k, which was empty
   abbrev pub Claims : ℕ → Me (Option P) (List (Entry T P)) → Me (Option P) (List (Entry T P))
       → Type 0
   Claims k m m' =
@@ -31,34 +32,35 @@ module _ {T P : Type 0} where
   abbrev pub HasUsed : ℕ → Me (Option P) (List (Entry T P)) → Type 0
   HasUsed k m = (e : Entry T P) × (m.0 ≡ e ∷ []) × (of k e.placed ≢ [])
 
-  -- one try to claim a slot
+  -- one try to claim slot k, which found this word
   abbrev pub TriesClaim : ℕ → Me (Option P) (List (Entry T P)) → ℕ
       → Me (Option P) (List (Entry T P)) → Type 0
   TriesClaim k m found m' =
       (found ≡ EMPTY → Claims k m m') × (found ≢ EMPTY → (m' ≡ m) × HasUsed k m)
 
-  -- the slot had a parcel, and the seat has both
+  -- the seat has taken slot k, and the parcel from node `from` that lay there
   abbrev pub Takes : ℕ → ℕ → Me (Option P) (List (Entry T P)) → Me (Option P) (List (Entry T P))
       → Type 0
   Takes k from m m' =
       (e : Entry T P) × (m.0 ≡ e ∷ [])
       × ((p : P) × (m' ≡ (taking k from p e ∷ [], (k, Some p) ∷ m.1)))
 
-  -- the seat has taken this slot, and its parcel still lies there
+  -- the seat has taken slot k, and the parcel p still lies there
   abbrev pub HasTaken : ℕ → ℕ → Entry T P → P → Me (Option P) (List (Entry T P)) → Type 0
   HasTaken k from e p m = m ≡ (taking k from p e ∷ [], (k, Some p) ∷ [])
 
-  -- if the slot is of the seat's own link, everything placed there was taken
+  -- if `from` is the seat's own node (the link leads from it to itself), all that it placed in slot
+  -- k was taken
   abbrev pub HasEmptied : ℕ → ℕ → Me (Option P) (List (Entry T P)) → Type 0
   HasEmptied k from m =
       (e : Entry T P) × (m.0 ≡ e ∷ []) × (from ≡ e.node → of k e.placed ≡ of k e.taken)
 
-  -- one look at a slot
+  -- one read of the word of slot k, which found this word
   abbrev pub Sees : ℕ → ℕ → Me (Option P) (List (Entry T P)) → ℕ → Me (Option P) (List (Entry T P))
       → Type 0
   Sees k from m found m' = (m' ≡ m) × (found ≢ FILLED → HasEmptied k from m)
 
-  -- one try to take the parcel of a slot
+  -- one try to take slot k with its parcel, which found this word
   abbrev pub TriesTake : ℕ → ℕ → Me (Option P) (List (Entry T P)) → ℕ
       → Me (Option P) (List (Entry T P)) → Type 0
   TriesTake k from m found m' =
@@ -72,13 +74,14 @@ module _ {T P : Type 0} where
   released_view hand [] = []
   released_view hand (e ∷ v) = releasing hand e ∷ []
 
-  -- the seat holds the empty slot, and may put this parcel there
+  -- the seat has claimed slot k, which is empty, and its node sent this parcel to node `to`, so
+  -- that it may be put there
   abbrev pub IsFilling : Me (Option P) (List (Entry T P)) → ℕ → ℕ → ℕ → P → Type 0
   IsFilling m k node to p =
       (e : Entry T P) × (m ≡ (e ∷ [], (k, None) ∷ [])) × (e.node ≡ node) × (e.stage ≡ Writing k)
       × IsIn (to, p) e.sent
 
-  -- the seat holds the slot, in which x lies
+  -- the seat has taken slot k, in which x lies: a parcel or nothing
   abbrev pub IsHolding : Me (Option P) (List (Entry T P)) → ℕ → ℕ → Option P → Type 0
   IsHolding m k node x =
       (e : Entry T P) × (m ≡ (e ∷ [], (k, x) ∷ [])) × (e.node ≡ node) × (e.stage ≡ Reading k)

@@ -18,9 +18,9 @@ abbrev pub AtMostOneOdd : ℕ → List ℕ → Type 0
 AtMostOneOdd n words =
     (i j : ℕ) → i < n → j < n → IsOddAt words i → IsOddAt words j → i ≡ j
 
--- These are different nodes of one cluster of n, each as it is. The words of its table show all its
--- nodes; the first n are the status words, and at most one of these is odd. The nodes run as a
--- cluster does, and each parcel in a hand was sent to its holder by one of them.
+-- These are different nodes of one running cluster of n nodes (`world`), with their entries there.
+-- The first n words of its table are the nodes' status words, and at most one of these is odd. Each
+-- parcel in a hand was sent by one of the nodes to the node that has it.
 pub record RunTogether {H S M : Type 0} (core : Core H S M) (Good : World S M → Type 0) (n : ℕ)
     (these : List (Node S M)) : Type 0 where
   pub world : List (Node S M)
@@ -32,7 +32,7 @@ pub record RunTogether {H S M : Type 0} (core : Core H S M) (Good : World S M �
   pub shown : Shown core Good words world
   pub one_odd : AtMostOneOdd n words
 
--- and this is the status word of node i among them
+-- these are different nodes of one running cluster, in which node i has this status word
 pub record ShowsNode {H S M : Type 0} (core : Core H S M) (Good : World S M → Type 0)
     (n i word : ℕ) (these : List (Node S M)) : Type 0 where
   pub together : RunTogether core Good n these
@@ -41,6 +41,6 @@ pub record ShowsNode {H S M : Type 0} (core : Core H S M) (Good : World S M → 
   pub there : get_elem? together.world i ≡ some other
   pub shows : word ≡ word_of core other.member
 
--- a parcel that e holds from f is one that f sent to e
+-- if e has a parcel from f in hand, then f sent it to e
 abbrev pub HoldsSent : {S M : Type 0} → Node S M → Node S M → Type 0
 HoldsSent {S} {M} e f = (p : Parcel M) → e.hand ≡ Some (f.node, p) → IsIn (e.node, p) f.sent

@@ -13,20 +13,20 @@ use Rattle.mx_stations.specs.declared.slots.TheConstants.{SLOTS}
 use Rattle.mx_stations.specs.Posts.{Delivers, Fetches, FindsNone, Post, PutsOut, does, post, slot_from}
 use Rattle.mx_stations.specs.Slides.{releasing, taking}
 
--- the contents of the hand after a parcel is taken
+-- the contents of the hand after a parcel with this fate was taken
 abbrev pub fated_hand : {P : Type 0} → Fate → ℕ × P → Option (ℕ × P)
 fated_hand Pass x = Some x
 fated_hand Drop x = None
 fated_hand Twice x = Some x
 
 module _ {T P : Type 0} where
-  -- one parcel is taken from the link with an empty hand, and thrown away
+  -- while the hand is empty, a parcel is taken from a slot of the link and thrown away
   abbrev pub Throws : ℕ → Post T P → Post T P → Type 0
   Throws from s t =
       (s.me.hand ≡ None) × ((p : P) × (index : ℕ) × (index < SLOTS) × (t ≡ post s.table s.nodes
       (releasing None (taking (slot_from s from index) from p s.me)) s.waiting))
 
-  -- the effect of a fate on a parcel that is taken
+  -- a parcel with this fate is taken from the link: it goes into the hand, or is thrown away
   abbrev pub IsFated : ℕ → Fate → Post T P → Post T P → Type 0
   IsFated from Pass s t = Fetches from s t
   IsFated from Drop s t = Throws from s t
@@ -50,21 +50,22 @@ module _ {H S M : Type 0} (core : Core H S M) where
       ⊎ (((from : ℕ) × Throws from s t)
       ⊎ (((r : PutOut) × PutsOut s r t) ⊎ (t ≡ does core Tick s)))))
 
+  -- one act or move after another leads from s to t; the list has the station after each of them
   abbrev pub Chain : List Station → Station → Station → Type 0
   Chain [] s t = t ≡ s
   Chain (m ∷ ms) s t = Moves s m × Chain ms m t
 
-  -- some list of acts and moves, one after another
+  -- some acts and moves, one after another, lead from s to t
   abbrev pub Goes : Station → Station → Type 0
   Goes s t = (ms : List Station) × Chain ms s t
 
--- the report of a turn after a parcel of this fate
+-- the report of a turn, with one more parcel counted, which had this fate
 abbrev pub noted_fate : Fate → TurnReport → TurnReport
 noted_fate Pass r = record r { taken = r.taken + 1 }
 noted_fate Drop r = record r { taken = r.taken + 1; dropped = r.dropped + 1 }
 noted_fate Twice r = record r { taken = r.taken + 1; twice = r.twice + 1 }
 
--- after a try on a link that took nothing, or a parcel
+-- the report, with a try to take a parcel counted: none was taken, or one with this fate
 abbrev pub noted : Option Fate → TurnReport → TurnReport
 noted None r = r
 noted (Some fate) r = noted_fate fate r
@@ -73,7 +74,7 @@ abbrev pub noted_all : List (Option Fate) → TurnReport → TurnReport
 noted_all [] r = r
 noted_all (x ∷ xs) r = noted_all xs (noted x r)
 
--- after a try to put a parcel out
+-- the report, with a try to put a parcel out counted, which had this result
 abbrev pub noted_put : PutOut → TurnReport → TurnReport
 noted_put Sent r = record r { put = r.put + 1 }
 noted_put Full r = record r { full = r.full + 1 }
@@ -83,7 +84,7 @@ abbrev pub noted_puts : List PutOut → TurnReport → TurnReport
 noted_puts [] r = r
 noted_puts (x ∷ xs) r = noted_puts xs (noted_put x r)
 
--- after the parcel that was in hand, if there was one
+-- the report at the start of a turn: it counts the parcel that was in hand, if there was one
 abbrev pub begun : Bool → TurnReport
 begun true = record { taken = 1; dropped = 0; twice = 0; put = 0; full = 0; ticked = false }
 begun false = record { taken = 0; dropped = 0; twice = 0; put = 0; full = 0; ticked = false }
@@ -92,7 +93,7 @@ abbrev pub ending : Bool → TurnReport → TurnReport
 ending ticked r = record r { ticked = ticked }
 
 module _ {H S M : Type 0} (core : Core H S M) where
-  -- a parcel that is to be delivered twice is delivered a first time
+  -- if the fate is `Twice`, the parcel in hand is delivered a first time; otherwise nothing happens
   abbrev pub DeliversMore : Fate → Station core → Station core → Type 0
   DeliversMore Pass s t = t ≡ s
   DeliversMore Drop s t = t ≡ s
@@ -106,24 +107,26 @@ module _ {H S M : Type 0} (core : Core H S M) where
       (m : Station core) × (n : Station core) × Fetches from s m × DeliversFirst core m n
       × Delivers core n t
 
+  -- one try to take a parcel from the link: it finds none, or takes one with this fate
   abbrev pub TakesFated : ℕ → Option Fate → Station core → Station core → Type 0
   TakesFated from None s t = FindsNone from s t
   TakesFated from (Some fate) s t = Deals from fate s t
 
-  -- one try on the link of each node in order, from this node on
+  -- tries to take a parcel from this node, the next one and so on, with these results
   abbrev pub TakesEach : ℕ → List (Option Fate) → Station core → Station core → Type 0
   TakesEach from [] s t = t ≡ s
   TakesEach from (x ∷ xs) s t =
       (m : Station core) × TakesFated from x s m × TakesEach (suc from) xs m t
 
-  -- tries to put out, one after another
+  -- tries to put a parcel out, one after another, with these results
   abbrev pub PutsEach : List PutOut → Station core → Station core → Type 0
   PutsEach [] s t = t ≡ s
   PutsEach (x ∷ xs) s t = (m : Station core) × PutsOut s x m × PutsEach xs m t
 
-  -- A parcel in hand is delivered. One is taken from each node that has one, and dealt with by its
-  -- fate. `put_out` is tried once for each parcel that waits then. If none was in hand, none taken,
-  -- and none waits now, the clock ticks. The report counts just that.
+  -- A turn of the station. A parcel in hand is delivered. One try is made to take a parcel from
+  -- each node, and a taken parcel is delivered as often as its fate says. Then `put_out` is tried
+  -- once for each waiting parcel. If no parcel was in hand, none was taken, and none waits now, the
+  -- node ticks. The report counts exactly these parcels and tries.
   pub record Turns (s : Station core) (report : TurnReport) (t : Station core) : Type 0 where
     pub had : Bool
     pub after_hand : Station core

@@ -29,25 +29,27 @@ module _ {H S M : Type 0} (core : Core H S M) (register : ℕ) where
   abbrev pub Toils : Station core → Station core → Type 0
   Toils s t = Moves core s t ⊎ ((a : Act M) × IsWorkers register s.nodes a × (t ≡ does core a s))
 
+  -- one of these acts and moves after another leads from s to t; the list has the station after
+  -- each of them
   abbrev pub Row : List (Station core) → Station core → Station core → Type 0
   Row [] s t = t ≡ s
   Row (m ∷ ms) s t = Toils s m × Row ms m t
 
-  -- some list of these, one after another
+  -- some of these acts and moves, one after another, lead from s to t
   abbrev pub Works : Station core → Station core → Type 0
   Works s t = (ms : List (Station core)) × Row ms s t
 
-  -- such a list that leaves no section
+  -- the same, without leaving a section
   abbrev pub LeavesNone : Station core → Station core → Type 0
   LeavesNone s t = Works s t × (length t.me.receipts ≡ length s.me.receipts)
 
 module _ {H S M : Type 0} (core : Core H S M) where
-  -- it leaves its section, or does nothing
+  -- the node leaves its section, or nothing happens
   abbrev pub MayLeave : Station core → Station core → Type 0
   MayLeave s t = (t ≡ s) ⊎ (t ≡ does core act.Leave s)
 
-  -- a turn of the station, with its report; or memory ran out in it, and it is some of these acts
-  -- and moves, after which a parcel is in hand
+  -- the station has taken a turn, with some report; or memory ran out in the turn, after some of
+  -- its acts and moves, and a parcel is in hand
   abbrev pub HasTurned : Station core → Station core → Type 0
   HasTurned s t =
       Goes core s t × (((report : TurnReport) × Turns core s report t) ⊎ (t.me.hand ≢ None))
@@ -60,14 +62,14 @@ module _ {H S M : Type 0} (core : Core H S M) (register : ℕ) where
       (m : Station core) × (n : Station core) × LeavesNone core register s m × MayLeave core m n
       × HasTurned core n t
 
--- a section was left, since there were `before` and are `now`, and `every`, which is not 0, divides
--- their number now
+-- settling is due: more sections were left by `now` than by `before`, and `every` is not 0 and
+-- divides the number `now`
 abbrev pub IsDue : ℕ → ℕ → ℕ → Type 0
 IsDue every before now = (every ≢ 0) × (before < now) × (now % every ≡ 0)
 
 module _ {H S M : Type 0} (core : Core H S M) (every : ℕ) where
-  -- if that is due, the registers after all sections that the journal has without a gap replace
-  -- their records; otherwise nothing happens
+  -- if settling is due, the registers after all sections before the journal's first gap replace the
+  -- records of these sections; otherwise nothing happens
   abbrev pub SettlesIfDue : ℕ → Station core → Station core → Type 0
   SettlesIfDue before s t =
       (IsDue every before (length s.me.receipts)
@@ -75,31 +77,34 @@ module _ {H S M : Type 0} (core : Core H S M) (every : ℕ) where
       ⊎ ((IsDue every before (length s.me.receipts) → ⊥) × (t ≡ s))
 
 module _ {H S M : Type 0} (core : Core H S M) (register every : ℕ) where
-  -- a worker's turn, and at its end the station settles if a section was left that makes it due
+  -- a worker's turn, and at its end the station settles if that is due
   abbrev pub Round : Station core → Station core → Type 0
   Round s t =
       (n : Station core) × TakesTurn core register s n
       × SettlesIfDue core every (length s.me.receipts) n t
 
+  -- one round after another leads from s to t; the list has the station after each of them
   abbrev pub Rounds : List (Station core) → Station core → Station core → Type 0
   Rounds [] s t = t ≡ s
   Rounds (m ∷ ms) s t = Round s m × Rounds ms m t
 
-  -- some list of these, one after another. So the station settles once in each turn in which the
-  -- number of its sections reaches a multiple of `every`, and at no other time; with 0 never
+  -- some rounds, one after another, lead from s to t. So the station settles in each round in which
+  -- the number of sections that it has left reaches a multiple of `every`, and at no other time; if
+  -- `every` is 0, never
   abbrev pub WorksSettling : Station core → Station core → Type 0
   WorksSettling s t = (ms : List (Station core)) × Rounds ms s t
 
-  -- exactly this many of these, one after another: this many turns were made
+  -- exactly this number of rounds, one after another, lead from s to t
   abbrev pub WorksFor : ℕ → Station core → Station core → Type 0
   WorksFor turns s t = (ms : List (Station core)) × (length ms ≡ turns) × Rounds ms s t
 
-  -- at most this many
+  -- at most this number of rounds, one after another, lead from s to t
   abbrev pub WorksAtMost : ℕ → Station core → Station core → Type 0
   WorksAtMost turns s t = (made : ℕ) × (made ≤ turns) × WorksFor made s t
 
 module _ {H S M : Type 0} (core : Core H S M) (most : ℕ) where
-  -- fewer sections than this were left, or exactly this many, and the node asks for no other
+  -- the station has left fewer than `most` sections; or it has left exactly `most`, and its node is
+  -- idle
   abbrev pub IsWithin : Station core → Type 0
   IsWithin s =
       (length s.me.receipts < most)

@@ -1,5 +1,5 @@
-//! The acts of a station on its node: each is one event of it, and one store to its word. A refused
-//! act stores nothing.
+//! The acts of a station on its node. Each act is one event of the node, and stores the node's
+//! status word once. A refused act stores nothing.
 
 ghost use Rattle.std.specs.Prelude.{◌≡◌, ◌<◌, ◌↔◌, ◌++◌, ℕ, [], ◌∷◌, Err, IfOk, MatchBool, Ok, OnErr, OnOk, Some};
 ghost use Rattle.std.specs.Vec.{vec_capacity, vec_len};
@@ -22,8 +22,9 @@ use mx_member::{Act, Answer, CloseFault, Member, Parcel, ReadFault, WriteFault, 
 use mx_nodelaws::{AskFault, CancelFault, EnterFault, Exclusion, Phase};
 use mx_stamps::{NodeId, Stamp};
 
-/// Ends an act of the member: the one store that shows it, and the parcels that it sent join the
-/// waiting ones. The station is whole again only after it, so this cannot be a method.
+/// Ends an act that the member has made: stores the node's status word, and appends the parcels
+/// that the act sent to the waiting ones. Between the member's act and this store the station's
+/// invariant does not hold, so this cannot be a method.
 macro_rules! tell {
     ($station:expr) => {
         act(
@@ -90,8 +91,9 @@ impl<C: Exclusion> Station<C> {
         }
     }
 
-    /// Reads a register inside, and adds the read to the draft. Returns the value that this section
-    /// wrote last, or otherwise that of the sections before it.
+    /// Reads a register while the node is inside, and adds the read to the draft. Returns the value
+    /// that this section wrote last to the register, or otherwise the value that the sections
+    /// before it left.
     ///
     /// # Errors
     ///
@@ -107,7 +109,7 @@ impl<C: Exclusion> Station<C> {
         }
     }
 
-    /// Writes a register inside. The write is added to the draft.
+    /// Writes a register while the node is inside: adds the write to the draft.
     ///
     /// # Errors
     ///
@@ -124,8 +126,9 @@ impl<C: Exclusion> Station<C> {
         }
     }
 
-    /// Replaces the records of sections 1 to `upto` in the journal by the registers after them. The
-    /// core takes no step, nothing is sent, and no memory is allocated.
+    /// Replaces the records of sections 1 to `upto` in the journal by the values of the registers
+    /// after these sections. The core (the node of the algorithm) takes no step, nothing is sent,
+    /// and no memory is allocated.
     ///
     /// # Errors
     ///
@@ -149,7 +152,7 @@ impl<C: Exclusion> Station<C> {
         let _ticked = self.does(Act::Tick);
     }
 
-    /// Asks another node for the missing records.
+    /// Asks the node `to` for the records that the journal lacks.
     pub fn want(&mut self, to: NodeId)
         requires { to < self.old.nodes }
         ensures { self.new ≡ does C.core (Want to) self.old }
@@ -186,8 +189,9 @@ impl<C: Exclusion> Station<C> {
         Ok(receipt)
     }
 
-    /// Performs an act that takes no memory, moves no parcel and closes no section. It makes the
-    /// one store that shows the act, or none if the act is refused.
+    /// Performs an act that takes no memory, delivers no parcel and leaves no section, and returns
+    /// the member's answer. Stores the node's status word once, or not at all if the act is
+    /// refused.
     fn does(&mut self, act: Act<C::Msg>) -> Answer
         requires { IsPlain self.old.nodes act }
         ensures answer { result ≡ (act_of C.core act self.old.me.member).answer }
@@ -224,7 +228,8 @@ impl<C: Exclusion> Station<C> {
     }
 }
 
-/// Delivers a parcel that the member can take, so that only memory can be missing.
+/// Delivers a parcel to the member, and puts the parcels that the member sends into `out`. The
+/// member can take the parcel, so the only possible fault is that memory runs out.
 fn receive<C: Exclusion>(
     member: &mut Member<C>,
     from: NodeId,
@@ -246,7 +251,7 @@ fn receive<C: Exclusion>(
     }
 }
 
-/// Leaves the section of a member, and adds its receipt to the others.
+/// Leaves the section that the member is inside, and appends the section's receipt to `receipts`.
 fn close<C: Exclusion>(
     member: &mut Member<C>,
     receipts: &mut Vec<Receipt>,

@@ -12,7 +12,7 @@ use thiserror::Error;
 pub enum PutOut {
     /// The parcel was placed in a slot of its link.
     Sent,
-    /// No slot of its link was empty, and the parcel waits after the others.
+    /// No slot of its link was empty, and the parcel waits again, behind the others.
     Full,
     /// No parcel waited.
     Nothing,
@@ -27,27 +27,25 @@ pub enum Taken {
     Empty,
 }
 
-/// The report of a turn. It counts the parcels taken or in hand, those thrown away or delivered
-/// twice, those put out, and the tries that found no empty slot. It also says whether the turn
-/// ticked.
+/// The report of a turn of a station: counts of parcels and tries, and whether the node ticked.
 #[derive(Clone, Copy, Debug, Default, PartialEq, Eq)]
 pub struct TurnReport {
-    /// The parcels that it took, or had in hand.
+    /// The number of parcels that the turn took, or that were in hand at its start.
     pub taken: u32,
-    /// The parcels that it threw away.
+    /// The number of taken parcels that were thrown away.
     pub dropped: u32,
-    /// The parcels that it delivered twice.
+    /// The number of taken parcels that were delivered twice.
     pub twice: u32,
-    /// The parcels that it put out.
+    /// The number of parcels that were put out.
     pub put: u32,
-    /// The tries to put a parcel out that found no empty slot.
+    /// The number of tries to put a parcel out that found no empty slot.
     pub full: u32,
-    /// Whether it ticked.
+    /// Whether the node ticked: sent all outstanding letters again.
     pub ticked: bool,
 }
 
 impl TurnReport {
-    /// Creates the report of a new turn, with a parcel in hand or without.
+    /// Creates the report of a new turn. `had` says whether a parcel was in hand at its start.
     pub(crate) fn begin(had: bool) -> TurnReport
         ensures { result ≡ begun had }
     {
@@ -61,7 +59,8 @@ impl TurnReport {
         }
     }
 
-    /// Counts a try on a link that took nothing, or a parcel of this fate.
+    /// Counts a parcel that was taken, by its fate. `None` means that none was taken, and counts
+    /// nothing.
     pub(crate) fn note_taken(&mut self, took: Option<Fate>)
         requires taken { self.old.taken < 1000 }
         requires dropped { self.old.dropped < 1000 }

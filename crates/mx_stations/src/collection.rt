@@ -1,6 +1,6 @@
-//! Gathering: the journal and receipts of all stations of a table, while no node is inside. All
-//! memory is allocated before a seat is joined, so on an error the caller gets the stations back
-//! unchanged.
+//! Gathers the merged journal and the receipts of all stations of a table, while no node is inside.
+//! All memory is allocated before seats are joined, so on an error the caller gets the stations
+//! back unchanged.
 
 ghost use Rattle.std.specs.Prelude.{ℕ, suc, ◌≡◌, ◌≤◌, ◌↔◌, ◌++◌, ◌⊎◌, Err, IfErr, IfNone, IfOk, IfSome, IsErrAnd, IsOk, IsTrue, MatchBool, OnOk};
 ghost use Rattle.std.specs.List.Sorted.{IsNonDecreasingBy, IsPermutation};
@@ -19,22 +19,23 @@ use mx_stamps::{MAX_NODES, NodeId};
 use std::alloc::{AllocError, Global};
 use thiserror::Error;
 
-/// The journal and receipts of all stations of a table.
+/// The merged journal and the receipts of all stations of a table.
 #[derive(Drop)]
 pub struct Gathered {
     /// The journal of all sections that were left, settled as far as any station has settled them.
     pub journal: Journal,
-    /// Their receipts, in order of number.
+    /// The receipts of these sections, in order of number.
     pub receipts: Vec<Receipt>,
 }
 
 /// Why stations cannot be gathered.
 #[derive(Clone, Copy, Debug, PartialEq, Eq, Error)]
 pub enum GatherFault {
-    /// The least node without a station among these; node 0 if there are none.
+    /// Not all stations were passed: this is the least node whose station is missing (0 if none was
+    /// passed).
     #[error("not all {}", .0.get())]
     NotAll(NodeId),
-    /// The least node that is inside.
+    /// A node is still inside: this is the least one.
     #[error("still inside {}", .0.get())]
     StillInside(NodeId),
     /// Memory ran out.
@@ -88,7 +89,7 @@ pub(crate) fn is_inside<C: Exclusion>(station: &Station<C>) -> bool
     matches!(station.phase(), Phase::Inside(_))
 }
 
-/// Returns whether the node is inside.
+/// Returns whether the station of this node is among these, and the node is inside.
 fn has_inside<C: Exclusion>(stations: &[Station<C>], node: NodeId) -> bool
     ensures { MatchBool result (HasInside C.core stations.now node)
         (NotInside C.core stations.now node) }
@@ -101,7 +102,7 @@ fn has_inside<C: Exclusion>(stations: &[Station<C>], node: NodeId) -> bool
     false
 }
 
-/// Returns the least node whose station is missing.
+/// Returns the least node whose station is not among these.
 fn least_missing<C: Exclusion>(stations: &[Station<C>]) -> Option<NodeId>
     ensures some { IfSome result (λ i. IsLeastMissing stations.now i) }
     ensures none { IfNone result (IsWhole stations.now) }
@@ -133,7 +134,8 @@ fn least_inside<C: Exclusion>(stations: &[Station<C>]) -> Option<NodeId>
     None
 }
 
-/// Returns why the stations cannot be gathered, apart from memory.
+/// Returns why the stations cannot be gathered: one is missing, or a node is inside. Returns `None`
+/// if neither is the case.
 fn fault_of<C: Exclusion>(stations: &[Station<C>]) -> Option<GatherFault>
     ensures some { IfSome result (λ fault. Refuses C.core stations.now fault) }
     ensures none { IfNone result (IsReady C.core stations.now) }
@@ -189,8 +191,8 @@ fn sorted_receipts<C: Exclusion>(
     Ok(all)
 }
 
-/// Puts journals and receipts together. Once the seats are joined, it is known that the journals do
-/// not conflict.
+/// Returns the merged journal and the sorted receipts of the stations. Journals never conflict, but
+/// the proof knows this only once the seats are joined.
 fn put_together<C: Exclusion>(
     alloc: Global,
     stations: &[Station<C>],
@@ -205,9 +207,9 @@ fn put_together<C: Exclusion>(
     Ok(Gathered { journal, receipts })
 }
 
-/// Gathers the stations of one table: the receipts of all sections that were left, in order, and
-/// the journal of these sections. It needs the stations of all nodes, in any order. Parcels that
-/// were not delivered are dropped with the table.
+/// Gathers the stations of one table: returns the receipts of all sections that were left, in
+/// order, and the journal of these sections. It needs the stations of all nodes, in any order.
+/// Parcels that were not delivered are dropped with the table.
 ///
 /// # Errors
 ///

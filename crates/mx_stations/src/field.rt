@@ -1,4 +1,5 @@
-//! The table that the stations share, and the step of an act.
+//! The table that the stations of a cluster share, and the atomic step by which a station publishes
+//! an act.
 
 ghost use Rattle.std.specs.Prelude.{◌≡◌, ◌+◌, ◌*◌, ◌<◌, ◌≤◌, ◌∷◌, []};
 ghost use Rattle.mx_stamps.specs.declared.limits.TheConstants.{MAX_NODES};
@@ -17,13 +18,14 @@ use mx_stamps::NodeId;
 use std::alloc::Global;
 use std::marker::Brand;
 
-/// The seat of one station.
+/// The seat of one station: its handle of the shared table.
 pub type SeatOf<C> = Seat<Slot<C>, Knowledge<C>>;
 
-/// A status word for each node. For each link from a node to a node, four slots, each with its
-/// word.
+/// The table that the stations of a cluster share. It has a status word for each node and, for each
+/// link from one node to another or to itself, four slots with a word each.
 #[derive(Drop)]
 pub struct Field<C: Exclusion> {
+    /// The words and the slots.
     pub(crate) board: Table<Slot<C>, Knowledge<C>, Setup<C::Shape>, Law<C>, Global>,
     pub(crate) nodes: u8,
     ghost key: { board.shared.key.nodes ≡ nodes },
@@ -33,7 +35,8 @@ pub struct Field<C: Exclusion> {
     ghost few: { nodes ≤ MAX_NODES },
 }
 
-/// Returns the status word of a node.
+/// Returns the status word of a node: twice the number of the last section that it entered, and one
+/// more while it is inside.
 fn status_of<C: Exclusion>(member: &Member<C>) -> u64
     ensures { result ≡ word_of C.core member.now }
 {
@@ -44,7 +47,8 @@ fn status_of<C: Exclusion>(member: &Member<C>) -> u64
     }
 }
 
-/// Makes the one step of an act. The call picks the view after it.
+/// Makes the atomic step of `act`, with the same parameters. By `N` the call tells the proof what
+/// the seat knows after the step.
 fn store_as<C: Exclusion, N: Next<Knowledge<C>>>(
     field: &Field<C>,
     seat: &mut SeatOf<C>,
@@ -75,9 +79,10 @@ fn store_as<C: Exclusion, N: Next<Knowledge<C>>>(
         .store::<Becomes<N>>(seat, node.get() as usize, new);
 }
 
-/// Makes one act of a node by one atomic step: stores its new status in its word. The seat, which
-/// is the station's handle of the table, has this node alone. `hand` is the parcel that was taken
-/// and is not delivered yet.
+/// Publishes an act that the member has made: stores the node's new status word, by one atomic
+/// step. The seat has this node alone. Only the proof uses `out` (the parcels that the act sent),
+/// `hand` (the parcel taken but not delivered yet, with its sender) and `receipts`, each as it is
+/// after the act.
 pub(crate) fn act<C: Exclusion>(
     field: &Field<C>,
     seat: &mut SeatOf<C>,
@@ -101,8 +106,8 @@ pub(crate) fn act<C: Exclusion>(
     store_as::<C, Brand>(field, seat, node, member, out, hand, receipts);
 }
 
-/// Reads a word, which shows that the parcel in hand can be taken. The value is not used: the call
-/// is only for the proof, which learns the rule of the table here.
+/// Reads a word of the table, and does not use its value. The proof learns from this step that the
+/// node's member can take the parcel in hand.
 pub(crate) fn look<C: Exclusion>(field: &Field<C>, seat: &mut SeatOf<C>)
     requires table { seat.old.table_id ≡ field.now.board.shared.table_id }
     ensures same { (seat.new.table_id ≡ seat.old.table_id) × (seat.new.me ≡ seat.old.me) }

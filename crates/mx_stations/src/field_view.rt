@@ -1,4 +1,4 @@
-//! A view of all nodes of a field, for threads that own none of them.
+//! A view of all nodes of a shared table, for a thread that owns none of their stations.
 
 ghost use Rattle.std.specs.Prelude.{◌≡◌, IfOk};
 
@@ -9,7 +9,7 @@ use std::alloc::{AllocError, Global};
 use std::marker::Model;
 use std::sync::Arc;
 
-/// Shows the progress of the nodes of a field, while threads own their stations.
+/// Shows the progress of all nodes of a cluster, while threads own their stations.
 #[derive(Drop)]
 pub struct Watch<C: Exclusion> {
     field: Arc<Field<C>, Global>,
@@ -26,7 +26,7 @@ impl<C: Exclusion> Model for Watch<C> {
 }
 
 impl<C: Exclusion> Station<C> {
-    /// Returns a watch over the nodes of its field.
+    /// Returns a watch over all nodes of this station's cluster.
     ///
     /// # Errors
     ///
@@ -40,8 +40,8 @@ impl<C: Exclusion> Station<C> {
 }
 
 impl<C: Exclusion> Watch<C> {
-    /// Returns the number of sections left so far, by the status words of the nodes, read in turn.
-    /// It reads without a lock, and nothing is proved about it.
+    /// Returns the number of sections completed so far, by the status words of all nodes. The words
+    /// are read one after another, without a lock, and nothing is proved about the result.
     pub fn sections(&self) -> u64 {
         let field = &*self.field;
         let mut left = 0;
@@ -53,8 +53,8 @@ impl<C: Exclusion> Watch<C> {
     }
 }
 
-/// Returns the number of sections left when a node's word was this: those up to its last one, which
-/// is still open if the word is odd.
+/// Returns the number of sections that were completed when a node had this status word: all up to
+/// the node's last section, without this one if the word is odd (the node is inside).
 fn sections_in(word: u64) -> u64 {
     (word / 2).saturating_sub(word % 2)
 }

@@ -1,4 +1,4 @@
-//! Joining of all seats of a table into one, which knows the whole world.
+//! Joins all seats of a table into one, which knows all nodes of the cluster.
 
 ghost use Rattle.std.specs.Prelude.{◌≡◌, ◌<◌, length, map};
 ghost use Rattle.mx_stations.specs.Gathered.{Knows, OfOneTable, me_of, nodes_in};
@@ -10,6 +10,7 @@ use crate::station::Station;
 use mx_nodelaws::Exclusion;
 use std::marker::Brand;
 
+/// Does the work of `learn`. By `N` the call tells the proof the number of nodes.
 fn learn_as<C: Exclusion, N: OfCount>(field: &Field<C>, seat: &mut SeatOf<C>)
     requires table { seat.old.table_id ≡ field.now.board.shared.table_id }
     requires count { N.count ≡ field.now.nodes }
@@ -19,8 +20,8 @@ fn learn_as<C: Exclusion, N: OfCount>(field: &Field<C>, seat: &mut SeatOf<C>)
     field.board.shared.load::<Learns<C, N>>(seat, 0);
 }
 
-/// Reads a word, which shows that the nodes in view are nodes of one running world. It is for the
-/// proof only, and the value is not used.
+/// Reads a word of the table, and does not use its value. The proof learns from this step that the
+/// nodes of the seat are nodes of one running cluster.
 fn learn<C: Exclusion>(field: &Field<C>, seat: &mut SeatOf<C>)
     requires table { seat.old.table_id ≡ field.now.board.shared.table_id }
     ensures same { (seat.new.table_id ≡ seat.old.table_id) × (seat.new.me ≡ seat.old.me) }
@@ -29,7 +30,8 @@ fn learn<C: Exclusion>(field: &Field<C>, seat: &mut SeatOf<C>)
     learn_as::<C, Brand>(field, seat);
 }
 
-/// Joins all seats, and reads what the rule says about them.
+/// Joins the seats of the stations into one, and drops the stations. The proof learns from the
+/// joined seat that these are nodes of one running cluster.
 pub(crate) fn join_all<C: Exclusion>(mut stations: Vec<Station<C>>)
     requires one { OfOneTable stations.items }
     requires some { 0 < length stations.items }

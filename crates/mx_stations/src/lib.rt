@@ -1,5 +1,6 @@
-//! Stations: each node as one value, which a thread may own. The stations of a cluster share a
-//! table of atomic words; an act of a station on its node is one step on one word.
+//! Stations: a station is one node of a cluster, as a value that a thread may own. The stations of
+//! a cluster share a table of atomic words. An act of a node (it asks, enters, reads and so on) is
+//! one atomic step on one word.
 #![tactic(auto)]
 
 mod acts;

@@ -1,4 +1,6 @@
-//! The moves of a station's parcels across the links: each call tries once.
+//! How a station takes parcels in from slots, and puts its waiting parcels out into slots. Each
+//! call tries once. A parcel that was taken from a slot is in the station's hand until it is
+//! delivered.
 
 ghost use Rattle.std.specs.Prelude.{◌≡◌, ◌≢◌, ◌<◌, IfOk, MatchBool, None, OnErr};
 ghost use Rattle.mx_letters.specs.declared.fates.Fate.TheVariants.{Pass};
@@ -14,8 +16,8 @@ use mx_nodelaws::Exclusion;
 use mx_stamps::NodeId;
 
 impl<C: Exclusion> Station<C> {
-    /// Delivers the parcel in hand, which remains there if it is to be delivered again. Returns
-    /// `false` if the hand is empty.
+    /// Delivers the parcel in hand, and keeps it there if it is to be delivered `again`. Returns
+    /// `false` if the hand was empty.
     ///
     /// # Errors
     ///
@@ -35,7 +37,7 @@ impl<C: Exclusion> Station<C> {
         Ok(true)
     }
 
-    /// Delivers the parcel in hand. Returns `false` if the hand is empty.
+    /// Delivers the parcel in hand. Returns `false` if the hand was empty.
     ///
     /// # Errors
     ///
@@ -49,8 +51,8 @@ impl<C: Exclusion> Station<C> {
         self.deliver_as(false)
     }
 
-    /// Takes a parcel from the first filled slot of the link into the empty hand, and returns
-    /// whether there was one.
+    /// Takes a parcel from the first filled slot of the link from node `from` into the empty hand.
+    /// Returns whether there was a parcel.
     fn fetch(&mut self, from: NodeId) -> bool
         requires within { from < self.old.nodes }
         requires empty { self.old.me.hand ≡ None }
@@ -63,7 +65,8 @@ impl<C: Exclusion> Station<C> {
         self.fetch_fated(from, pass).is_some()
     }
 
-    /// Delivers the parcel in hand, or else takes one from the link and delivers it.
+    /// Delivers the parcel in hand. If the hand is empty, takes a parcel from the link from node
+    /// `from`, and delivers it.
     ///
     /// # Errors
     ///

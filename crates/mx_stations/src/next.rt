@@ -1,5 +1,6 @@
-//! What each step shows to the seat that makes it. A `Play` cannot read the table's key, so the
-//! call picks the view after the step, and the slot of the step.
+//! What each kind of step shows to the seat that makes it (its `Play`). All this is for the proof.
+//! A `Play` cannot read the parameters of the table, so the call tells it, by a type `N`, the view
+//! of the seat after the step, the slot, or the number of nodes.
 
 ghost use Rattle.std.specs.Prelude.{◌≡◌, ℕ};
 ghost use Rattle.atomic_table.specs.Table.{rest};
@@ -12,7 +13,7 @@ use atomic_table::Play;
 use mx_nodelaws::Exclusion;
 use std::marker::{Brand, PhantomData};
 
-/// The view after a step, and the number of nodes.
+/// What a seat knows after a step, as a function of what it knew before, and the number of nodes.
 pub trait Next<V> {
     ghost after: { V → V };
 
@@ -25,7 +26,7 @@ impl<V> Next<V> for Brand {
     ghost count = { 0 };
 }
 
-/// An act: the parcels of the node go to nodes.
+/// The store of an act. It shows that the node's parcels are addressed to nodes of the cluster.
 pub struct Becomes<N> {
     of: PhantomData<N>,
 }
@@ -35,7 +36,7 @@ impl<C: Exclusion, N: Next<Knowledge<C>>> Play<Slot<C>, Knowledge<C>> for Become
         (now ≡ (N.after before.0, before.1)) × GoToNodes N.count now.0 };
 }
 
-/// A look, which shows that the parcel in hand can be taken.
+/// A read of a word, which shows that the member can take the parcel in hand.
 pub struct Looks<C> {
     of: PhantomData<C>,
 }
@@ -44,7 +45,7 @@ impl<C: Exclusion> Play<Slot<C>, Knowledge<C>> for Looks<C> {
     ghost then = { λ step before found now. (now ≡ before) × HandFits now.0 };
 }
 
-/// The number of nodes.
+/// The number of nodes, which the call tells the proof.
 pub trait OfCount {
     ghost count: { ℕ };
 }
@@ -53,7 +54,7 @@ impl OfCount for Brand {
     ghost count = { 0 };
 }
 
-/// A look, which shows that the nodes of the seat are nodes of one running world.
+/// A read of a word, which shows that the nodes of the seat are nodes of one running cluster.
 pub struct Learns<C, N> {
     of: PhantomData<(C, N)>,
 }
@@ -84,7 +85,7 @@ impl<C: Exclusion, N: OfSlot> Play<Slot<C>, Knowledge<C>> for TriesToClaim<N> {
     ghost then = { λ step before found now. TriesClaim N.slot before found now };
 }
 
-/// A look at a slot.
+/// A read of a slot's word.
 pub struct LooksAt<N> {
     of: PhantomData<N>,
 }
@@ -102,7 +103,7 @@ impl<C: Exclusion, N: OfSlot> Play<Slot<C>, Knowledge<C>> for TriesToTake<N> {
     ghost then = { λ step before found now. TriesTake N.slot N.from before found now };
 }
 
-/// The seat gives its slot back.
+/// The store by which a seat gives its slot back.
 pub struct Gives<N> {
     of: PhantomData<N>,
 }

@@ -1,5 +1,5 @@
-//! Waiting of a worker between two turns of its station. Nothing is proved about what it reads
-//! meanwhile.
+//! How a worker waits between two turns of its station. Nothing is proved about the words that it
+//! reads meanwhile.
 
 ghost use Rattle.std.specs.Prelude.{◌≡◌, ◌<◌};
 
@@ -11,35 +11,37 @@ use mx_nodelaws::Exclusion;
 use mx_stamps::NodeId;
 use std::thread::yield_now;
 
-/// How often at most a worker lets others run before its station may tick, for each node of its
-/// cluster and for `FEW` more.
+/// A worker lets other threads run at most this number of times before its station may tick, for
+/// each node of its cluster and for `FEW` more.
 const YIELDS: u32 = 3;
 
 /// Among few nodes a yield returns at once, so a worker waits as if there were this number of nodes
 /// more.
 const FEW: u32 = 8;
 
-/// The number of turns with an act due that a worker takes before it lets others run.
+/// The number of turns with an act due that a worker takes before it lets other threads run once.
 const ACTING_TURNS: u32 = 3;
 
-/// The waiting of a worker between two turns of its station, called after each turn.
+/// Decides how long a worker waits between two turns of its station. `wait` is called after each
+/// turn.
 ///
-/// A turn that finds nothing ticks, which sends all outstanding letters again. Letters on their way
-/// arrive anyway. So a worker first lets other threads run, until a parcel lies in a slot for its
-/// node, or its patience has run out. A tick and a new section renew its patience. A parcel does
-/// not: if a letter was lost, its sender gets the letters of all nodes that it holds up, again and
-/// again, and would never tick.
+/// A turn that finds no parcel ticks: it sends all outstanding letters again. Letters that are only
+/// on their way arrive without that. So a worker first lets other threads run, until a parcel lies
+/// in a slot for its node, or its patience has run out. A tick and a new section renew its
+/// patience. A parcel does not: a node that sent a lost letter gets letters of all nodes that wait
+/// for this node, again and again, and would never tick.
 ///
-/// Patience is counted in yields, so it lasts longer if the other threads do more. It does not grow
-/// from tick to tick, since the node that all others wait for may be one that has waited long.
+/// Patience is counted in yields (to let other threads run once is one), so it lasts longer if the
+/// other threads do more. It does not grow from tick to tick, since the node that all others wait
+/// for may be one that has waited long.
 #[derive(Clone, Copy, Debug, Default)]
 pub struct Patience {
-    /// The last section of its station at the last wait.
+    /// The number of the station's last section, as it was at the last wait.
     section: u64,
-    /// How many more times it lets others run before its station may tick.
+    /// How many more times the worker lets other threads run before its station may tick.
     left: u32,
-    /// How many turns with an act due it has taken since it last let others run after one, or since
-    /// its station entered a section.
+    /// The number of calls of `wait_a_little` since the last that let other threads run, or since
+    /// the station entered a section.
     turns: u32,
 }
 
@@ -49,8 +51,9 @@ impl Patience {
         Patience::default()
     }
 
-    /// Waits after a turn of the station, which gave this report. The wait is short if the next
-    /// turn has an act due in any case: the worker `acts`, or the station can enter or is inside.
+    /// Waits after a turn of the station that returned `report`. The wait is short if the next turn
+    /// has an act due even without a new parcel: `acts` says so, or the station can enter or is
+    /// inside.
     pub fn wait<C: Exclusion>(
         &mut self,
         station: &Station<C>,
@@ -65,7 +68,8 @@ impl Patience {
         }
     }
 
-    /// Renews the patience, if the station has ticked or entered a section.
+    /// Renews the patience if the turn of this report ticked, or the station has entered a section
+    /// since the last wait.
     fn renew<C: Exclusion>(
         &mut self,
         station: &Station<C>,
@@ -82,9 +86,10 @@ impl Patience {
         }
     }
 
-    /// Lets others run once in some turns. A node that is inside still lacks records, and each of
-    /// its turns asks another node for them. A reply has room for four records, so up to four
-    /// questions may be on their way at once.
+    /// Counts this call, and lets other threads run once `ACTING_TURNS` calls are counted. A node
+    /// that is still inside usually lacks records, and asks another node for them in each of its
+    /// turns. A reply has room for four records only, so several such questions may be on their way
+    /// at once.
     fn wait_a_little(&mut self) {
         self.turns = self.turns.saturating_add(1);
         if self.turns >= ACTING_TURNS {
@@ -93,8 +98,8 @@ impl Patience {
         }
     }
 
-    /// Lets others run until a parcel lies in a slot for the station's node, or patience has run
-    /// out. Does so at least once if no parcel lies there.
+    /// Lets other threads run until a parcel lies in a slot for the station's node, or the patience
+    /// has run out. Lets them run at least once if no parcel lies there at first.
     fn wait_for_mail<C: Exclusion>(&mut self, station: &Station<C>) {
         for _yield in 0..self.left.max(1) {
             self.left = self.left.saturating_sub(1);
@@ -106,7 +111,7 @@ impl Patience {
     }
 }
 
-/// Returns whether a turn ticked.
+/// Returns whether the turn of this report ticked.
 fn has_ticked(report: &Result<TurnReport, TakeFault>) -> bool {
     matches!(report, Ok(TurnReport { ticked: true, .. }))
 }
@@ -123,7 +128,7 @@ fn has_mail<C: Exclusion>(station: &Station<C>) -> bool {
     false
 }
 
-/// Returns whether a parcel lies in a slot of the link from this node.
+/// Returns whether a parcel lies in a slot of the link from node `from` to the station's node.
 fn has_mail_from<C: Exclusion>(station: &Station<C>, from: NodeId) -> bool
     requires { from < station.now.nodes }
 {

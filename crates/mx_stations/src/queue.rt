@@ -1,4 +1,4 @@
-//! The waiting parcels of a station, first come first.
+//! The queue of a station's parcels that wait to be put out into slots.
 
 ghost use Rattle.std.specs.Prelude.{◌≡◌, ◌++◌, ◌<◌, [], ◌∷◌, IfNone, IfSome, OnSome};
 ghost use Rattle.arrayvec.specs.ArrayVec.{array_vec_len};
@@ -12,10 +12,10 @@ use mx_stamps::NodeId;
 /// The greatest number of waiting parcels in a station.
 pub const WAITING_ROOM: usize = 64;
 
-/// Parcels with their addressees.
+/// The waiting parcels of a station, each with its addressee.
 pub(crate) type Waiting<M> = ArrayVec<(NodeId, Parcel<M>), WAITING_ROOM>;
 
-/// Appends the parcels of an outbox, as far as there is room.
+/// Appends the parcels of an outbox. Those for which there is no room are lost.
 pub(crate) fn store_up<M: Copy + Default>(waiting: &mut Waiting<M>, out: &Outbox<Parcel<M>>)
     ensures { waiting.new.items ≡ waiting_after waiting.old.items out.now }
 {
@@ -28,7 +28,7 @@ pub(crate) fn store_up<M: Copy + Default>(waiting: &mut Waiting<M>, out: &Outbox
     }
 }
 
-/// Removes and returns the first parcel.
+/// Removes and returns the first parcel, with its addressee.
 pub(crate) fn take_first<M: Copy + Default>(waiting: &mut Waiting<M>) -> Option<(NodeId, Parcel<M>)>
     ensures first { IfSome result (λ x. waiting.old.items ≡ x ∷ waiting.new.items) }
     ensures room { OnSome result (array_vec_len waiting.new < WAITING_ROOM) }

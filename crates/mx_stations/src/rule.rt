@@ -1,4 +1,5 @@
-//! The rule over the table, the knowledge of its seats, and how a seat hands nodes on.
+//! The rule that the table keeps between steps, what its seats know, and how a seat hands nodes on.
+//! All this but `Setup` and `Slot` is for the proof.
 
 ghost use Rattle.std.specs.Prelude.{[], ◌++◌};
 ghost use Rattle.mx_member.specs.Steps.{start_of};
@@ -27,8 +28,8 @@ pub struct Setup<H> {
 /// The contents of a slot.
 pub type Slot<C> = Option<Parcel<<C as Exclusion>::Msg>>;
 
-/// The knowledge of a seat: its nodes, each with its member, its receipts and its parcels. No value
-/// of it exists at run time.
+/// What a seat knows: its nodes, each with its member, receipts and parcels. No value of this type
+/// exists at run time.
 pub struct Knowledge<C: Exclusion> {
     of: PhantomData<C>,
 }
@@ -42,7 +43,7 @@ impl<C: Exclusion> Model for Knowledge<C> {
     ghost view = { λ _. [] };
 }
 
-/// Between any two steps the nodes of all seats are a cluster.
+/// The rule of a table: between any two steps, the nodes of all its seats are a running cluster.
 pub struct Law<C> {
     of: PhantomData<C>,
 }
@@ -54,7 +55,7 @@ impl<C: Exclusion> TableRule<Slot<C>, Knowledge<C>, Setup<C::Shape>> for Law<C> 
         (λ i. fresh i (start_of C.core setup.shape i setup.origin setup.limit setup.registers)) };
 }
 
-/// A seat hands its first node on.
+/// How a seat is split: it hands its first node on to the new seat.
 pub struct HandOn;
 
 impl<C: Exclusion> Split<Knowledge<C>> for HandOn {
@@ -63,7 +64,7 @@ impl<C: Exclusion> Split<Knowledge<C>> for HandOn {
     ghost right = { λ v. only_first v };
 }
 
-/// A seat takes all nodes of another, in front of those that it has.
+/// How two seats are joined: one takes all nodes of the other, in front of its own.
 pub struct TakeIn;
 
 impl<C: Exclusion> Join<Knowledge<C>> for TakeIn {

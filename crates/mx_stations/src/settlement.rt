@@ -1,5 +1,5 @@
-//! A worker that settles: from time to time it replaces the records that its station has without
-//! gaps by registers.
+//! A worker that settles: from time to time, the values of the registers replace the records of the
+//! first sections in its station's journal, up to the first gap.
 
 ghost use Rattle.std.specs.Prelude.{◌≡◌, ◌≤◌, ◌↔◌, ℕ, length, IsTrue};
 ghost use Rattle.mx_nodelaws.specs.Core.{IsInside};
@@ -12,9 +12,10 @@ use crate::worker::{Gate, Script, Worked, WorkerState, is_finished, take_turn};
 use mx_letters::Fates;
 use mx_nodelaws::Exclusion;
 
-/// Works as `work` does, and settles. It does so in a turn in which the station leaves a section,
-/// if `every` divides the number of sections it has left. Then registers replace the records of all
-/// sections that its journal covers without gaps. With 0 it never settles.
+/// Does the work of `work`, and settles. The station settles at the end of a turn in which it left
+/// a section, if `every` divides the number of sections that it has left. Then the values of the
+/// registers replace the records of all sections before the first that its journal lacks. If
+/// `every` is 0, the station never settles.
 pub fn work_settling<C: Exclusion, G: Gate, F: Fates + Drop>(
     mut station: Station<C>,
     script: Script,
@@ -40,6 +41,7 @@ pub fn work_settling<C: Exclusion, G: Gate, F: Fates + Drop>(
     (station, worked)
 }
 
+/// Does the work of `work_settling` on a borrowed station, and returns how the worker ended.
 fn settle_on<C: Exclusion, G: Gate, F: Fates>(
     station: &mut Station<C>,
     script: &Script,
@@ -77,9 +79,10 @@ fn settle_on<C: Exclusion, G: Gate, F: Fates>(
     Worked::NotYet(turns)
 }
 
-/// Settles all sections that the journal covers without gaps, if that is due. It is due if a
-/// section was left since the station had `before` receipts, and `every` divides the number of
-/// receipts now. With 0 it never is. A worker calls it at the end of each of its turns.
+/// Settles all sections before the first that the journal lacks, if that is due. It is due if the
+/// station has more receipts than `before`, their number when the turn began, and `every` divides
+/// their number now. If `every` is 0, it is never due. A worker calls this at the end of each of
+/// its turns.
 pub fn settle_if_due<C: Exclusion>(station: &mut Station<C>, before: usize, every: u64)
     ensures { SettlesIfDue C.core every before station.old station.new }
 {
@@ -89,7 +92,8 @@ pub fn settle_if_due<C: Exclusion>(station: &mut Station<C>, before: usize, ever
     }
 }
 
-/// Returns whether there are more receipts `now` than `before`, and `every` divides their number.
+/// Returns whether there are more receipts `now` than `before`, and `every` is not 0 and divides
+/// their number `now`.
 fn is_due(before: usize, now: usize, every: u64) -> bool
     ensures { IsTrue result ↔ IsDue every before now }
 {

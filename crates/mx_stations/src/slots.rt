@@ -1,6 +1,6 @@
-//! The crossing of a parcel through a slot. The sender claims the slot and gives it back filled;
-//! the receiver takes it and gives it back empty. Each is one try at one of the four slots of a
-//! link.
+//! How a parcel crosses a link, through one of its four slots. The sender claims an empty slot and
+//! gives it back filled; the receiver takes a filled slot and gives it back empty. Each call tries
+//! a slot once, and does not wait.
 
 ghost use Rattle.std.specs.Prelude.{◌≡◌, ◌⊎◌, ℕ, ◌+◌, ◌*◌, ◌<◌, List, [], ◌∷◌, Option, Some, None, IfNone, IfSome};
 ghost use Rattle.mx_member.specs.declared.parcel.Parcel.{Parcel as OneParcel};
@@ -38,7 +38,7 @@ pub(crate) struct Link {
     pub(crate) to: NodeId,
 }
 
-/// Returns the place of a slot of the link.
+/// Returns the place, among all slots of the table, of the link's slot with this index (0 to 3).
 fn slot_of<C: Exclusion>(field: &Field<C>, link: &Link, index: u8) -> usize
     requires link { IsLink field.now.nodes link.now }
     requires index { index < SLOTS }
@@ -49,6 +49,7 @@ fn slot_of<C: Exclusion>(field: &Field<C>, link: &Link, index: u8) -> usize
     place * SLOTS as usize + index as usize
 }
 
+/// Makes the atomic step of `claim`. By `N` the call tells the proof which slot it is.
 fn claim_as<C: Exclusion, N: OfSlot>(
     field: &Field<C>,
     seat: &mut SeatOf<C>,
@@ -71,6 +72,8 @@ fn claim_as<C: Exclusion, N: OfSlot>(
         .compare_exchange::<TriesToClaim<N>>(seat, field.nodes as usize + slot, EMPTY, CLAIMED)
 }
 
+/// Tries once to claim the link's slot of this index. Returns the word found: `EMPTY` if the slot
+/// is claimed now.
 fn claim<C: Exclusion>(field: &Field<C>, seat: &mut SeatOf<C>, link: &Link, index: u8) -> u64
     requires link { IsLinkAt seat.old.table_id field.now.board.shared.table_id field.now.nodes
         link.now }
@@ -83,7 +86,8 @@ fn claim<C: Exclusion>(field: &Field<C>, seat: &mut SeatOf<C>, link: &Link, inde
     claim_as::<C, Brand>(field, seat, link, index)
 }
 
-/// Tries the slots of the link in order, and claims the first that is empty.
+/// Tries the slots of the link in order, and claims the first that is empty. Returns its index, or
+/// `None` if no slot was empty.
 pub(crate) fn claim_empty<C: Exclusion>(
     field: &Field<C>,
     seat: &mut SeatOf<C>,
@@ -106,7 +110,7 @@ pub(crate) fn claim_empty<C: Exclusion>(
     None
 }
 
-/// Puts the parcel into the slot that the seat holds, and gives the slot back.
+/// Does the work of `place`. By `N` the call tells the proof what the seat knows after it.
 fn place_as<C: Exclusion, N: Next<Knowledge<C>>>(
     field: &Field<C>,
     seat: &mut SeatOf<C>,
@@ -134,6 +138,7 @@ fn place_as<C: Exclusion, N: Next<Knowledge<C>>>(
     shared.store::<Gives<N>>(seat, field.nodes as usize + slot, FILLED);
 }
 
+/// Puts the parcel into the slot that the seat has claimed, and gives the slot back filled.
 pub(crate) fn place<C: Exclusion>(
     field: &Field<C>,
     seat: &mut SeatOf<C>,
@@ -153,8 +158,9 @@ pub(crate) fn place<C: Exclusion>(
     place_as::<C, Brand>(field, seat, link, index, parcel);
 }
 
-/// Tries once to take the slot. It reads the word first, since a read of an empty slot leaves the
-/// word in the caches of all readers.
+/// Does the work of `grab`. It reads the word first, since a read of an empty slot, unlike an
+/// exchange, leaves the word in the caches of all readers. By `N` the call tells the proof which
+/// slot it is.
 fn grab_as<C: Exclusion, N: OfSlot>(
     field: &Field<C>,
     seat: &mut SeatOf<C>,
@@ -179,6 +185,8 @@ fn grab_as<C: Exclusion, N: OfSlot>(
     shared.compare_exchange::<TriesToTake<N>>(seat, field.nodes as usize + slot, FILLED, TAKEN)
 }
 
+/// Tries once to take the link's slot of this index. Returns the word found: `FILLED` if the slot
+/// is taken now.
 fn grab<C: Exclusion>(field: &Field<C>, seat: &mut SeatOf<C>, link: &Link, index: u8) -> u64
     requires link { IsLinkAt seat.old.table_id field.now.board.shared.table_id field.now.nodes
         link.now }
@@ -191,7 +199,8 @@ fn grab<C: Exclusion>(field: &Field<C>, seat: &mut SeatOf<C>, link: &Link, index
     grab_as::<C, Brand>(field, seat, link, index)
 }
 
-/// Tries the slots of the link in order, and takes the first that is filled.
+/// Tries the slots of the link in order, and takes the first that is filled. Returns its index, or
+/// `None` if no slot was filled.
 pub(crate) fn grab_filled<C: Exclusion>(
     field: &Field<C>,
     seat: &mut SeatOf<C>,
@@ -214,7 +223,7 @@ pub(crate) fn grab_filled<C: Exclusion>(
     None
 }
 
-/// Takes the parcel out of the slot that the seat holds.
+/// Removes and returns the parcel of the slot that the seat has taken.
 pub(crate) fn lift<C: Exclusion>(
     field: &Field<C>,
     seat: &mut SeatOf<C>,
@@ -235,7 +244,7 @@ pub(crate) fn lift<C: Exclusion>(
     field.board.shared.exchange(seat, slot, None).unwrap()
 }
 
-/// Gives the emptied slot back. The parcel remains in hand, or is thrown away.
+/// Does the work of `release`. By `N` the call tells the proof what the seat knows after it.
 fn release_as<C: Exclusion, N: Next<Knowledge<C>>>(
     field: &Field<C>,
     seat: &mut SeatOf<C>,
@@ -260,6 +269,8 @@ fn release_as<C: Exclusion, N: Next<Knowledge<C>>>(
         .store::<Gives<N>>(seat, field.nodes as usize + slot, EMPTY);
 }
 
+/// Gives back the taken slot, which is empty now. Only the proof uses `hand`: the parcel of the
+/// slot with its sender, or `None` if the parcel was thrown away.
 pub(crate) fn release<C: Exclusion>(
     field: &Field<C>,
     seat: &mut SeatOf<C>,
@@ -279,7 +290,7 @@ pub(crate) fn release<C: Exclusion>(
     release_as::<C, Brand>(field, seat, link, index, hand);
 }
 
-/// Returns whether a parcel lies in a slot of the link. Nothing is proved about it.
+/// Returns whether a parcel lies in a slot of the link. Nothing is proved about the result.
 pub(crate) fn has_filled<C: Exclusion>(field: &Field<C>, link: &Link) -> bool
     requires { IsLink field.now.nodes link.now }
 {

@@ -16,10 +16,11 @@ use std::alloc::Global;
 use std::marker::Model;
 use std::sync::Arc;
 
-/// A node that a thread may own. At most 64 parcels wait in it; further ones are lost, as in a
-/// network.
+/// A node of a cluster, as a value that a thread may own. At most 64 of its parcels wait to be put
+/// out; further ones are lost, as in a network.
 #[derive(Drop)]
 pub struct Station<C: Exclusion> {
+    /// The table that all stations of the cluster share.
     pub(crate) field: Arc<Field<C>, Global>,
     pub(crate) seat: SeatOf<C>,
     pub(crate) node: NodeId,
@@ -29,6 +30,7 @@ pub struct Station<C: Exclusion> {
     pub(crate) receipts: Vec<Receipt>,
     /// The parcels of one act before they join the waiting ones.
     pub(crate) out: Outbox<Parcel<C::Msg>>,
+    /// The parcels that wait to be put out.
     pub(crate) waiting: Waiting<C::Msg>,
 }
 
@@ -90,15 +92,15 @@ impl<C: Exclusion> Station<C> {
         self.member.mine()
     }
 
-    /// Returns the journal of the sections that it knows.
+    /// Returns the journal of the sections that this node knows.
     pub fn journal(&self) -> &Journal
         ensures { result.now ≡ self.now.me.member.journal }
     {
         self.member.journal()
     }
 
-    /// Returns the value of a register after all sections that it knows, which may lack earlier
-    /// ones. Returns `None` if there is no such register.
+    /// Returns the value of a register after the sections that this node knows; it may lack earlier
+    /// ones among them. Returns `None` if there is no such register.
     pub fn value(&self, register: u8) -> Option<u64>
         ensures { result ≡ value_in register
             (registers_in self.now.me.member.setting.registers self.now.me.member.journal) }

@@ -1,5 +1,5 @@
-//! What stations of one table show together. Reading changes nothing: it shows what the rule of the
-//! table says about the nodes in view.
+//! What the stations of one table show about its nodes. These calls read a word of the table and
+//! change nothing; the proof learns from the read what the rule of the table says about the nodes.
 
 ghost use Rattle.std.specs.Prelude.{◌≡◌, ◌≢◌, ◌%◌, ◌<◌, ◌++◌, [], ◌∷◌};
 ghost use Rattle.mx_journal.specs.Settled.{DoAgree};
@@ -17,7 +17,7 @@ use mx_nodelaws::Exclusion;
 use mx_stamps::NodeId;
 use std::marker::{Brand, PhantomData};
 
-/// A look at the word of a node.
+/// A read of a node's status word.
 pub struct Sees<C, N> {
     of: PhantomData<(C, N)>,
 }
@@ -27,7 +27,7 @@ impl<C: Exclusion, N: OfCount> Play<Slot<C>, Knowledge<C>> for Sees<C, N> {
         × ShowsNode C.core C.Good N.count step.word found now.0 };
 }
 
-/// Reads the word of a node; the call picks the number of nodes.
+/// Does the work of `see`. By `N` the call tells the proof the number of nodes.
 fn see_as<C: Exclusion, N: OfCount>(field: &Field<C>, seat: &mut SeatOf<C>, node: u8) -> u64
     requires table { seat.old.table_id ≡ field.now.board.shared.table_id }
     requires within { node < field.now.nodes }
@@ -38,7 +38,8 @@ fn see_as<C: Exclusion, N: OfCount>(field: &Field<C>, seat: &mut SeatOf<C>, node
     field.board.shared.load::<Sees<C, N>>(seat, node as usize)
 }
 
-/// Reads the word of a node, which shows a fact about the nodes in view.
+/// Returns the status word of a node. The proof learns from the read that the nodes of the seat are
+/// nodes of one running cluster, in which the node has this word.
 fn see<C: Exclusion>(field: &Field<C>, seat: &mut SeatOf<C>, node: u8) -> u64
     requires table { seat.old.table_id ≡ field.now.board.shared.table_id }
     requires within { node < field.now.nodes }
@@ -48,7 +49,8 @@ fn see<C: Exclusion>(field: &Field<C>, seat: &mut SeatOf<C>, node: u8) -> u64
     see_as::<C, Brand>(field, seat, node)
 }
 
-/// Reads a word with two seats of one node each as one.
+/// Joins two seats, of one node each, for the read of a word, and splits them again. The proof
+/// learns from the read that both are nodes of one running cluster.
 fn see_both<C: Exclusion>(field: &Field<C>, one: &mut SeatOf<C>, other: &mut SeatOf<C>)
     requires table { one.old.table_id ≡ field.now.board.shared.table_id }
     requires same_table { other.old.table_id ≡ one.old.table_id }
@@ -80,8 +82,8 @@ impl<C: Exclusion> Station<C> {
         see(&self.field, &mut self.seat, node.get())
     }
 
-    /// Shows that two stations of one table are different nodes of one cluster, and not both
-    /// inside. Changes nothing.
+    /// Shows to the caller's proof that two stations of one table are different nodes of one
+    /// cluster, and not both inside. Changes nothing.
     pub fn apart(&mut self, other: &mut Station<C>)
         requires { self.old.table ≡ other.old.table }
         ensures same { (self.new ≡ self.old) × (other.new ≡ other.old) }

@@ -1,5 +1,5 @@
-//! A turn of a station: parcels for it come in, waiting parcels go out, and its clock ticks if
-//! there were none.
+//! A turn of a station: it takes parcels in, puts waiting parcels out, and ticks if it took none
+//! and none waits.
 
 ghost use Rattle.std.specs.Prelude.{◌≡◌, ◌≢◌, ◌<◌, ◌≤◌, ◌==◌, ◌&&◌, [], ◌∷◌, IfOk, IfSome, List, MatchBool, MatchOption, None, OnErr, OnOk, Option, length};
 ghost use Rattle.mx_letters.specs.declared.fates.Fate.{Fate as TheFate};
@@ -22,7 +22,8 @@ use mx_member::Parcel;
 use mx_nodelaws::Exclusion;
 use mx_stamps::NodeId;
 
-/// Returns the contents of the hand after a parcel with this fate.
+/// Returns the contents of the hand after a parcel with this fate was taken: the parcel with its
+/// sender, or nothing if the fate is `Drop`.
 fn hand_of<M: Copy + Default>(
     fate: Fate,
     from: NodeId,
@@ -36,9 +37,9 @@ fn hand_of<M: Copy + Default>(
     }
 }
 
-/// Takes the parcel out of the slot that the seat has taken, and gives the slot back. Puts the
-/// parcel into the hand, or throws it away, by its fate. It is a separate function, so that a link
-/// without a parcel needs no room for one.
+/// Removes the parcel from the slot that the seat has taken, gives the slot back, and returns the
+/// parcel's fate, which `ask` gives. Puts the parcel into the hand, or throws it away if the fate
+/// is `Drop`. It is a separate function, so that a link without a parcel needs no room for one.
 #[inline(never)]
 fn lift_fated<C: Exclusion, A: FnOnce() -> Fate>(
     field: &Field<C>,
@@ -84,8 +85,9 @@ impl<C: Exclusion> Station<C> {
         self.deliver_as(true)
     }
 
-    /// Takes one parcel from the link into the empty hand, or throws it away, by its fate. The fate
-    /// is drawn once the parcel is taken.
+    /// Takes one parcel from the link from node `from`, if there is one, and returns its fate.
+    /// `ask` draws the fate once the parcel is taken. The parcel goes into the empty hand, or is
+    /// thrown away if its fate is `Drop`.
     pub(crate) fn fetch_fated<A: FnOnce() -> Fate>(&mut self, from: NodeId, ask: A) -> Option<Fate>
         requires within { from < self.old.nodes }
         requires empty { self.old.me.hand ≡ None }
@@ -104,7 +106,8 @@ impl<C: Exclusion> Station<C> {
         Some(fate)
     }
 
-    /// Takes one parcel from the link and delivers it as often as its fate says.
+    /// Takes one parcel from the link from node `from`, if there is one, and delivers it as often
+    /// as its fate says. Returns this fate.
     fn take_fated<F: Fates>(
         &mut self,
         from: NodeId,
@@ -125,7 +128,7 @@ impl<C: Exclusion> Station<C> {
         Ok(Some(fate))
     }
 
-    /// Delivers the parcel in hand a first time, if its fate is to be delivered twice.
+    /// Delivers the parcel in hand a first time if its fate is `Twice`. The parcel remains in hand.
     fn deliver_more(&mut self, fate: Fate) -> Result<(), TakeFault>
         ensures more { OnOk result ((fate ≡ Twice → self.old.me.hand ≢ None)
             → DeliversMore C.core fate self.old self.new) }
@@ -139,7 +142,8 @@ impl<C: Exclusion> Station<C> {
         Ok(())
     }
 
-    /// Tries once to take a parcel from each node, in order.
+    /// Tries once to take a parcel from each node, in order, delivers it as its fate says, and
+    /// counts it in `report`.
     fn take_each<F: Fates>(
         &mut self,
         fates: &mut F,
@@ -163,7 +167,7 @@ impl<C: Exclusion> Station<C> {
         Ok(())
     }
 
-    /// Tries `put_out` once for each waiting parcel.
+    /// Calls `put_out` once for each waiting parcel, and counts the results in `report`.
     fn put_each(&mut self, report: &mut TurnReport)
         requires few { (report.old.put ≡ 0) × (report.old.full ≡ 0) }
         ensures put { (puts : List ThePutOut) × PutsEach C.core puts self.old self.new
@@ -176,9 +180,10 @@ impl<C: Exclusion> Station<C> {
         }
     }
 
-    /// Delivers the parcel in hand, takes and delivers one parcel from each node, and tries to put
-    /// out each parcel that waits then. A taken parcel is delivered as its fate says. If none was
-    /// taken and none waits, the clock ticks.
+    /// Takes a turn: delivers the parcel in hand, takes at most one parcel from each node, and
+    /// tries once to put out each parcel that waits then. A taken parcel is delivered as often as
+    /// its fate, from `fates`, says. If no parcel was in hand or taken, and none waits, the node
+    /// ticks (sends all outstanding letters again).
     ///
     /// # Errors
     ///
@@ -196,7 +201,7 @@ impl<C: Exclusion> Station<C> {
         Ok(report)
     }
 
-    /// Ticks if a turn took nothing and nothing waits, and returns whether it did.
+    /// Ticks if the turn took no parcel (`taken` is 0) and none waits. Returns whether it ticked.
     fn tick_if_idle(&mut self, taken: u32) -> bool
         ensures ends { MatchBool result (self.new ≡ does C.core Tick self.old)
             (self.new ≡ self.old) }
@@ -211,7 +216,7 @@ impl<C: Exclusion> Station<C> {
     }
 }
 
-/// Returns whether a turn took nothing and nothing waits.
+/// Returns whether a turn took no parcel and no parcel waits.
 fn is_idle(taken: u32, waiting: usize) -> bool
     ensures { result ≡ ((taken == 0) && (waiting == 0)) }
 {

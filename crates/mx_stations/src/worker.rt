@@ -14,13 +14,13 @@ use mx_member::ReadFault;
 use mx_nodelaws::{Exclusion, Phase};
 use mx_stamps::NodeId;
 
-/// When workers may start, and when they may stop. Both calls may wait for other workers.
+/// Decides when workers may start, and when they may stop. Both calls may wait for other workers.
 pub trait Gate {
     /// Returns whether the worker of this node may start. Called once, before the first act.
     fn arrive(&self, node: NodeId) -> bool;
 
-    /// Returns whether the worker of this node, which has its sections, may stop. Called on each
-    /// turn.
+    /// Returns whether the worker of this node may stop. Called at the end of each turn, once the
+    /// node has left all its sections.
     fn done(&self, node: NodeId) -> bool;
 }
 
@@ -36,11 +36,11 @@ pub struct Script {
 /// How a worker ended.
 #[derive(Clone, Copy, Debug, PartialEq, Eq)]
 pub enum Worked {
-    /// The station has its sections, and the gate let it stop.
+    /// The station has left all its sections, and the gate let the worker stop.
     Done,
-    /// All turns were made; their number.
+    /// The worker made all its turns, of this number, before it could stop.
     NotYet(u64),
-    /// The gate did not let it start.
+    /// The gate did not let the worker start.
     GateShut,
 }
 
@@ -53,16 +53,18 @@ pub(crate) struct WorkerState {
     pub(crate) patience: Patience,
 }
 
-/// Waits at the gate, then works at the station for at most `turns` turns.
+/// Waits at the gate, then takes the station through the sections of `script`, in at most `turns`
+/// turns.
 ///
-/// In each turn the acts that are due come first. It asks if it is idle and lacks sections, and
-/// enters if it can. Inside it reads the register and writes 1 more, or asks the next node in the
-/// circle for missing records. It leaves once it has written. Then the station takes a turn, by
-/// these fates of parcels.
+/// In each turn the acts that are due come first. The node asks if it is idle and has sections to
+/// make, and enters if it can. Inside, it reads the register and writes 1 more, or asks the next
+/// node in cyclic order for records that its journal lacks. It leaves once it has written. Then the
+/// station takes a turn, in which parcels have these fates.
 ///
-/// A station that starts idle leaves no more sections than it was asked for, unless it had more
-/// before. The worker waits only if its gate waits. The station must not be inside. If there is no
-/// such register, the worker never leaves its first section.
+/// A station that starts idle leaves no more sections than the script says, unless it had left more
+/// before. The worker waits only in the gate and, a bounded number of times, between turns. The
+/// station must not be inside at the start. If the register does not exist, the worker never leaves
+/// its first section.
 pub fn work<C: Exclusion, G: Gate, F: Fates + Drop>(
     station: Station<C>,
     script: Script,
@@ -85,7 +87,7 @@ pub fn work<C: Exclusion, G: Gate, F: Fates + Drop>(
     work_settling(station, script, 0, gate, fates, turns)
 }
 
-/// Returns whether the station has this many sections, and is not inside another.
+/// Returns whether the station has left `sections` sections or more, and is not inside another.
 pub(crate) fn is_finished<C: Exclusion>(station: &Station<C>, sections: u64) -> bool
     ensures enough { IsTrue result → sections ≤ length station.now.me.receipts }
     ensures outside { IsTrue result → IsInside C.core station.now.me.member.core → ⊥ }
@@ -96,15 +98,16 @@ pub(crate) fn is_finished<C: Exclusion>(station: &Station<C>, sections: u64) -> 
     has_sections(station, sections)
 }
 
-/// Returns whether the station has this many sections.
+/// Returns whether the station has left `sections` sections or more.
 fn has_sections<C: Exclusion>(station: &Station<C>, sections: u64) -> bool
     ensures { IsTrue result ↔ (sections ≤ length station.now.me.receipts) }
 {
     station.receipts().len() as u64 >= sections
 }
 
-/// Performs the acts that are due, and takes a turn of the station. An act that is not due is
-/// refused, which changes nothing. A turn in which memory runs out counts too.
+/// Performs the acts that are due, lets the station take a turn, and then waits by the worker's
+/// patience. An act that is tried before it is due is refused, which changes nothing. A turn in
+/// which memory runs out counts too.
 pub(crate) fn take_turn<C: Exclusion, F: Fates>(
     station: &mut Station<C>,
     script: &Script,
@@ -124,12 +127,14 @@ pub(crate) fn take_turn<C: Exclusion, F: Fates>(
     stance.patience.wait(station, &report, asks);
 }
 
-/// Returns whether the next turn asks: the node is idle and lacks sections.
+/// Returns whether the next turn asks for a section: the node is idle, and has left fewer than
+/// `sections`.
 fn is_to_ask<C: Exclusion>(station: &Station<C>, sections: u64) -> bool {
     matches!(station.phase(), Phase::Idle) && !has_sections(station, sections)
 }
 
-/// Asks if sections are lacking.
+/// Asks for a section if the station has left fewer than `sections`. The member refuses if the node
+/// is not idle.
 fn ask_if_due<C: Exclusion>(station: &mut Station<C>, sections: u64)
     ensures none { (register : ℕ) → LeavesNone C.core register station.old station.new }
     ensures within { IsWithin C.core sections station.old → IsWithin C.core sections station.new }
@@ -139,7 +144,8 @@ fn ask_if_due<C: Exclusion>(station: &mut Station<C>, sections: u64)
     }
 }
 
-/// Reads the register and writes 1 more, or asks for missing records, if nothing is written yet.
+/// Reads the register and writes 1 more, or asks another node for missing records. Does nothing if
+/// the node is not inside, or has written in its section already.
 fn add_if_due<C: Exclusion>(station: &mut Station<C>, register: u8, stance: &mut WorkerState)
     ensures none { LeavesNone C.core register station.old station.new }
     ensures within { (most : ℕ) → IsWithin C.core most station.old
@@ -159,7 +165,7 @@ fn add_if_due<C: Exclusion>(station: &mut Station<C>, register: u8, stance: &mut
     }
 }
 
-/// Asks the next node in the circle for missing records.
+/// Asks a node for missing records: in cyclic order, the one after the node asked last.
 fn want_next<C: Exclusion>(station: &mut Station<C>, stance: &mut WorkerState)
     ensures none { (register : ℕ) → LeavesNone C.core register station.old station.new }
     ensures within { (most : ℕ) → IsWithin C.core most station.old
@@ -178,7 +184,7 @@ fn count_of<C: Exclusion>(station: &Station<C>) -> u8
     station.field.nodes
 }
 
-/// Returns the next node, in cyclic order.
+/// Returns the node after `node`, in cyclic order of `nodes` nodes.
 fn node_after(node: NodeId, nodes: u8) -> NodeId
     requires { 0 < nodes }
     ensures { result < nodes }

@@ -3,7 +3,7 @@ use Rattle.std.specs.Prelude.{ℕ, List, Option, Some, None, codes}
 use Rattle.mx_trace.specs.declared.outcome.Cause.{Cause}
 use Rattle.mx_trace.specs.declared.outcome.Cause.TheVariants.{NotIdle, StampsSpent, NotWaiting, NotGranted, NumbersSpent, NotInside, NoRegister, Gap, Full, Below}
 
--- its words, without the number of a gap or a base
+-- the words for the cause, without the number of a gap or a base
 abbrev pub cause_words : Cause → List ℕ
 cause_words NotIdle = codes "not idle"
 cause_words StampsSpent = codes "stamps spent"
@@ -16,7 +16,7 @@ cause_words (Gap n) = codes "gap"
 cause_words Full = codes "full"
 cause_words (Below n) = codes "below"
 
--- the number of a gap or a base
+-- the number in the cause: of a gap or a base; none for any other cause
 abbrev pub cause_number : Cause → Option ℕ
 cause_number (Gap n) = Some n
 cause_number (Below n) = Some n

@@ -1,5 +1,6 @@
--- Sections: the sections of a history. Serial: when a history is serial. Trace: properties of a
--- trace by itself. Causes: the words for the cause of a refusal.
+-- Sections: marks (what events do in sections), and the sections that marks make. Serial: when
+-- sections follow one another. Trace: properties of a trace. Causes: the words for the cause of a
+-- refusal.
 pub mod Sections
 pub mod Serial
 pub mod Trace

@@ -1,4 +1,4 @@
--- When the sections of a history follow one another.
+-- When the sections that marks make follow one another.
 use Rattle.std.specs.Prelude.{ℕ, suc, ◌≡◌, ◌≤◌, ◌++◌, true, false, List, [], ◌∷◌, Option, Some, None, length, take}
 use Rattle.mx_stamps.specs.Lists.{IsIn}
 use Rattle.mx_journal.specs.declared.records.Write.{Write}
@@ -15,14 +15,14 @@ abbrev pub IsInNewest : ℕ → List Section → Type 0
 IsInNewest i [] = ⊥
 IsInNewest i (s ∷ ss) = (s.node ≡ i) × (s.closed ≡ false)
 
--- node i is inside the newest section, and n is its number: the number of sections
+-- node i is inside the newest section, whose number n is the number of sections
 abbrev pub IsInSection : ℕ → ℕ → List Section → Type 0
 IsInSection i n ss = IsInNewest i ss × (n ≡ length ss)
 
--- when a mark fits these sections. An entry comes after all of them were left, and has the next
--- number. A read is by the node inside, and its value is the register's after all writes so far, in
--- order of entry. A write is by the node inside. A receipt is that of the newest section, by the
--- node inside
+-- the mark fits these sections. At an entry, all of them are closed, and the entry has the next
+-- number. At a read or a write, the node is inside; the value read is that of the register after
+-- all writes so far, in order of entry. At an exit, the node is inside, and the receipt is that of
+-- the newest section. A restart always fits
 abbrev pub Fits : List Section → Mark → Type 0
 Fits ss (Came i n) = AllClosed ss × (n ≡ suc (length ss))
 Fits ss (Got i register value) = IsInNewest i ss × (value ≡ applied register (writes_in ss) 0)
@@ -32,27 +32,27 @@ Fits (s ∷ ss) (Went i receipt) =
     IsInNewest i (s ∷ ss) × (receipt ≡ section_receipt (suc (length ss)) s)
 Fits ss (Woke i) = Unit {0}
 
--- each mark fits those before it
+-- each mark fits the sections that there are after the marks before it
 abbrev pub AllFit : List Section → List Mark → Type 0
 AllFit ss [] = Unit {0}
 AllFit ss (m ∷ ms) = Fits ss m × AllFit (after_mark ss m) ms
 
--- the read has the register's value after the writes before its section and the section's own
--- before it
+-- the value read is that of the register after the writes before the section, and those writes of
+-- the section that come before the read
 abbrev pub IsSerialRead : List Write → List Write → Read → Type 0
 IsSerialRead before writes read =
     (read.after ≤ length writes)
     × (read.value ≡ applied read.register (before ++ take read.after writes) 0)
 
--- each read of each section has such a value
+-- each value read in each section is that of the register after all earlier writes
 abbrev pub ReadSerially : List Section → Type 0
 ReadSerially [] = Unit {0}
 ReadSerially (s ∷ ss) =
     ((x : Read) → IsIn x s.draft.reads → IsSerialRead (writes_in ss) s.draft.writes x)
     × ReadSerially ss
 
--- from a moment at which nobody is inside, or this node with this number: entries and exits
--- alternate. Each exit has the node and the number of the entry before it
+-- entries and exits alternate, and each exit has the node and the number of the entry before it.
+-- `inside` is the node inside at first, with its section's number; None if nobody is
 abbrev pub Alternate : Option (ℕ × ℕ) → List Mark → Type 0
 Alternate inside [] = Unit {0}
 Alternate None (Came i n ∷ ms) = Alternate (Some (i, n)) ms
@@ -63,7 +63,7 @@ Alternate inside (Got i register value ∷ ms) = Alternate inside ms
 Alternate inside (Wrote i register value ∷ ms) = Alternate inside ms
 Alternate inside (Woke i ∷ ms) = Alternate inside ms
 
--- the entries have the numbers from `next` on
+-- the entries have the numbers `next`, `next + 1` and so on, in order
 abbrev pub NumberedFrom : ℕ → List Mark → Type 0
 NumberedFrom next [] = Unit {0}
 NumberedFrom next (Came i n ∷ ms) = (n ≡ next) × NumberedFrom (suc next) ms

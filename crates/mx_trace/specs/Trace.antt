@@ -1,5 +1,4 @@
--- Properties of a trace by itself: exclusion and numbering, its sections, their journal and their
--- order.
+-- Properties of a trace: exclusion, numbering, the sections, their journal and their order.
 use Rattle.std.specs.Prelude.{ℕ, ◌≤◌, List, [], ◌∷◌, ◌++◌, None}
 use Rattle.mx_stamps.specs.declared.limits.TheConstants.{MAX_REGISTERS}
 use Rattle.mx_journal.specs.declared.records.Record.{Record}
@@ -14,8 +13,8 @@ use Rattle.mx_trace.specs.declared.outcome.Outcome.{Outcome}
 use Rattle.mx_trace.specs.declared.outcome.Outcome.TheVariants.{Entered, Value, Written, Left, Woken}
 use Rattle.mx_trace.specs.declared.outcome.Entry.{Entry}
 
--- `Entered` counts with Enter, `Value` with Read, `Written` with Write, `Left` with Leave and
--- `Woken` with Restart. Any other pairing counts for nothing
+-- the mark of an event with its outcome: Enter with `Entered`, Read with `Value`, Write with
+-- `Written`, Leave with `Left` or Restart with `Woken`. Any other pair has no mark
 abbrev pub mark_of : Event → Outcome → List Mark
 mark_of (Enter i) (Entered n) = Came i n ∷ []
 mark_of (Read i register) (Value value) = Got i register value ∷ []
@@ -37,22 +36,21 @@ IsExclusive trace = Alternate None (marks trace)
 abbrev pub IsNumbered : List Entry → Type 0
 IsNumbered trace = NumberedFrom 1 (marks trace)
 
--- the sections, the newest first
+-- the sections of the trace, the newest first
 abbrev pub sections : List Entry → List Section
 sections trace = after_marks [] (marks trace)
 
--- the journal of the sections: the record of each section that was left
+-- the journal of the sections: the record of each closed section
 abbrev pub journal_of : List Entry → List Record
 journal_of trace = section_journal (sections trace)
 
--- the sections follow one another: each value read is the register's after the writes before it, in
--- order of entry, and each receipt is that of its section
+-- the sections follow one another: each value read is that of the register after the writes before
+-- the read, in order of entry, and each receipt is that of its section
 abbrev pub IsSerial : List Entry → Type 0
 IsSerial trace = AllFit [] (marks trace)
 
--- if the journal covers exactly the first k sections, its registers have the values after the
--- writes of these sections, applied in order of entry. There are at most as many registers as in a
--- base
+-- if the journal covers exactly sections 1 to k, its registers, at most MAX_REGISTERS, have the
+-- values after the writes of the first k sections, applied in order of entry
 abbrev pub ShowsInOrder : List Entry → JournalState → Type 0
 ShowsInOrder trace journal =
     (k count : ℕ) → count ≤ MAX_REGISTERS → IsCovered k journal → top_covered journal ≤ k →

@@ -1,6 +1,5 @@
 //! Outcomes of events, items of a trace, and the definition of sections. Members and clusters are
-//! proved to follow it, and the crates that print and judge traces use it. None of them has to wait
-//! for the cluster.
+//! proved to follow this definition, and the crates that print and judge traces use it too.
 #![tactic(auto)]
 
 mod outcome;

@@ -18,23 +18,24 @@ pub enum Cause {
     NotWaiting,
     /// A permission is missing.
     NotGranted,
-    /// The highest section number that the node knows is the limit.
+    /// The highest section number that the node knows is the greatest that is allowed.
     NumbersSpent,
     /// The node is not inside.
     NotInside,
     /// There is no such register.
     NoRegister,
-    /// The journal does not cover this section, the first that it lacks. It is below the section
-    /// that reads, or up to the number that is to be settled.
+    /// This is the first section that the journal does not cover. At a read, it is before the
+    /// section of the node; at a settling, it is at most the number to settle up to.
     Gap(u64),
-    /// The section has eight reads already, at a read, or eight writes, at a write.
+    /// At a read: the section has eight reads already. At a write: it has eight writes already.
     Full,
-    /// The journal's base already covers more sections: those up to this one.
+    /// The journal's base covers the sections up to this one. They are more than those to settle,
+    /// or include the section of the node that reads.
     Below(u64),
 }
 
 impl Cause {
-    /// Returns the words for the cause, without the number of a gap or a base.
+    /// Returns the cause in words, without its number.
     pub fn words(&self) -> &'static str
         ensures { result.now ≡ cause_words self.now }
     {
@@ -52,7 +53,7 @@ impl Cause {
         }
     }
 
-    /// Returns the number of a gap or a base.
+    /// Returns the number of a `Gap` or a `Below`, or `None` for any other cause.
     pub fn number(&self) -> Option<u64>
         ensures { result ≡ cause_number self.now }
     {
@@ -66,27 +67,28 @@ impl Cause {
 /// The outcome of an event.
 #[derive(Debug, PartialEq, Eq, Drop)]
 pub enum Outcome {
-    /// The stamp of the request.
+    /// The node asked for the section, with this stamp.
     Asked(Stamp),
-    /// The number of the section.
+    /// The node entered the section of this number.
     Entered(u64),
-    /// The value that was read.
+    /// The node read this value.
     Value(u64),
     Written,
-    /// The reads and writes of the section.
+    /// The node left; the receipt has the reads and writes of its section.
     Left(Receipt),
     Cancelled,
     Settled,
-    /// The number of parcels that were sent.
+    /// The node sent this many parcels, at a tick or a want.
     Sent(u64),
     Delivered,
+    /// The node restarted.
     Woken,
     /// The node refused the event, and changed nothing.
     Refused(Cause),
 }
 
 impl Outcome {
-    /// Copies the outcome.
+    /// Returns a copy of the outcome.
     pub fn copy(&self) -> Outcome
         ensures { result ≡ self.now }
     {

@@ -41,12 +41,12 @@ pub record IsTreeOf (n : ℕ) (edges : List (ℕ × ℕ)) (holder : ℕ) (t : Ro
   pub long : length t.next ≡ MAX_NODES
   pub beyond : (i : ℕ) → n ≤ i → i < MAX_NODES → toward_of t i ≡ holder
 
--- the least k whose edge has an end that is no node, or equal ends
+-- edge k is the first with an end that is no node, or with equal ends
 abbrev pub IsFirstBadEdge : ℕ → List (ℕ × ℕ) → ℕ → Type 0
 IsFirstBadEdge n edges k =
     (k < length edges) × AreEdges n k edges × (IsEdge n (slice_index_or edges k (0, 0)) → ⊥)
 
--- the least node i without a path to node 0
+-- node i is the first without a path to node 0
 abbrev pub IsFirstUnjoined : ℕ → List (ℕ × ℕ) → ℕ → Type 0
 IsFirstUnjoined n edges i =
     (i < n) × AreJoined i edges × (IsJoined (IsLinked edges) i 0 → ⊥)
@@ -55,7 +55,7 @@ IsFirstUnjoined n edges i =
 abbrev pub AreEdgesOf : ℕ → List (ℕ × ℕ) → Type 0
 AreEdgesOf n edges = (0 < n) × (n ≤ MAX_NODES) × AreEdges n (length edges) edges
 
--- the fault is the first in the order of the faults: everything before it is right
+-- the fault is the first, in the order of `TreeFault`, that these nodes, edges and holder have
 abbrev pub IsFirstFault : ℕ → List (ℕ × ℕ) → ℕ → TreeFault → Type 0
 IsFirstFault n edges holder NoNodes = n ≡ 0
 IsFirstFault n edges holder TooMany = MAX_NODES < n

@@ -7,29 +7,29 @@ use Rattle.mx_trees.specs.declared.growth.Growth.{Growth}
 use Rattle.mx_trees.specs.Paths.{IsPath}
 use Rattle.mx_trees.specs.Edges.{IsLinked}
 
--- whether it has reached node i
+-- whether the tree has reached node i
 abbrev pub is_reached : Growth → ℕ → Bool
 is_reached g i = slice_index_or g.reached i false
 
--- the node from which it reached node i
+-- the node from which the tree has reached node i
 abbrev pub next_of : Growth → ℕ → ℕ
 next_of g i = slice_index_or g.next i 0
 
--- it has reached i from j
+-- whether the tree has reached node i from node j
 abbrev pub is_step : Growth → ℕ → ℕ → Bool
 is_step g i j = is_reached g i && nat_eq (next_of g i) j
 
--- it has grown along this edge
+-- whether the tree has grown along this edge
 abbrev pub is_branch : Growth → ℕ × ℕ → Bool
 is_branch g e = is_step g e.0 e.1 || is_step g e.1 e.0
 
--- each of the listed nodes has been reached
+-- the tree has reached each of the listed nodes
 abbrev pub AreReached : Growth → List ℕ → Type 0
 AreReached g is = (k : ℕ) → IsIn k is → is_reached g k ≡ true
 
--- from each reached node a path leads to the root along the next nodes, and from any other node the
--- root is next. Besides the root it has reached at most one node for each edge that it has grown
--- along
+-- the root is reached. From each other reached node a path of reached nodes leads to the root, and
+-- `next` is the second node of this path; from a node that is not reached, `next` is the root.
+-- Besides the root, at most one node is reached for each edge that the tree has grown along
 pub record IsGrown (edges : List (ℕ × ℕ)) (root : ℕ) (g : Growth) : Type 0 where
   pub size : length g.reached ≡ MAX_NODES
   pub sizes : length g.next ≡ MAX_NODES
@@ -40,18 +40,18 @@ pub record IsGrown (edges : List (ℕ × ℕ)) (root : ℕ) (g : Growth) : Type 
   pub rest : (i : ℕ) → i < MAX_NODES → is_reached g i ≡ false → next_of g i ≡ root
   pub counted : count_by (λ r. r) g.reached ≤ count_by (λ e. is_branch g e) edges + 1
 
--- no edge leads out of it
+-- no edge leads out of the tree
 abbrev pub IsClosed : List (ℕ × ℕ) → Growth → Type 0
 IsClosed edges g = (i j : ℕ) → IsLinked edges i j → is_reached g i ≡ is_reached g j
 
--- an edge leads out of it, from a node that it has reached to one that it has not
+-- an edge leads out of the tree, from node near, which is reached, to node far, which is not
 pub record IsCrossing (edges : List (ℕ × ℕ)) (g : Growth) (near far : ℕ) : Type 0 where
   pub linked : IsLinked edges far near
   pub inside : is_reached g near ≡ true
   pub outside : is_reached g far ≡ false
   pub node : far < MAX_NODES
 
--- one more node, reached from node near
+-- the tree with one more node, far, reached from node near
 abbrev pub with_node : Growth → ℕ → ℕ → Growth
 with_node g near far = record {
   reached = slice_set g.reached far true;

@@ -2,7 +2,7 @@
 use Rattle.std.specs.Prelude.{ℕ, ◌≡◌, List, [], ◌∷◌}
 use Rattle.mx_stamps.specs.Lists.{IsIn}
 
--- i and then the listed nodes, each a neighbour of the next, end in j
+-- i and then the listed nodes are a walk to j: each is a neighbour of the next, and the last is j
 abbrev pub IsWalk : (ℕ → ℕ → Type 0) → ℕ → List ℕ → ℕ → Type 0
 IsWalk Near i [] j = i ≡ j
 IsWalk Near i (k ∷ ks) j = Near i k × IsWalk Near k ks j

@@ -3,8 +3,8 @@ use Rattle.std.specs.Prelude.{ℕ, ◌<◌, ◌≤◌, ◌≡◌, ◌≢◌, ◌
 use Rattle.mx_stamps.specs.declared.limits.TheConstants.{MAX_NODES}
 use Rattle.mx_trees.specs.Paths.{IsPath}
 
--- the number of nodes, the holder, for each node a row (which nodes are its neighbours), and for
--- each the next node towards the holder
+-- the number of nodes; the holder, which is the root; for each node a row that marks its
+-- neighbours; and for each node the next one towards the holder
 pub record Rooted : Type 0 where
   pub count : ℕ
   pub holder : ℕ

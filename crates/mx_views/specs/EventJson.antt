@@ -14,14 +14,14 @@ use Rattle.mx_plan.specs.Text.{Text}
 use Rattle.mx_plan.specs.Fields.{Fields}
 use Rattle.mx_format.specs.Members.{node_member, number_member, number_start, register_member, word_member}
 
--- ---- what happens
+-- ---- an event
 
--- the node whose event it is, if it has one
+-- the member `node` of an event; nothing, if the event has no node
 abbrev pub owner_json : Fields → Option ℕ → Text
 owner_json p None = []
 owner_json p (Some node) = node_member p (codes "node") node
 
--- what an event says beside its word and its node
+-- the members of an event that follow its word and its node
 abbrev pub rest_json : Fields → Event → Text
 rest_json p (Read node register) = register_member p register
 rest_json p (Write node register value) =
@@ -49,7 +49,7 @@ left_json receipt =
     with_json (codes "left") (codes "number") receipt.number
     ++ number_member (codes "writes") (length receipt.writes.items)
 
--- the number that a gap or a base has
+-- the member `number` of a refusal; nothing, if its cause has no number
 abbrev pub number_json : Option ℕ → Text
 number_json None = []
 number_json (Some number) = number_member (codes "number") number
@@ -72,7 +72,7 @@ outcome_json Delivered = bare_json (codes "delivered")
 outcome_json Woken = bare_json (codes "woken")
 outcome_json (Refused cause) = refusal_json cause
 
--- the line of the k-th event
+-- the line of the k-th event: an object with its outcome
 abbrev pub event_json : Fields → ℕ → Entry → Text
 event_json p k entry =
     number_start (codes "event") k ++ act_json p entry.event ++ outcome_json entry.outcome

@@ -6,7 +6,7 @@ use Rattle.mx_format.specs.Lines.{each_text}
 use Rattle.mx_format.specs.Parts.{About, Named, Parts, number, request}
 use Rattle.mx_format.specs.Members.{node_member, number_member, word_member}
 
--- what a letter is about: the number and the node of a stamp, or a number by its name
+-- what a letter is about: the number and the node of a stamp, or a number with its name
 abbrev pub about_json : Fields → About → Text
 about_json p (request stamp) =
     number_member (codes "stamp") stamp.number ++ node_member p (codes "of") stamp.node

@@ -1,7 +1,7 @@
--- Arrays, LetterJson, ParcelJson, EventJson, FactJson, NodeJson: the lines as JSON. Shown: what is
--- shown of a run of events. ViewWords: what the words ask to show. Printed: what is printed of the
--- plan and the events that they name, if all goes well. Viewed: what is left in the outputs however
--- it ends. PlanWords, PlanObjects: what the words of `check` ask for, and what is printed of a plan.
+-- Arrays, LetterJson, ParcelJson, EventJson, FactJson, NodeJson: the lines of a replay as JSON.
+-- Shown: what is shown of a run of events. ViewWords: the arguments of `replay` with options.
+-- Printed: what is printed if the replay succeeds. Viewed: what is printed in every case, and the
+-- exit status. PlanWords: the arguments of `check --json`. PlanObjects: what it prints of a plan.
 pub mod Arrays
 pub mod LetterJson
 pub mod ParcelJson

@@ -22,7 +22,7 @@ phase_json Idle = word_member (codes "phase") (codes "idle")
 phase_json Waiting = word_member (codes "phase") (codes "waiting")
 phase_json (Inside n) = inside_json n
 
--- the start of the i-th node: its name, its phase, and the last section that it entered
+-- the start of the object of node i: its name, its phase, and the last section that it entered
 abbrev pub standing_json : {H S M : Type 0} → Core H S M → Fields → ℕ → S → Text
 standing_json core p i s =
     node_start p i ++ phase_json (core.phase s) ++ number_member (codes "mine") (core.mine s)
@@ -33,7 +33,7 @@ journal_json journal =
     number_member (codes "records") (length journal.records)
     ++ number_member (codes "gapless") (first_gap journal - 1)
 
--- what comes before the k-th member of an object
+-- the comma before the k-th member of an object; nothing before the first
 abbrev pub comma_at : ℕ → Text
 comma_at k = if k == 0 then [] else codes ","
 
@@ -50,11 +50,11 @@ values_of p journal =
 abbrev pub registers_json : Fields → JournalState → Text
 registers_json p journal = codes ",\"registers\":{" ++ values_of p journal ++ codes "}"
 
--- what a journal has, and what it shows
+-- how many records a journal has, up to which number none is missing, and its registers' values
 abbrev pub contents_json : Fields → JournalState → Text
 contents_json p journal = journal_json journal ++ registers_json p journal
 
--- the line of the i-th node
+-- the line of node i: an object
 abbrev pub member_json : {H S M : Type 0} → Core H S M → (S → List Known) → Fields → ℕ
     → MemberState S → Text
 member_json core knows p i m =

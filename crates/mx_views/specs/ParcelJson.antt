@@ -15,14 +15,14 @@ abbrev pub range_json : Range → Text
 range_json range =
     codes "[" ++ decimal range.first ++ codes "," ++ decimal range.last ++ codes "]"
 
--- a record, by its number alone
+-- a record: only its number
 abbrev pub record_json : Record → Text
 record_json entry = decimal entry.number
 
 abbrev pub want_json : List Range → Text
 want_json ranges = codes ",\"kind\":\"want\",\"ranges\":" ++ array_json range_json ranges
 
--- a base, by the number of its last section alone
+-- a base: only the number of its last section
 abbrev pub base_json : ℕ → Text
 base_json upto = word_member (codes "kind") (codes "base") ++ number_member (codes "upto") upto
 
@@ -37,7 +37,7 @@ module _ {M : Type 0} (parts : M → Parts) (p : Fields) where
   content_json (Base base) = base_json base.upto
   content_json (Records records) = records_json records.items
 
-  -- the line of the k-th parcel
+  -- the line of the k-th parcel: an object
   abbrev pub parcel_json : ℕ → ℕ × ℕ × Parcel M → Text
   parcel_json k parcel =
       number_start (codes "parcel") k ++ node_member p (codes "from") parcel.0

@@ -10,7 +10,7 @@ use Rattle.mx_io.specs.Outputs.{Held}
 use Rattle.mx_io.specs.Told.{Telling}
 use Rattle.mx_views.specs.PlanWords.{PlanRequest}
 
--- what a plan says, and perhaps whom each of its nodes asks
+-- the objects of what a plan says and, if `has_asks`, of whom each of its nodes asks
 abbrev pub objects_of : Bool → Fields → Text
 objects_of has_asks p = if has_asks then plan_asks_text_by true p else plan_text_by true p
 

@@ -1,5 +1,5 @@
--- What is shown of a run: the closing lines alone or all lines, of one node or of all, as texts or
--- as JSON, with what each node knows at the end or without.
+-- What is shown of a run: all lines or only the closing ones, of one node or of all, as text or as
+-- JSON, with or without what each node knows at the end.
 use Rattle.std.specs.Prelude.{◌||◌, ℕ, ◌+◌, Bool, true, false, List, [], ◌∷◌, ◌++◌, Option, Some, None, Result, Ok, Err, drop, if◌then◌else◌, length, nat_eq, option_map, slice_get}
 use Rattle.std.specs.Option.{option_map_or}
 use Rattle.std.specs.Io.KnownBytes.{Appends}
@@ -40,30 +40,30 @@ use Rattle.mx_views.specs.NodeJson.{member_json}
 use Rattle.mx_views.specs.ParcelJson.{parcel_json}
 use Rattle.mx_views.specs.declared.selection.View.{View}
 
--- what is of a node is shown, where none is named or it is that one
+-- node i is shown: no node was named, or this one was
 abbrev pub shows : Option ℕ → ℕ → Bool
 shows None i = true
 shows (Some wanted) i = nat_eq wanted i
 
--- a line that is shown, or nothing
+-- the line, if it is shown; otherwise nothing
 abbrev pub where_shown : Bool → Text → Text
 where_shown is_shown line = if is_shown then line else []
 
 module _ {M : Type 0} where
-  -- a parcel is shown that is from or to a node that is shown
+  -- a parcel is shown: its sender or its addressee is
   abbrev pub shows_parcel : Option ℕ → ℕ × ℕ × Parcel M → Bool
   shows_parcel node parcel = shows node parcel.0 || shows node parcel.1
 
-  -- the node to which the parcel of a delivery went
+  -- the addressee of the sent parcel that an event delivers, if it delivers one
   abbrev pub addressee_of : List (ℕ × ℕ × Parcel M) → Event → Option ℕ
   addressee_of sent (Deliver k) = option_map (λ parcel. parcel.1) (slice_get sent k)
   addressee_of sent _ = None
 
-  -- whose event it is: that of its node, or, of a delivery, that of the addressee
+  -- the node of an event; of a delivery, the addressee of the parcel
   abbrev pub owner_of : List (ℕ × ℕ × Parcel M) → Event → Option ℕ
   owner_of sent event = option_map_or Some (node_of event) (addressee_of sent event)
 
-  -- an event is shown that is of a node that is shown
+  -- an event is shown: its node is or, of a delivery, the addressee
   abbrev pub shows_event : Option ℕ → List (ℕ × ℕ × Parcel M) → Event → Bool
   shows_event node sent event = option_map_or (shows node) (owner_of sent event) false
 
@@ -75,11 +75,11 @@ module _ (p : Fields) (view : View) where
   entry_text k entry =
       if view.is_json then event_json p k entry else event_line p k entry.event entry.outcome
 
-  -- the line of what a node knows, if it is asked for
+  -- the line of what a node knows, if the view includes that line
   abbrev pub state_text : List Known → Text
   state_text facts = if view.has_state then facts_line p facts else []
 
-  -- the line of the k-th event, where it is shown
+  -- the line of the k-th event, if the event is shown
   abbrev pub shown_entry : {M : Type 0} → List (ℕ × ℕ × Parcel M) → ℕ → Entry → Text
   shown_entry sent k entry =
       where_shown (shows_event view.node sent entry.event) (entry_text k entry)
@@ -91,19 +91,19 @@ module _ {M : Type 0} (p : Fields) (view : View) (parts : M → Parts) where
       if view.is_json then parcel_json parts p k parcel
       else parcel_line (letter_text parts) p k parcel
 
-  -- the line of the k-th parcel, where it is shown
+  -- the line of the k-th parcel, if the parcel is shown
   abbrev pub shown_parcel : ℕ → ℕ × ℕ × Parcel M → Text
   shown_parcel k parcel = where_shown (shows_parcel view.node parcel) (sent_text k parcel)
 
 module _ {H S M : Type 0} (p : Fields) (view : View) (core : Core H S M) (knows : S → List Known)
   where
-    -- the lines of the i-th node; its object of JSON has what it knows
+    -- the lines of node i. In JSON, one object includes what the node knows
     abbrev pub member_text : ℕ → MemberState S → Text
     member_text i m =
         if view.is_json then member_json core knows p i m
         else (member_line core p i m ++ state_text p view (knows m.core))
 
-    -- the lines of the i-th node, where it is shown
+    -- the lines of node i, if the node is shown
     abbrev pub shown_member : ℕ → MemberState S → Text
     shown_member i m = where_shown (shows view.node i) (member_text i m)
 
@@ -114,17 +114,18 @@ module _ {H S M : Type 0} (p : Fields) (view : View) (core : Core H S M) (knows 
 -- ---- runs
 
 module _ {S M : Type 0} (parts : M → Parts) (p : Fields) (view : View) where
-  -- what is shown of one event: its line, and those of the parcels that are new
+  -- what is shown of the k-th event, by the clusters before and after it: the event's line, and the
+  -- lines of the new parcels
   abbrev pub shown_text : ℕ → ClusterState S M → ClusterState S M → Text
   shown_text k old new =
       texts_from (shown_entry p view new.sent) k (drop (length old.trace) new.trace)
       ++ texts_from (shown_parcel p view parts) (length old.sent) (drop (length old.sent) new.sent)
 
-  -- nothing is shown of it, if the view is quiet
+  -- the same, but nothing if the view is quiet
   abbrev pub step_text : ℕ → ClusterState S M → ClusterState S M → Text
   step_text k old new = if view.is_quiet then [] else shown_text k old new
 
-  -- what is shown of one event, and then of the rest
+  -- what is shown of the k-th event, and then of the rest; nothing, if the event cannot happen
   abbrev pub shown_step : ℕ → ClusterState S M → Result (ClusterState S M) StepFault
       → (ClusterState S M → Text) → Text
   shown_step k old (Ok new) rest = shown_text k old new ++ rest new
@@ -132,7 +133,7 @@ module _ {S M : Type 0} (parts : M → Parts) (p : Fields) (view : View) where
 
 module _ {H S M : Type 0} (core : Core H S M) (parts : M → Parts) (p : Fields) (view : View)
   where
-    -- what is shown of the events from the k-th on, from a state
+    -- what is shown of these events from a state on. The first event has index k
     unfoldable pub shown_from : ℕ → ClusterState S M → List Event → Text
     shown_from k g [] = []
     shown_from k g (e ∷ es) =
@@ -144,13 +145,13 @@ module _ {H S M : Type 0} (core : Core H S M) (parts : M → Parts) (p : Fields)
   abbrev pub view_texts : Texts S M
   view_texts = record { event = step_text parts p view; closing = closing_text p view core knows }
 
-  -- the report of the events from the k-th on, from a state: their texts, and then the closing
-  -- lines; or the fault at which a replay ends too
+  -- the report of these events from a state on, the first with index k: their texts, and then the
+  -- closing lines. At an event that cannot happen the report ends, with the fault of a replay
   abbrev pub view_from : ℕ → ClusterState S M → List Event → Report
   view_from = report_from core view_texts
 
-  -- the lines of these events, which a quiet view has not, and the closing lines of the cluster to
-  -- which they lead were printed, and nothing else
+  -- all these events can happen. Their lines, unless the view is quiet, and the closing lines of
+  -- the cluster after them were printed, and nothing else
   abbrev pub Prints : List Event → ClusterState S M → Held → Held → Type 0
   Prints es start old new =
       (g : ClusterState S M) × RunsTo core start es g
@@ -158,7 +159,7 @@ module _ {H S M : Type 0} (core : Core H S M) (parts : M → Parts) (p : Fields)
       ((if view.is_quiet then [] else shown_from core parts p view 0 start es)
       ++ closing_text p view core knows g)
 
--- what is shown of a run, by the nodes of each algorithm
+-- what is shown of a run of each algorithm
 abbrev pub view_lines : Fields → View → TextsBy
 view_lines p view = record {
   ricart = view_texts ricart_core ricart_parts p view ricart_known;
@@ -166,11 +167,11 @@ view_lines p view = record {
   raymond = view_texts raymond_core raymond_parts p view raymond_known;
 }
 
--- the report of events that lead from the cluster of a plan, at rest, by its algorithm
+-- the report of these events in a plan's cluster, which starts at rest, by the plan's algorithm
 abbrev pub view_by : Fields → View → Shape → List Event → Report
 view_by p view = report_by (view_lines p view) p
 
--- the lines of such events were printed
+-- the lines of these events in that cluster were printed, and nothing else
 abbrev pub PrintsBy : Fields → View → List Event → Held → Held → Shape → Type 0
 PrintsBy p view es old new (Ricart count) =
     Prints ricart_core ricart_parts p view ricart_known es (at_rest ricart_core p count) old new

@@ -1,5 +1,4 @@
--- What the words of `replay` with `--quiet`, `--node`, `--json` or `--state` ask for, as `clap` reads
--- them.
+-- The arguments of `replay` with `--quiet`, `--node`, `--json` or `--state`, as `clap` parses them.
 use Rattle.std.specs.Prelude.{Bool, List, [], ◌∷◌, Option, codes, option_map}
 use Rattle.clap.specs.Words.{App, Row, Text, first_of}
 use Rattle.mx_cli.specs.Table.{line_of}
@@ -7,12 +6,12 @@ use Rattle.mx_cli.specs.Words.{asked_of, by_name, is_given, names_at, names_of}
 use Rattle.mx_cli.specs.declared.table.CommandId.TheVariants as id
 use Rattle.mx_views.specs.declared.words.Request.{Request as Told}
 
--- the whole command line
+-- the command line of `mx` with `replay` as its only command
 unfoldable pub view_line : App
 view_line = line_of (id.ReplayView ∷ [])
 
--- the names of the plan and of the events; whether the closing lines alone are to be shown, of
--- which node alone, whether as JSON, and whether with what each node knows
+-- the names of the plan and of the events; whether only the closing lines are shown; the only node
+-- that is shown, if one is named; whether JSON is printed; whether what each node knows is shown
 pub record Request : Type 0 where
   pub names : Text × Text
   pub is_quiet : Bool
@@ -30,7 +29,7 @@ request_of told =
       has_state = told.has_state;
     }
 
--- what was given for the arguments
+-- the request of the given arguments, for the plan and the events of these names
 abbrev pub view_of : List Row → Text × Text → Request
 view_of rows names =
     record {
@@ -47,6 +46,6 @@ view_in rows = option_map (view_of rows) (names_at rows)
 abbrev pub request_in : Option (Text × List Row) → Option Request
 request_in met = by_name (codes "replay") view_in met
 
--- what the words ask to show, where they ask for a replay
+-- the request of these words, if they are `replay` with its arguments
 unfoldable pub request_asked : List Text → Option Request
 request_asked words = asked_of view_line request_in words

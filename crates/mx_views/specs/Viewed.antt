@@ -1,4 +1,4 @@
--- What a view leaves in the two outputs, and with which status.
+-- What a view writes to the two outputs, and its exit status.
 use Rattle.std.specs.Prelude.{◌≡◌, ◌⊎◌, ℕ, ◌++◌, Bool, List, Option, Some, None, ⊤, Result, Ok, Err, IfSome, codes, option_map}
 use Rattle.std.specs.Io.KnownBytes.{Appends, Keeps}
 use Rattle.std.specs.List.{concat}
@@ -27,20 +27,21 @@ use Rattle.mx_views.specs.ViewWords.{Request}
 use Rattle.mx_views.specs.declared.view_error.ViewError.{ViewError}
 use Rattle.mx_views.specs.declared.view_error.ViewError.TheVariants as view_error
 
--- what comes of a request: a report; or the plan has no node of the name that was given
+-- the outcome of a request: a report; or the plan has no node of the given name
 pub data Course : Type 0 where
   reports : Report → Course
   unknown_node : Course
 
--- a text of this name is refused
+-- the outcome if the text of the plan or of the events is refused for this fault: a report without
+-- texts
 abbrev pub refused_text : Named → PlanFault → Course
 refused_text part fault = reports (ends_with (option_map (fault_named part) (fault_of fault)))
 
--- a file of this name can't be read
+-- the outcome if the file of the plan or of the events cannot be read
 abbrev pub unread : Named → Course
 unread part = reports (ends_with (Some (CannotRead part)))
 
--- these events happen, and are shown
+-- the outcome if these events were read: the report of what is shown of them, or an unknown node
 abbrev pub course_on : Request → Fields → List Event → Course
 course_on request p es =
     option_map_or (λ node. reports (view_by p (view_on request node) p.shape es))
@@ -50,38 +51,40 @@ abbrev pub course_of : Request → Fields → Result (List Event) PlanFault → 
 course_of request p (Ok es) = course_on request p es
 course_of request p (Err fault) = refused_text Events fault
 
--- what comes of what is told of the events
+-- the outcome, given what the source states about the file of events
 abbrev pub course_told : Request → Fields → Telling → Course
 course_told request p None = unread Events
 course_told request p (Some bytes) = course_of request p (events_at p bytes)
 
--- what comes of a plan; one that is refused decides
+-- the outcome, given the result of reading the plan: `course` of the plan, or that of a refused one
 abbrev pub course_by : (Fields → Option Course) → Result Fields PlanFault → Option Course
 course_by course (Ok p) = course p
 course_by course (Err fault) = Some (refused_text Plan fault)
 
--- this holds of what comes of the plan that is told, where enough is told
+-- P holds of the outcome: that of a plan that cannot be read; or that of some result of reading the
+-- plan, if this result has an outcome
 abbrev pub HoldsOfPlan : (Fields → Option Course) → Telling → (Course → Type 0) → Type 0
 HoldsOfPlan course None P = P (unread Plan)
 HoldsOfPlan course (Some bytes) P =
     (planned : Result Fields PlanFault) × IsRead bytes planned × IfSome (course_by course planned) P
 
--- this holds of what comes of the plan and the events that a source tells
+-- P holds of the outcome of a request, if the source states what the files hold
 abbrev pub HoldsOf : (Text → Option Telling) → Request → (Course → Type 0) → Type 0
 HoldsOf told request P = IfSome (plan_told told request.names) (λ plan.
     HoldsOfPlan (λ p. option_map (course_told request p) (text_told told request.names)) plan P)
 
 -- ---- what was printed
 
--- the report was printed whole, with its status and the line of its fault; or memory ran out, or an
--- output refused, and then its first texts were, each whole
+-- the report was printed whole, with its status and the line of its fault. Or memory ran out, or an
+-- output refused, and only the first texts of the report were printed, perhaps none, each whole
 abbrev pub PrintsReport : Bool → Text × Text → Report → Seen → Seen → ℕ → Type 0
 PrintsReport takes_all names r old new status =
     ((status ≡ status_of r.end) × Appends old.out new.out (concat r.texts)
     × Appends old.err new.err (end_text names r.end))
     ⊎ (FallsShort takes_all old.err new.err status × AppendsSome old.out new.out r.texts)
 
--- a name that no node has is told, behind nothing else
+-- standard output got nothing. Standard error got the line of an unknown name, or memory ran out,
+-- or standard error refused
 abbrev pub TellsName : Bool → Seen → Seen → ℕ → Type 0
 TellsName takes_all old new status =
     Keeps old.out new.out
@@ -92,16 +95,18 @@ PrintsCourse takes_all names (reports r) old new status =
     PrintsReport takes_all names r old new status
 PrintsCourse takes_all names unknown_node old new status = TellsName takes_all old new status
 
--- what the words ask to show, of what a source tells; or memory ran out before
+-- the outcome of a request was printed; or memory ran out, or an output refused, before standard
+-- output got anything
 abbrev pub Views : Bool → (Text → Option Telling) → Request → Seen → Seen → ℕ → Type 0
 Views takes_all told request old new status =
     (FallsShort takes_all old.err new.err status × Keeps old.out new.out)
     ⊎ HoldsOf told request
     (λ course. PrintsCourse takes_all request.names course old new status)
 
--- ---- on the way
+-- ---- what a run writes and returns
 
--- what is to be shown was written, or the run ended earlier
+-- the texts of the outcome's report were written, or only the first of them, if memory ran out or
+-- the output refused; or the node is unknown, and nothing was written
 abbrev pub ViewRan : Bool → Held → Held → Course → Result ℕ ViewError → Type 0
 ViewRan takes_all old new (reports r) (Ok status) = Ran takes_all old new r (Ok status)
 ViewRan takes_all old new (reports r) (Err (view_error.Command end)) = Ran takes_all old new r (Err end)
@@ -110,31 +115,32 @@ ViewRan takes_all old new unknown_node (Ok status) = ⊥
 ViewRan takes_all old new unknown_node (Err (view_error.Command end)) = ⊥
 ViewRan takes_all old new unknown_node (Err (view_error.UnknownNode name)) = Keeps old new
 
--- memory ran out before anything was shown
+-- memory ran out before anything was written
 abbrev pub RunsOut : Held → Held → Result ℕ ViewError → Type 0
 RunsOut old new (Ok status) = ⊥
 RunsOut old new (Err (view_error.Command end)) = (end ≡ Memory) × Keeps old new
 RunsOut old new (Err (view_error.UnknownNode name)) = ⊥
 
--- what comes of a request was written, or memory ran out before anything was
+-- memory ran out before anything was written, or the outcome of a request was written
 abbrev pub CourseRan : Bool → Held → Held → Course → Result ℕ ViewError → Type 0
 CourseRan takes_all old new course result =
     RunsOut old new result ⊎ ViewRan takes_all old new course result
 
--- the same of what a source tells
+-- the same for the outcome of a request, if the source states what the files hold
 abbrev pub ViewRanOf : Bool → Held → Held → (Text → Option Telling) → Request → Result ℕ ViewError
     → Type 0
 ViewRanOf takes_all old new told request result =
     RunsOut old new result
     ⊎ HoldsOf told request (λ course. ViewRan takes_all old new course result)
 
--- the node of this name, where one is named; or the plan does not have it, or memory ran out
+-- the result is the node of this name, or `None` without a name; or an error, if the plan lacks the
+-- name or memory ran out
 abbrev pub IsFound : Fields → Option Text → Result (Option ℕ) ViewError → Type 0
 IsFound p name (Ok node) = node_in p name ≡ Some node
 IsFound p name (Err (view_error.Command end)) = end ≡ Memory
 IsFound p name (Err (view_error.UnknownNode text)) = node_in p name ≡ None
 
--- a name that no node has is told, or memory ran out
+-- the error is that no node has the given name, or that memory ran out
 abbrev pub IsStranger : ViewError → Type 0
 IsStranger (view_error.Command end) = end ≡ Memory
 IsStranger (view_error.UnknownNode text) = ⊤

@@ -9,12 +9,12 @@ ghost use Rattle.mx_views.specs.Arrays.{array_json, values_json};
 use mx_plan::Plan;
 use std::alloc::AllocError;
 
-/// A value of an array.
+/// A value that can stand in an array of JSON.
 pub(crate) trait Value {
-    // its text
+    // the text that `add_json` appends
     ghost json: { Fields → Self → Text };
 
-    /// Appends it.
+    /// Appends the value as JSON, with the names of the plan.
     fn add_json(&self, plan: &Plan, text: &mut String) -> Result<(), AllocError>
         ensures { OnOk result (string_bytes text.new
             ≡ string_bytes text.old ++ json plan.now self.now) };

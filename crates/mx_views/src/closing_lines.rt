@@ -55,7 +55,7 @@ fn add_nodes<C: Exclusion + Knowledge>(
     Ok(())
 }
 
-/// Appends the line of the node of this index, where it is shown.
+/// Appends the lines of the node of this index, if the node is shown.
 fn add_node<C: Exclusion + Knowledge>(
     alloc: Global,
     selection: &Selection<'_>,
@@ -79,7 +79,7 @@ fn add_node<C: Exclusion + Knowledge>(
     }
 }
 
-/// Appends the lines of a node, where it is shown.
+/// Appends the lines of a node, if the node is shown.
 fn add_member<C: Exclusion + Knowledge>(
     alloc: Global,
     selection: &Selection<'_>,
@@ -96,7 +96,7 @@ fn add_member<C: Exclusion + Knowledge>(
     add_shown(alloc, selection, node, member, text)
 }
 
-/// Appends the lines of a node.
+/// Appends the JSON object of a node, or its lines.
 fn add_shown<C: Exclusion + Knowledge>(
     alloc: Global,
     selection: &Selection<'_>,
@@ -113,7 +113,7 @@ fn add_shown<C: Exclusion + Knowledge>(
     add_lines(alloc, selection, node, member, text)
 }
 
-/// Appends the line of a node, and that of what it knows, if it is asked for.
+/// Appends the line of a node, and, if it is asked for, the line of what the node knows.
 fn add_lines<C: Exclusion + Knowledge>(
     alloc: Global,
     selection: &Selection<'_>,
@@ -129,7 +129,7 @@ fn add_lines<C: Exclusion + Knowledge>(
     add_state(alloc, selection, member, text)
 }
 
-/// Appends the line of what a node knows, if it is asked for.
+/// Appends the line of what a node knows, if the view asks for it.
 fn add_state<C: Exclusion + Knowledge>(
     alloc: Global,
     selection: &Selection<'_>,

@@ -11,7 +11,7 @@ use mx_plan::Plan;
 use mx_stamps::NodeId;
 use std::alloc::AllocError;
 
-/// Appends the line of an event and of its outcome.
+/// Appends the JSON object of an event with this index, and its outcome, as one line.
 pub(crate) fn add_event_json(
     plan: &Plan,
     index: u64,
@@ -27,7 +27,7 @@ pub(crate) fn add_event_json(
     text.push_str("}\n")
 }
 
-/// Appends what happens, to which node and with what.
+/// Appends the word of an event, its node and its other arguments.
 fn add_act(plan: &Plan, event: &Event, text: &mut String) -> Result<(), AllocError>
     ensures { OnOk result (string_bytes text.new
         ≡ string_bytes text.old ++ act_json plan.now event.now) }
@@ -37,7 +37,7 @@ fn add_act(plan: &Plan, event: &Event, text: &mut String) -> Result<(), AllocErr
     add_rest(plan, event, text)
 }
 
-/// Appends the node whose event it is, if it has one.
+/// Appends the node of an event. A delivery has none.
 fn add_owner(plan: &Plan, owner: Option<NodeId>, text: &mut String) -> Result<(), AllocError>
     ensures { OnOk result (string_bytes text.new
         ≡ string_bytes text.old ++ owner_json plan.now owner) }
@@ -48,7 +48,7 @@ fn add_owner(plan: &Plan, owner: Option<NodeId>, text: &mut String) -> Result<()
     }
 }
 
-/// Appends what an event says beside its word and its node.
+/// Appends the arguments of an event beside its node.
 fn add_rest(plan: &Plan, event: &Event, text: &mut String) -> Result<(), AllocError>
     ensures { OnOk result (string_bytes text.new
         ≡ string_bytes text.old ++ rest_json plan.now event.now) }
@@ -91,6 +91,7 @@ fn add_outcome(outcome: &Outcome, text: &mut String) -> Result<(), AllocError>
     }
 }
 
+/// Appends the word of an outcome.
 fn add_bare(outcome: &str, text: &mut String) -> Result<(), AllocError>
     ensures { OnOk result (string_bytes text.new
         ≡ string_bytes text.old ++ bare_json outcome.now) }
@@ -98,6 +99,7 @@ fn add_bare(outcome: &str, text: &mut String) -> Result<(), AllocError>
     add_word("outcome", outcome, text)
 }
 
+/// Appends the word of an outcome, and a number under this key.
 fn add_with(outcome: &str, key: &str, number: u64, text: &mut String) -> Result<(), AllocError>
     ensures { OnOk result (string_bytes text.new
         ≡ string_bytes text.old ++ with_json outcome.now key.now number) }
@@ -106,6 +108,7 @@ fn add_with(outcome: &str, key: &str, number: u64, text: &mut String) -> Result<
     add_number(key, number, text)
 }
 
+/// Appends the outcome of a leave: the number of the section, and how many writes it made.
 fn add_left(receipt: &Receipt, text: &mut String) -> Result<(), AllocError>
     ensures { OnOk result (string_bytes text.new
         ≡ string_bytes text.old ++ left_json receipt.now) }

@@ -1,5 +1,5 @@
-//! `mx replay` with `--quiet`, `--node`, `--json` or `--state`: fewer lines, the lines of one node,
-//! lines of JSON, or with what each node knows; and `mx check` with `--json`.
+//! `mx replay` with `--quiet`, `--node`, `--json` or `--state`: it prints fewer lines, the lines of
+//! one node, JSON, or also what each node knows. And `mx check` with `--json`.
 #![tactic(auto)]
 
 mod arrays;

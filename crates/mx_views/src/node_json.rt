@@ -49,7 +49,7 @@ fn add_standing<C: Exclusion>(
     add_number("mine", member.mine(), text)
 }
 
-/// Appends what a journal has, and what it shows.
+/// Appends what a journal has, and the value of each register that it shows.
 fn add_contents(plan: &Plan, journal: &Journal, text: &mut String) -> Result<(), AllocError>
     ensures { OnOk result (string_bytes text.new
         ≡ string_bytes text.old ++ contents_json plan.now journal.now) }
@@ -58,7 +58,7 @@ fn add_contents(plan: &Plan, journal: &Journal, text: &mut String) -> Result<(),
     add_registers(plan, journal, text)
 }
 
-/// Appends how many records a journal has, and up to where it has no gap.
+/// Appends how many records a journal has, and the section number up to which it has no gap.
 fn add_journal(journal: &Journal, text: &mut String) -> Result<(), AllocError>
     ensures { OnOk result (string_bytes text.new
         ≡ string_bytes text.old ++ journal_json journal.now) }
@@ -126,7 +126,7 @@ fn add_values(plan: &Plan, journal: &Journal, text: &mut String) -> Result<(), A
     Ok(())
 }
 
-/// The name of a register and its value, after a comma where it is not the first.
+/// The name of a register and its value, after a comma if it is not the first.
 #[derive(Clone, Copy)]
 struct RegisterJson<'a> {
     register: u8,
@@ -143,7 +143,7 @@ impl fmt::Display for RegisterJson<'_> {
     }
 }
 
-/// What comes before the member of this place in an object.
+/// Returns what comes before the member at this place of an object: a comma, or nothing at place 0.
 fn comma_at(place: u8) -> &'static str
     ensures { result.now ≡ comma_at place }
 {

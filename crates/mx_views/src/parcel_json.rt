@@ -13,7 +13,7 @@ use mx_plan::Plan;
 use std::alloc::AllocError;
 use std::fmt;
 
-/// A range of numbers.
+/// A range of section numbers: its first and its last, as an array.
 #[derive(Clone, Copy)]
 struct RangeJson<'a>(&'a Range);
 
@@ -41,7 +41,7 @@ impl Value for Record {
     }
 }
 
-/// Appends the line of a parcel.
+/// Appends the JSON object of a parcel with this number, as one line.
 pub(crate) fn add_parcel_json<M: Letter>(
     plan: &Plan,
     number: u64,
@@ -59,7 +59,7 @@ pub(crate) fn add_parcel_json<M: Letter>(
     text.push_str("}\n")
 }
 
-/// Appends what a parcel has in it.
+/// Appends the kind of a parcel, and what it carries.
 fn add_content<M: Letter>(
     plan: &Plan,
     parcel: &Parcel<M>,

@@ -1,4 +1,4 @@
-//! `check` with `--json`: from words, named bytes and two outputs to a status.
+//! `check` with `--json`, with its file read from a source and its texts printed to two outputs.
 
 ghost use Rattle.std.specs.Prelude.{◌≡◌, ◌++◌, true, IsSome, IfSome, IfOk, OnOk, string_bytes};
 ghost use Rattle.std.specs.Io.KnownBytes.{Appends};
@@ -17,8 +17,8 @@ use mx_io::{Output, Source};
 use mx_plan::Plan;
 use std::alloc::{AllocError, Global};
 
-/// Runs a command line, without the program's name, that begins with `check` and has `--json`.
-/// Returns the exit status:
+/// Runs `check` with `--json`. `words` is the command line without the program's name. Returns the
+/// exit status:
 ///
 /// - 0 on success, or if help was requested;
 /// - 1 for an error in the plan, a file or an output;
@@ -47,7 +47,8 @@ pub fn check_objects<S: Source, O: Output, E: Output>(
     }
 }
 
-/// Prints what a plan says, and closes the run. Returns the status.
+/// Prints what `request` asks for, flushes `out`, and writes to `err` why the command ended early,
+/// if it did. Returns the exit status.
 fn check_and_close<S: Source, O: Output, E: Output>(
     alloc: Global,
     request: &PlanRequest<'_>,
@@ -65,7 +66,7 @@ fn check_and_close<S: Source, O: Output, E: Output>(
     close(alloc, ended, &request.names(), out, err)
 }
 
-/// Reads a plan, and prints what it says. Returns the status.
+/// Reads a plan, and prints its JSON objects. Returns the exit status.
 fn check_plan<S: Source, O: Output>(
     alloc: Global,
     request: &PlanRequest<'_>,
@@ -80,7 +81,8 @@ fn check_plan<S: Source, O: Output>(
     print_objects(alloc, &plan, request.has_asks, out)
 }
 
-/// Prints what a plan says. Returns the status.
+/// Prints the JSON objects of a plan, and, if `has_asks`, those that say which nodes each node
+/// asks. Returns the exit status.
 fn print_objects<O: Output>(
     alloc: Global,
     plan: &Plan,
@@ -96,7 +98,8 @@ fn print_objects<O: Output>(
     print(text.as_bytes(), out)
 }
 
-/// Appends what a plan says, and perhaps whom each of its nodes asks.
+/// Appends the JSON objects of a plan, and, if `has_asks`, those that say which nodes each node
+/// asks.
 fn add_objects(plan: &Plan, has_asks: bool, text: &mut String) -> Result<(), AllocError>
     ensures { OnOk result (string_bytes text.new
         ≡ string_bytes text.old ++ objects_of has_asks plan.now) }
@@ -107,7 +110,7 @@ fn add_objects(plan: &Plan, has_asks: bool, text: &mut String) -> Result<(), All
     add_plan_json(plan, text)
 }
 
-/// Appends what a plan says, and whom each of its nodes asks.
+/// Appends the JSON objects of a plan, and those that say which nodes each node asks.
 fn add_all_objects(plan: &Plan, text: &mut String) -> Result<(), AllocError>
     ensures { OnOk result (string_bytes text.new
         ≡ string_bytes text.old ++ plan_asks_text_by true plan.now) }

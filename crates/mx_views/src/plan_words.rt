@@ -9,16 +9,18 @@ use clap::{ArgMatches, Error};
 use mx_cli::{CommandId, Names, is_given, matches_in, text_at};
 use std::alloc::Global;
 
-/// What is to be printed of a plan: the name of its file, and whether whom each node asks is
-/// printed too.
+/// What a command line asks to print of a plan.
 #[derive(Clone, Copy)]
 pub(crate) struct PlanRequest<'a> {
+    /// The name of the plan's file.
     pub(crate) plan: &'a str,
+    /// Whether to print also which nodes each node asks.
     pub(crate) has_asks: bool,
 }
 
 impl<'a> PlanRequest<'a> {
-    /// The names that the lines of faults have.
+    /// Returns the file names for messages about faults. There are no events: the plan's name
+    /// stands in for theirs.
     pub(crate) fn names(&self) -> Names<'a> {
         Names {
             plan: self.plan,
@@ -44,6 +46,7 @@ pub(crate) fn parse_plan<'a>(
     Ok(plan_request_in(&matches))
 }
 
+/// Returns what the command line asks to print, or `None` for another command.
 fn plan_request_in<'a>(matches: &ArgMatches<'a>) -> Option<PlanRequest<'a>>
     ensures { option_map plan_request_of result
         ≡ plan_request_in (subcommand_rows_of matches.now) }
@@ -54,6 +57,7 @@ fn plan_request_in<'a>(matches: &ArgMatches<'a>) -> Option<PlanRequest<'a>>
     }
 }
 
+/// Returns what `check` asks to print, or `None` if no plan is named.
 fn plan_in<'a>(matches: &ArgMatches<'a>) -> Option<PlanRequest<'a>>
     ensures { option_map plan_request_of result ≡ plan_in (rows_of (found_of matches.now)) }
 {

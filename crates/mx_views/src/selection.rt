@@ -11,17 +11,20 @@ use mx_nodelaws::Exclusion;
 use mx_plan::Plan;
 use mx_stamps::NodeId;
 
-/// What is shown of a run: the lines of one node or of all, the closing lines alone or all, as JSON
-/// or as texts, with what each node knows or without.
+/// What is shown of a run.
 #[derive(Clone, Copy)]
 pub(crate) struct View {
+    /// The only node that is shown, or `None` for all nodes.
     pub(crate) node: Option<NodeId>,
+    /// Whether only the closing lines are shown: those of nodes, and the verdict.
     pub(crate) is_quiet: bool,
+    /// Whether JSON is printed, in place of lines.
     pub(crate) is_json: bool,
+    /// Whether what each node knows is shown too. JSON always shows it.
     pub(crate) has_state: bool,
 }
 
-/// What is shown of a run of a plan.
+/// A view, with the plan from which it takes names.
 #[derive(Clone, Copy)]
 pub(crate) struct Selection<'a> {
     pub(crate) plan: &'a Plan,
@@ -29,7 +32,7 @@ pub(crate) struct Selection<'a> {
 }
 
 impl Selection<'_> {
-    /// Whether what is of this node is shown.
+    /// Whether the events and the lines of this node are shown.
     pub(crate) fn shows_node(&self, node: NodeId) -> bool
         ensures { result ≡ shows self.now.view.node node }
     {
@@ -47,7 +50,7 @@ impl Selection<'_> {
         self.shows_node(sent.from) || self.shows_node(sent.to)
     }
 
-    /// Whether an event is shown that has happened in this cluster.
+    /// Whether an event that has happened in this cluster is shown.
     pub(crate) fn shows_event<C: Exclusion>(&self, cluster: &Cluster<C>, event: &Event) -> bool
         ensures { result ≡ shows_event self.now.view.node cluster.now.sent event.now }
     {
@@ -57,7 +60,7 @@ impl Selection<'_> {
         }
     }
 
-    /// Whether a delivery is shown: an event of the addressee of the parcel.
+    /// Whether a delivery is shown: it is an event of the parcel's addressee.
     fn shows_delivery<C: Exclusion>(&self, cluster: &Cluster<C>, event: &Event) -> bool
         ensures { result ≡ option_map_or (shows self.now.view.node)
             (addressee_of cluster.now.sent event.now) false }

@@ -1,4 +1,4 @@
-//! A view of a run, as a sink: what is shown of each event, and of the end.
+//! A view as a sink: it appends what is shown of each event of a run, and of the end.
 
 ghost use Rattle.std.specs.Prelude.{◌≡◌, ◌+◌, ◌<◌, ◌≤◌, List, [], ◌∷◌, ◌++◌, drop, length, string_bytes, IfOk, OnOk};
 ghost use Rattle.mx_network.specs.Step.{ClusterState};
@@ -63,8 +63,8 @@ where
     }
 }
 
-/// Appends what is shown of the newest event, which sent the parcels from `before` on. Nothing is,
-/// if the view is quiet.
+/// Appends what is shown of the newest event, with this index, and of the parcels from number
+/// `before` on, which it sent. A quiet view shows nothing of them.
 fn add_step<C: Exclusion>(
     selection: &Selection<'_>,
     index: u64,
@@ -87,8 +87,8 @@ where
     add_newest(selection, index, before, cluster, text)
 }
 
-/// Appends the line of the newest event, where it is shown, and those of the parcels from `before`
-/// on, which it sent.
+/// Appends the line of the newest event, if it is shown, and the line of each shown parcel from
+/// number `before` on, which the event sent.
 fn add_newest<C: Exclusion>(
     selection: &Selection<'_>,
     index: u64,
@@ -111,7 +111,7 @@ where
     add_parcels(selection, cluster, before, text)
 }
 
-/// Appends the line of an event that has happened in this cluster, where it is shown.
+/// Appends the line of an event that has happened in this cluster, if the event is shown.
 fn add_event<C: Exclusion>(
     selection: &Selection<'_>,
     index: u64,
@@ -136,7 +136,7 @@ fn add_event<C: Exclusion>(
     })
 }
 
-/// Appends the lines of the parcels from `before` on that are shown.
+/// Appends the line of each shown parcel from number `before` on.
 fn add_parcels<C: Exclusion>(
     selection: &Selection<'_>,
     cluster: &Cluster<C>,
@@ -156,7 +156,7 @@ where
     Ok(())
 }
 
-/// Appends the line of the parcel of this number, where it is shown.
+/// Appends the line of the parcel of this number, if the parcel is shown.
 fn add_numbered<C: Exclusion>(
     selection: &Selection<'_>,
     cluster: &Cluster<C>,
@@ -179,7 +179,7 @@ where
     }
 }
 
-/// Appends the line of a parcel, where it is shown.
+/// Appends the line of a parcel with this number, if the parcel is shown.
 fn add_sent<M: Letter>(
     selection: &Selection<'_>,
     number: u64,

@@ -1,5 +1,5 @@
-//! `replay` with `--quiet`, `--node`, `--json` or `--state`: from words, named bytes and two outputs
-//! to a status.
+//! `replay` with `--quiet`, `--node`, `--json` or `--state`, with its files read from a source and
+//! its texts printed to two outputs.
 
 ghost use Rattle.std.specs.Prelude.{◌≡◌, ◌&&◌, IsSome, IfSome, IfOk, length, option_map};
 ghost use Rattle.mx_plan.specs.Events.{events_at};
@@ -24,8 +24,8 @@ use mx_plan::{Plan, read_events};
 use mx_stamps::NodeId;
 use std::alloc::Global;
 
-/// Runs a command line, without the program's name, that begins with `replay` and has `--quiet`,
-/// `--node`, `--json` or `--state`. Returns the exit status:
+/// Runs `replay` with `--quiet`, `--node`, `--json` or `--state`. `words` is the command line
+/// without the program's name. Returns the exit status:
 ///
 /// - 0 on success, or if help was requested;
 /// - 1 for an error in the plan, its events, the node, a file or an output;
@@ -57,7 +57,8 @@ pub fn replay_view<S: Source, O: Output, E: Output>(
     }
 }
 
-/// Shows what is asked for, and closes the run. Returns the status.
+/// Shows what `request` asks for, flushes `out`, and writes to `err` why the command ended early,
+/// if it did. Returns the exit status.
 fn view_and_close<S: Source, O: Output, E: Output>(
     alloc: Global,
     request: &Request<'_>,
@@ -81,7 +82,7 @@ fn view_and_close<S: Source, O: Output, E: Output>(
     }
 }
 
-/// Reads a plan and its events, and shows what is asked for of their replay.
+/// Reads a plan and its events, replays these, and shows what `request` asks for.
 fn view_run<S: Source, O: Output>(
     alloc: Global,
     request: &Request<'_>,
@@ -101,8 +102,8 @@ fn view_run<S: Source, O: Output>(
     }
 }
 
-/// Reads the events of a plan, and shows what is asked for of their replay. A text that is no JSON
-/// is named.
+/// Reads events from `text`, replays them, and shows what `request` asks for. If `text` is not
+/// JSON, the error says that this input is the events.
 fn view_text<O: Output>(
     alloc: Global,
     request: &Request<'_>,
@@ -126,7 +127,7 @@ fn view_text<O: Output>(
     }
 }
 
-/// Shows what is asked for of the replay of these events.
+/// Replays these events, and shows what `request` asks for.
 fn view_events<O: Output>(
     alloc: Global,
     request: &Request<'_>,
@@ -156,7 +157,8 @@ fn view_events<O: Output>(
     }
 }
 
-/// The node of this name, where one is named.
+/// Returns the node of this name, or `None` if no name is given. Fails if the plan has no such
+/// node.
 fn node_in(alloc: Global, plan: &Plan, name: Option<&str>) -> Result<Option<NodeId>, ViewError>
     ensures { IsFound plan.now (option_map (λ text. text.now) name.entry) result }
 {
@@ -169,7 +171,7 @@ fn node_in(alloc: Global, plan: &Plan, name: Option<&str>) -> Result<Option<Node
     }
 }
 
-/// Returns the error for a name that no node has, or that for lack of memory.
+/// Returns the error for a name that no node has, or `Memory` if memory runs out.
 fn unknown_node(alloc: Global, plan: &Plan, name: &str) -> ViewError
     ensures { IsStranger result }
 {
@@ -179,7 +181,7 @@ fn unknown_node(alloc: Global, plan: &Plan, name: &str) -> ViewError
     }
 }
 
-/// Shows the replay of these events.
+/// Replays these events, and prints what `view` shows. Returns the exit status.
 fn show<O: Output>(
     alloc: Global,
     plan: &Plan,

@@ -1,19 +1,20 @@
-//! Why nothing is shown.
+//! Why a view of a replay ends early.
 
 ghost use Rattle.std.specs.Prelude.{◌++◌, Some, codes, string_bytes};
 
 use mx_cli::CommandError;
 use std::fmt;
 
-/// Why nothing is shown.
+/// Why a view of a replay ends early.
 #[derive(Drop)]
 pub(crate) enum ViewError {
+    /// A file, the plan, an event, an output or memory stopped the command.
     Command(CommandError),
     /// A node was named that the plan does not have.
     UnknownNode(UnknownNode),
 }
 
-/// A name that no node has: what is told of it.
+/// The message about a name that no node of the plan has.
 #[derive(Drop)]
 pub(crate) struct UnknownNode(pub(crate) String);
 

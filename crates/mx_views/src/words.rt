@@ -9,14 +9,17 @@ use clap::{ArgMatches, Error};
 use mx_cli::{CommandId, Names, is_given, matches_in, names_at, text_at};
 use std::alloc::Global;
 
-/// What is to be shown of a replay: the names of its plan and events, whether the closing lines
-/// alone, of which node alone, whether as JSON, and whether with what each node knows.
+/// What a command line asks to show of a replay.
 #[derive(Clone, Copy)]
 pub(crate) struct Request<'a> {
     pub(crate) names: Names<'a>,
+    /// Whether only the lines of nodes and the verdict are shown.
     pub(crate) is_quiet: bool,
+    /// The name of the only node that is shown, or `None` for all nodes.
     pub(crate) node: Option<&'a str>,
+    /// Whether JSON is printed, in place of lines.
     pub(crate) is_json: bool,
+    /// Whether what each node knows is shown too. JSON always shows it.
     pub(crate) has_state: bool,
 }
 
@@ -34,6 +37,7 @@ pub(crate) fn parse<'a>(alloc: Global, words: &'a [&'a str]) -> Result<Option<Re
     Ok(from_matches(&matches))
 }
 
+/// Returns what the command line asks to show, or `None` for another command.
 fn from_matches<'a>(matches: &ArgMatches<'a>) -> Option<Request<'a>>
     ensures { option_map request_of result ≡ request_in (subcommand_rows_of matches.now) }
 {
@@ -43,6 +47,7 @@ fn from_matches<'a>(matches: &ArgMatches<'a>) -> Option<Request<'a>>
     }
 }
 
+/// Returns what `replay` asks to show, or `None` if the plan or the events are not named.
 fn view_in<'a>(matches: &ArgMatches<'a>) -> Option<Request<'a>>
     ensures { option_map request_of result ≡ view_in (rows_of (found_of matches.now)) }
 {

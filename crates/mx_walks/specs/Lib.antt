@@ -1,7 +1,7 @@
 -- Walk: what happens next in a cluster, by the words of a generator. States: the state of a walk.
--- Walked: what happens in a walk of a number of steps. Summaries: what came of the events of a seed,
--- and its text. WalkWords: what the words ask for. Printed: what is printed of that.
--- Seeds, SeedsWords, SeedsPrinted: the same of some seeds, one after another.
+-- Walked: the cluster after a walk. Summaries: the summary of the events of a seed, and its text.
+-- WalkWords: the arguments of `explore` with `--walk`. Printed: what is printed for a request.
+-- Seeds, SeedsWords, SeedsPrinted: the same for several seeds, one after another.
 pub mod Walk
 pub mod States
 pub mod Walked

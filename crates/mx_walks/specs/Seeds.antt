@@ -1,4 +1,4 @@
--- What comes of some seeds, one after another.
+-- The sums over several seeds, one after another, and their text.
 use Rattle.std.specs.Prelude.{ℕ, zero, suc, ◌≡◌, ◌≤◌, ◌+◌, ◌-◌, ◌%◌, ◌^◌, ◌++◌, Bool, true, false, Some, codes, decimal, if◌then◌else◌}
 use Rattle.mx_explorer.specs.declared.verdict.Verdict.{Verdict}
 use Rattle.mx_explorer.specs.declared.verdict.Verdict.TheVariants.{Sound, Broken}
@@ -21,7 +21,7 @@ is_sound (Broken k clause) = false
 abbrev pub no_sums : Sums
 no_sums = record { seeds = 0; steps = 0; entered = 0; sent = 0 }
 
--- the sums with one more seed
+-- the sums over one more seed, which has this summary
 abbrev pub with_summary : Summary → Sums → Sums
 with_summary s t =
     record {
@@ -31,21 +31,21 @@ with_summary s t =
       sent = (t.sent + s.sent) % 2 ^ 64;
     }
 
--- the same, if that is sound
+-- the same, if the verdict is sound; otherwise the sums as they are
 abbrev pub after_summary : Summary → Sums → Sums
 after_summary s t = if is_sound s.verdict then with_summary s t else t
 
--- a seed counted from the first one, modulo 2^64
+-- the seed at an offset from the first one, modulo 2^64
 abbrev pub seed_at : ℕ → ℕ → ℕ
 seed_at first offset = (first + offset) % 2 ^ 64
 
--- the sums with so many seeds more, from an offset on
+-- the sums over this many more seeds, from an offset on
 unfoldable pub sums_from : (ℕ → Summary) → ℕ → ℕ → ℕ → Sums → Sums
 sums_from find first offset zero t = t
 sums_from find first offset (suc rest) t =
     sums_from find first (offset + 1) rest (with_summary (find (seed_at first offset)) t)
 
--- the sums of this many seeds of a plan
+-- the sums over this many seeds of a plan, from the first seed on
 abbrev pub sums_of : Fields → Manner → ℕ → ℕ → ℕ → Sums
 sums_of p manner first count steps =
     sums_from (λ seed. summary_of p manner seed steps p.shape) first 0 count no_sums
@@ -67,11 +67,12 @@ abbrev pub end_status : SeedsEnd → ℕ
 end_status (end.All sums) = 0
 end_status (end.Broken seed summary) = verdict_status summary.verdict
 
--- what is printed of this many seeds, which are all sound
+-- what is printed for this many seeds from the first one on, all of them sound
 abbrev pub seeds_text : Fields → Manner → ℕ → ℕ → ℕ → Text
 seeds_text p manner first count steps = end_text (end.All (sums_of p manner first count steps))
 
--- a text names the seeds from one number to another: this many, at most a million
+-- the text is `A..B`, which names the seeds from A to B. `first` is A, and `count` is the number of
+-- seeds, at most a million
 pub record IsRange (text : Text) (first count : ℕ) : Type 0 where
   pub low : Text
   pub high : Text

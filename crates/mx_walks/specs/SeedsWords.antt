@@ -1,4 +1,4 @@
--- What the words of `explore` with `--seeds` ask for, as `clap` reads them.
+-- The arguments of `explore` with `--seeds`, as `clap` parses them.
 use Rattle.std.specs.Prelude.{◌||◌, ℕ, List, [], ◌∷◌, Bool, true, false, Option, Some, None, codes, if◌then◌else◌, option_map, option_and_then}
 use Rattle.std.specs.Option.{option_map_or}
 use Rattle.clap.specs.Words.{App, Row, Text, first_of}
@@ -10,18 +10,19 @@ use Rattle.mx_walks.specs.declared.manner.Manner.TheVariants.{Schedule, Walk}
 use Rattle.mx_walks.specs.declared.seeds_words.SeedsRequest.{SeedsRequest as Given}
 use Rattle.mx_walks.specs.WalkWords.{conditions_in}
 
--- the whole command line
+-- the command line of `mx` with `explore` as its only command, in the form with `--seeds`
 unfoldable pub seeds_line : App
 seeds_line = line_of (id.ExploreSeeds ∷ [])
 
--- it is said what becomes of parcels
+-- an option for the parcels of a walk was given
 abbrev pub has_conditions : List Row → Bool
 has_conditions rows =
     option_map_or (λ _. true) (first_of (codes "loss") rows) false
     || option_map_or (λ _. true) (first_of (codes "repeat") rows) false
     || is_given (codes "in-order") rows
 
--- a walk; or events each drawn alone, unless it is said what becomes of parcels
+-- a walk, if `--walk` was given; otherwise events that are each drawn alone, and then no option for
+-- the parcels of a walk may be given
 abbrev pub manner_in : List Row → Option Manner
 manner_in rows =
     if is_given (codes "walk") rows then Some (Walk (conditions_in rows))
@@ -48,7 +49,7 @@ abbrev pub request : Text → Text → ℕ → Manner → SeedsRequest
 request plan seeds steps manner =
     record { plan = plan; seeds = seeds; steps = steps; manner = manner }
 
--- what was given for the arguments
+-- the request of the given arguments
 abbrev pub seeds_in : List Row → Option SeedsRequest
 seeds_in rows =
     option_and_then (λ plan. option_and_then (λ seeds. option_and_then (λ steps.
@@ -59,6 +60,6 @@ seeds_in rows =
 abbrev pub request_in : Option (Text × List Row) → Option SeedsRequest
 request_in met = by_name (codes "explore") seeds_in met
 
--- what the words ask for, if they are `explore` with `--seeds`
+-- the request of these words, if they are `explore` with `--seeds`
 unfoldable pub request_asked : List Text → Option SeedsRequest
 request_asked words = asked_of seeds_line request_in words

@@ -1,4 +1,4 @@
--- The state of a walk, as the code has it.
+-- The state of a walk in the code.
 use Rattle.mx_walks.specs.Walk.{WalkState}
 use Rattle.mx_walks.specs.declared.walk.Walk.{Walk}
 

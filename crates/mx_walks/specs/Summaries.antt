@@ -1,4 +1,4 @@
--- What came of the events that were drawn from a seed, and its text.
+-- The summary of the events that are drawn from a seed, and its text.
 use Rattle.std.specs.Prelude.{ℕ, ◌++◌, length}
 use Rattle.std.specs.List.{count_by}
 use Rattle.mx_nodelaws.specs.Core.{Core}
@@ -26,7 +26,7 @@ abbrev pub after_seed : {H S M : Type 0} → Core H S M → Fields → Manner �
 after_seed core p Schedule seed steps g = after_drawn core g (schedule_of p seed steps)
 after_seed core p (Walk conditions) seed steps g = after_walk core p conditions seed steps g
 
--- what came of this many steps in a cluster, whose trace is sound
+-- the summary of a cluster after this many steps. Its verdict is sound
 abbrev pub summary_in : {S M : Type 0} → ℕ → ClusterState S M → Summary
 summary_in steps g =
     record {
@@ -36,7 +36,7 @@ summary_in steps g =
       verdict = Sound;
     }
 
--- the same of the events of a seed in the cluster of a plan, by its algorithm
+-- the summary of the events of a seed in the cluster of a plan, by the plan's algorithm
 abbrev pub summary_of : Fields → Manner → ℕ → ℕ → Shape → Summary
 summary_of p manner seed steps (Ricart count) =
     summary_in steps (after_seed ricart_core p manner seed steps (at_rest ricart_core p count))
@@ -49,6 +49,6 @@ summary_of p manner seed steps (Raymond tree) =
 abbrev pub summary_text : Summary → Text
 summary_text s = explored_line s.steps s.entered s.sent ++ verdict_line s.verdict
 
--- what is printed of a seed
+-- what is printed for a seed
 abbrev pub seed_text : Fields → Manner → ℕ → ℕ → Text
 seed_text p manner seed steps = summary_text (summary_of p manner seed steps p.shape)

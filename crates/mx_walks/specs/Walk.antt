@@ -1,4 +1,4 @@
--- A walk: what happens next in a cluster, by the words of a generator.
+-- A walk: what happens next in a cluster, by the words (32-bit numbers) of a generator.
 use Rattle.std.specs.Prelude.{ℕ, zero, suc, ◌+◌, ◌-◌, ◌*◌, ◌/◌, ◌%◌, ◌&&◌, ◌||◌, Bool, true, false, not, List, [], ◌∷◌, ◌++◌, Option, Some, None, length, min, nat_eq, nat_lt, position, slice_get, slice_index_or, if◌then◌else◌}
 use Rattle.std.specs.List.{range_with_len, swap_remove}
 use Rattle.std.specs.Option.{option_map_or}
@@ -22,7 +22,8 @@ use Rattle.mx_walks.specs.declared.conditions.Conditions.{Conditions}
 abbrev pub Draw : Type 0
 Draw = Option Event × Lcg
 
--- an idle node asks, wants the records of another, settles up to its first gap, or does nothing
+-- what an idle node does, by the number n: it asks, wants a node's records, settles up to its first
+-- gap, or does nothing
 abbrev pub idle_by : ℕ → ℕ → ℕ → ℕ → Lcg → Draw
 idle_by n nodes i gapless g =
     if nat_lt n 2 then (Some (Ask i), g)
@@ -30,8 +31,8 @@ idle_by n nodes i gapless g =
     else if nat_eq n 3 then (Some (Settle i gapless), g)
     else (None, g)
 
--- a waiting node cancels, enters if it may, ticks, always so if no parcel is under way, or does
--- nothing
+-- what a waiting node does, by the number n: it cancels; or else enters, if it may; or else ticks,
+-- always if no parcel is under way; or else does nothing
 abbrev pub waiting_by : ℕ → ℕ → Bool → Bool → Option Event
 waiting_by n i may_enter is_calm =
     if nat_eq n 0 then Some (Cancel i)
@@ -39,7 +40,7 @@ waiting_by n i may_enter is_calm =
     else if nat_lt n 4 || is_calm then Some (Tick i)
     else None
 
--- a node that is inside reads, writes, wants the records of another, or leaves
+-- what a node inside does, by the number n: it reads, writes, wants a node's records, or leaves
 abbrev pub inside_by : ℕ → ℕ → ℕ → ℕ → Lcg → Draw
 inside_by n nodes registers i g =
     if nat_lt n 5 then (Some (Read i (word g % registers)), after_words 1 g)
@@ -48,7 +49,7 @@ inside_by n nodes registers i g =
     else if nat_eq n 9 then (Some (Want i (word g % nodes)), after_words 1 g)
     else (Some (Leave i), g)
 
--- by the phase of the node; a word chooses
+-- what a node does, by its phase and by a word of the generator
 abbrev pub act_by : Phase → ℕ → ℕ → ℕ → ℕ → Bool → Bool → Lcg → Draw
 act_by Idle nodes registers i gapless may_enter is_calm g =
     idle_by (word g % 16) nodes i gapless (after_words 1 g)
@@ -59,36 +60,37 @@ act_by (Inside n) nodes registers i gapless may_enter is_calm g =
 
 -- ---- parcels
 
--- the parcel of this number goes from one node to another
+-- the k-th parcel goes from node `from` to node `to`
 abbrev pub is_on : {P : Type 0} → List (ℕ × ℕ × P) → ℕ → ℕ → ℕ → Bool
 is_on sent from to k =
     option_map_or (λ p. nat_eq p.0 from && nat_eq p.1 to) (slice_get sent k) false
 
--- the least of a number and of the parcels under way from one node to another
+-- the least of a number and of the numbers of the parcels under way from one node to another
 unfoldable pub oldest_on : {P : Type 0} → List (ℕ × ℕ × P) → ℕ → ℕ → ℕ → List ℕ → ℕ
 oldest_on sent from to number [] = number
 oldest_on sent from to number (k ∷ ks) =
     let older = oldest_on sent from to number ks in
     if is_on sent from to k then min k older else older
 
--- the oldest parcel under way on the link of this one
+-- the oldest of this parcel and of those under way from and to the same nodes
 abbrev pub oldest_beside : {P : Type 0} → List (ℕ × ℕ × P) → List ℕ → ℕ → ℕ
 oldest_beside sent flying number =
     option_map_or (λ p. oldest_on sent p.0 p.1 number flying) (slice_get sent number) number
 
--- the last number takes the place of this one, if it is in the list
+-- the list without this number, if it has the number. The last number takes the empty place
 abbrev pub without : ℕ → List ℕ → List ℕ
 without number flying =
     option_map_or (λ i. swap_remove flying i (slice_index_or flying i 0))
     (position (nat_eq number) flying) flying
 
--- a number below 256, which the lowest eight bits of a word mean; the lowest six go first
+-- the lowest eight bits of a word as a number below 256. The lowest six bits become its highest six
 abbrev pub byte_of : ℕ → ℕ
 byte_of n = n % 64 * 4 + n / 64 % 4
 
 -- ---- steps
 
--- the generator, the parcels under way, and how many parcels were sent so far
+-- the generator, the numbers of the parcels under way, and how many parcels were sent at the last
+-- look
 pub record WalkState : Type 0 where
   pub words : Lcg
   pub flying : List ℕ
@@ -98,7 +100,7 @@ pub record WalkState : Type 0 where
 abbrev pub at_first : ℕ → WalkState
 at_first seed = record { words = generator_of seed; flying = []; seen = 0 }
 
--- the parcels sent since the last look are under way
+-- the walk after a look at the parcels sent: those sent since the last look are under way too
 abbrev pub looked : ℕ → WalkState → WalkState
 looked sent w =
     record {
@@ -107,7 +109,7 @@ looked sent w =
       seen = sent;
     }
 
--- what happens next, if anything does, and the walk after it
+-- the next event, if a step has one, and the walk after the step
 pub record Step : Type 0 where
   pub event : Option Event
   pub after : WalkState
@@ -120,7 +122,7 @@ with_words g w = record { words = g; flying = w.flying; seen = w.seen }
 abbrev pub is_empty : List ℕ → Bool
 is_empty flying = nat_eq (length flying) 0
 
--- a step delivers a parcel that is under way, by its chance, if there is one
+-- a step takes a parcel under way: there is one, and the chance is 4 to 51
 abbrev pub is_delivery : ℕ → Bool → Bool
 is_delivery chance is_calm = not is_calm && (not (nat_lt chance 4) && nat_lt chance 52)
 
@@ -132,7 +134,8 @@ module _ {H S M : Type 0} (core : Core H S M) where
   abbrev pub is_ready_at : List (MemberState S) → ℕ → Bool
   is_ready_at members i = option_map_or is_ready (slice_get members i) false
 
-  -- the first of so many nodes that is ready, in a ring from this one on; or that one itself
+  -- the first ready node among this many, from `any + offset` on in cyclic order; or `any`, if
+  -- none is ready
   unfoldable pub ready_from : List (MemberState S) → ℕ → ℕ → ℕ → ℕ → ℕ
   ready_from members nodes any offset zero = any
   ready_from members nodes any offset (suc left) =
@@ -149,24 +152,25 @@ module _ {H S M : Type 0} (core : Core H S M) where
   node_act members nodes registers is_calm i g =
       option_map_or (member_act nodes registers is_calm i g) (slice_get members i) (None, g)
 
-  -- the node that acts: with a chance below 4 any node, else the next that is ready
+  -- the node that acts: `any` if the chance is below 4, else the first ready one from `any` on
   abbrev pub actor : List (MemberState S) → ℕ → ℕ → ℕ → ℕ
   actor members nodes chance any =
       if nat_lt chance 4 then any else ready_from members nodes any 0 nodes
 
-  -- a word draws any node, and then one acts
+  -- what the node that acts does: `actor` finds this node from the one that a word draws
   abbrev pub acted : List (MemberState S) → ℕ → ℕ → Bool → ℕ → Lcg → Draw
   acted members nodes registers is_calm chance g =
       node_act members nodes registers is_calm
       (actor members nodes chance (word g % nodes)) (after_words 1 g)
 
   module _ (conditions : Conditions) where
-    -- in order, the oldest parcel of a link goes first
+    -- this parcel; with `in_order`, the oldest of it and those under way from and to the same nodes
     abbrev pub chosen : List (ℕ × ℕ × Parcel M) → List ℕ → ℕ → ℕ
     chosen sent flying number =
         if conditions.in_order then oldest_beside sent flying number else number
 
-    -- one of the newest 64 parcels is delivered, perhaps again
+    -- a step that delivers one of the newest 64 parcels, perhaps again, or the one `chosen` in its
+    -- place; without an event, if no parcel was sent
     abbrev pub repeated : List (ℕ × ℕ × Parcel M) → WalkState → Step
     repeated sent w =
         if nat_eq w.seen 0 then record { event = None; after = w }
@@ -176,7 +180,7 @@ module _ {H S M : Type 0} (core : Core H S M) where
           after = with_words (after_words 1 w.words) w;
         }
 
-    -- this parcel is no more under way: it is lost or delivered, by a word
+    -- a step after which this parcel is not under way: by a word, it is lost or delivered
     abbrev pub landed : ℕ → Lcg → WalkState → Step
     landed number g w = record {
       event =
@@ -185,7 +189,8 @@ module _ {H S M : Type 0} (core : Core H S M) where
           record { words = after_words 1 g; flying = without number w.flying; seen = w.seen };
     }
 
-    -- a parcel that is under way, wherever it is
+    -- a step that loses or delivers a parcel under way: one that a word draws, or the one `chosen`
+    -- in its place
     abbrev pub taken_up : List (ℕ × ℕ × Parcel M) → WalkState → Step
     taken_up sent w =
         landed
@@ -196,7 +201,7 @@ module _ {H S M : Type 0} (core : Core H S M) where
     abbrev pub own_step : Draw → WalkState → Step
     own_step d w = record { event = d.0; after = with_words d.1 w }
 
-    -- the step that a word means
+    -- the step for the word n
     abbrev pub step_by : ClusterState S M → ℕ → ℕ → ℕ → WalkState → Step
     step_by g nodes registers n w =
         if nat_lt (byte_of n) conditions.repeat then repeated g.sent w

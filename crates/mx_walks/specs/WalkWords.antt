@@ -1,4 +1,4 @@
--- What the words of `explore` with `--walk` ask for, as `clap` reads them.
+-- The arguments of `explore` with `--walk`, as `clap` parses them.
 use Rattle.std.specs.Prelude.{ℕ, List, [], ◌∷◌, Option, codes, option_map, unwrap_or}
 use Rattle.clap.specs.Words.{App, Row, Text}
 use Rattle.mx_cli.specs.Table.{line_of}
@@ -7,15 +7,16 @@ use Rattle.mx_cli.specs.declared.table.CommandId.TheVariants as id
 use Rattle.mx_walks.specs.declared.conditions.Conditions.{Conditions}
 use Rattle.mx_walks.specs.declared.walk_words.WalkRequest.{WalkRequest as Given}
 
--- the whole command line
+-- the command line of `mx` with `explore` as its only command, in the form with `--walk`
 unfoldable pub walk_line : App
 walk_line = line_of (id.ExploreWalk ∷ [])
 
--- the number that was given for an option, or another
+-- the number that was given for an option, or `other` if none was
 abbrev pub number_or : Text → ℕ → List Row → ℕ
 number_or id other rows = unwrap_or (number_at id rows) other
 
--- what was given for the parcels: of 256, 4 are lost and 8 are repeated, if nothing is
+-- the conditions that were given: the chances in 256 to lose and to repeat a parcel, 4 and 8 if
+-- absent, and whether parcels go in order
 abbrev pub conditions_in : List Row → Conditions
 conditions_in rows =
     record {
@@ -24,7 +25,7 @@ conditions_in rows =
       in_order = is_given (codes "in-order") rows;
     }
 
--- the plan, the seed, the number of steps, and what becomes of parcels
+-- the plan, the seed, the number of steps, and the conditions for parcels
 pub record WalkRequest : Type 0 where
   pub plan : Text
   pub seed : ℕ
@@ -40,7 +41,7 @@ request_of walk =
       conditions = walk.conditions;
     }
 
--- what was given for the arguments
+-- the request of the given arguments
 abbrev pub walk_in : List Row → Option WalkRequest
 walk_in rows =
     option_map
@@ -50,6 +51,6 @@ walk_in rows =
 abbrev pub request_in : Option (Text × List Row) → Option WalkRequest
 request_in met = by_name (codes "explore") walk_in met
 
--- what the words ask for, if they are `explore` with `--walk`
+-- the request of these words, if they are `explore` with `--walk`
 unfoldable pub request_asked : List Text → Option WalkRequest
 request_asked words = asked_of walk_line request_in words

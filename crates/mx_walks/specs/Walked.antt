@@ -1,4 +1,4 @@
--- What happens in a walk of a number of steps.
+-- The cluster after a walk of a number of steps.
 use Rattle.std.specs.Prelude.{ℕ, zero, suc, Option, length}
 use Rattle.mx_nodelaws.specs.Core.{Core}
 use Rattle.mx_events.specs.declared.event.Event.{Event}
@@ -13,7 +13,7 @@ module _ {H S M : Type 0} (core : Core H S M) (conditions : Conditions) (nodes r
   abbrev pub after_step : WalkState → ClusterState S M → ClusterState S M
   after_step w g = after_placed core g (next_step core conditions g nodes registers w).event
 
-  -- the walk after it
+  -- the walk after a step
   abbrev pub walk_after : WalkState → ClusterState S M → WalkState
   walk_after w g = looked (length (after_step w g).sent)
       (next_step core conditions g nodes registers w).after

@@ -1,4 +1,4 @@
-//! `explore` with `--walk`: from words, named bytes and two outputs to a status.
+//! The command `explore` with `--walk`, from the words of its command line to its exit status.
 
 ghost use Rattle.std.specs.Prelude.{◌≡◌, IfOk, IfSome, IsSome};
 ghost use Rattle.mx_cli.specs.Closed.{IsRunStatus, PassesOn};
@@ -21,7 +21,7 @@ use std::alloc::Global;
 /// - 0 on success, or if help was requested;
 /// - 1 for an error in the plan, a file or an output;
 /// - 2 for wrong arguments;
-/// - 4 if the trace is broken;
+/// - 4 if the trace is broken, which that of a cluster never is;
 /// - 5 if memory ran out.
 pub fn explore_walk<S: Source, O: Output, E: Output>(
     alloc: Global,
@@ -46,7 +46,8 @@ pub fn explore_walk<S: Source, O: Output, E: Output>(
     }
 }
 
-/// Walks as asked for, and closes the run. Returns the status.
+/// Runs the walk of a request, flushes the output, and reports a fault if there is one. Returns the
+/// status.
 fn run_walk<S: Source, O: Output, E: Output>(
     alloc: Global,
     request: &WalkRequest<'_>,
@@ -65,7 +66,7 @@ fn run_walk<S: Source, O: Output, E: Output>(
     run_seed(alloc, &request.exploration, &manner, source, out, err)
 }
 
-/// Explores a seed, and closes the run. Returns the status.
+/// Explores a seed, flushes the output, and reports a fault if there is one. Returns the status.
 fn run_seed<S: Source, O: Output, E: Output>(
     alloc: Global,
     exploration: &Exploration<'_>,
@@ -87,7 +88,7 @@ fn run_seed<S: Source, O: Output, E: Output>(
     close(alloc, ended, &names, out, err)
 }
 
-/// Returns the names for messages about a plan without a second file.
+/// Returns the file names for messages: the plan's, also in place of a second file's.
 fn plan_alone<'a>(exploration: &Exploration<'a>) -> Names<'a>
     ensures { names_of result ≡ (exploration.now.plan.now, exploration.now.plan.now) }
 {

@@ -1,4 +1,4 @@
-//! What is drawn from the words of a generator.
+//! Nodes and numbers drawn by the words (32 random bits each) of a generator.
 
 ghost use Rattle.std.specs.Prelude.{◌≡◌, ◌<◌, ◌≤◌, ◌%◌};
 ghost use Rattle.mx_explorer.specs.Drawn.{after_words, word};
@@ -8,7 +8,7 @@ use mx_stamps::{MAX_NODES, NodeId};
 use rand_core::utils::NextWord;
 use rand_pcg::Pcg32;
 
-/// Draws one of `nodes` nodes by the next word.
+/// Draws one of the first `nodes` nodes by the generator's next word.
 pub(crate) fn draw_node(words: &mut Pcg32, nodes: u8) -> NodeId
     requires nodes { (0 < nodes) × (nodes ≤ MAX_NODES) }
     ensures value { result ≡ word words.old % nodes }
@@ -17,7 +17,7 @@ pub(crate) fn draw_node(words: &mut Pcg32, nodes: u8) -> NodeId
     NodeId::of(draw_below(words, nodes)).unwrap()
 }
 
-/// Draws a number below `count` by the next word.
+/// Draws a number below `count` by the generator's next word.
 pub(crate) fn draw_below(words: &mut Pcg32, count: u8) -> u8
     requires { 0 < count }
     ensures value { result ≡ word words.old % count }
@@ -26,7 +26,7 @@ pub(crate) fn draw_below(words: &mut Pcg32, count: u8) -> u8
     (words.next_word() % u32::from(count)) as u8
 }
 
-/// Draws a number below 256 by the lowest eight bits of a word: the lowest six, then the other two.
+/// Returns the lowest eight bits of a word as a number, with the lowest six above the other two.
 pub(crate) fn byte_of(word: u32) -> u64
     ensures { result ≡ byte_of word }
 {

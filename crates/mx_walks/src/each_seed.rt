@@ -50,7 +50,7 @@ fn print_end<O: Output>(alloc: Global, end: &SeedsEnd, out: &mut O) -> Result<u8
     }
 }
 
-/// Returns the status for the seeds.
+/// Returns the status: 0, or that of the verdict on the first seed that is not sound.
 fn status_of(end: &SeedsEnd) -> u8
     ensures { result ≡ end_status end.now }
 {

@@ -1,6 +1,5 @@
-//! Walks: events drawn by the state of a cluster, so that parcels arrive and nodes enter and leave;
-//! and `mx explore` with `--walk` or
-//! `--seeds`.
+//! Walks: random events that suit the state of a cluster, so that parcels arrive and nodes enter
+//! and leave. Also `mx explore` with `--walk` or `--seeds`.
 #![tactic(auto)]
 
 mod command;

@@ -5,8 +5,8 @@ use crate::conditions::Conditions;
 /// How the events of an exploration are drawn.
 #[derive(Clone, Copy, Debug, PartialEq, Eq)]
 pub enum Manner {
-    /// Each alone, as `explore` does.
+    /// Each event on its own, as by `explore` without `--walk`.
     Schedule,
-    /// By the state of the cluster.
+    /// To suit the state of the cluster, as by `explore` with `--walk`.
     Walk(Conditions),
 }

@@ -14,11 +14,12 @@ use mx_stamps::{MAX_NODES, NodeId};
 use rand_core::utils::NextWord;
 use rand_pcg::Pcg32;
 
-/// Of 64 steps that deliver no parcel again, those below this let any node act.
+/// If the chance (0 to 63) of a step is below this, the drawn node acts, whatever its phase.
 const ANYBODY: u32 = 4;
 
-/// Returns what a node does, if it can do something. A word draws a node. With a chance below 4
-/// that node acts, else the next one that may enter or is inside.
+/// Returns the event of a node that acts by itself, if there is one. The next word draws a node. If
+/// `chance` (0 to 63) is below 4, that node acts, else the first from it on that may enter or is
+/// inside; if there is none, the drawn one. `is_calm` says that no parcel is under way.
 pub(crate) fn act<C: Exclusion>(
     words: &mut Pcg32,
     nodes: u8,
@@ -39,7 +40,8 @@ pub(crate) fn act<C: Exclusion>(
     act_at(words, nodes, registers, cluster, node, is_calm)
 }
 
-/// Draws the node that acts.
+/// Returns the node that acts: the drawn node `any` if `chance` (0 to 63) is below 4, else the
+/// first from it on that may enter or is inside, or `any` if there is none.
 fn actor<C: Exclusion>(nodes: u8, cluster: &Cluster<C>, chance: u32, any: NodeId) -> NodeId
     requires { (0 < nodes) × (nodes ≤ MAX_NODES) }
     ensures { result ≡ actor C.core cluster.now.members nodes chance any }
@@ -51,7 +53,7 @@ fn actor<C: Exclusion>(nodes: u8, cluster: &Cluster<C>, chance: u32, any: NodeId
     }
 }
 
-/// Returns what this node does by itself.
+/// Returns what this node does by itself, if anything. `is_calm` says that no parcel is under way.
 fn act_at<C: Exclusion>(
     words: &mut Pcg32,
     nodes: u8,
@@ -73,7 +75,8 @@ fn act_at<C: Exclusion>(
     }
 }
 
-/// Returns what this member does by itself.
+/// Returns what a node does by itself in its phase, if anything. `member` is its state; `is_calm`
+/// says that no parcel is under way.
 fn act_as<C: Exclusion>(
     words: &mut Pcg32,
     nodes: u8,
@@ -96,15 +99,15 @@ fn act_as<C: Exclusion>(
     }
 }
 
-/// Up to which section a journal has no gap.
+/// Returns the number of the section up to which a journal has no gap.
 fn gapless_to(journal: &Journal) -> u64
     ensures { result ≡ first_gap journal.now - 1 }
 {
     journal.gapless_to()
 }
 
-/// Returns what an idle node does: it asks, wants the records of another, or settles up to its
-/// first gap.
+/// Returns what an idle node does, if anything: it asks, wants the records of another, or settles
+/// its journal up to section `gapless`.
 fn be_idle(words: &mut Pcg32, nodes: u8, node: NodeId, gapless: u64) -> Option<Event>
     requires { (0 < nodes) × (nodes ≤ MAX_NODES) }
     ensures event { result
@@ -116,7 +119,7 @@ fn be_idle(words: &mut Pcg32, nodes: u8, node: NodeId, gapless: u64) -> Option<E
     idle_by(number, words, nodes, node, gapless)
 }
 
-/// Returns what an idle node does for a number below 16.
+/// Returns what an idle node does, if anything, as `number` (0 to 15) chooses.
 fn idle_by(number: u32, words: &mut Pcg32, nodes: u8, node: NodeId, gapless: u64) -> Option<Event>
     requires { (0 < nodes) × (nodes ≤ MAX_NODES) }
     ensures event { result ≡ (idle_by number nodes node gapless words.old).0 }
@@ -133,7 +136,8 @@ fn idle_by(number: u32, words: &mut Pcg32, nodes: u8, node: NodeId, gapless: u64
     }
 }
 
-/// Returns what a waiting node does: it cancels or ticks, both seldom, or enters if it may.
+/// Returns what a waiting node does, if anything: seldom it cancels; else it enters if it may; else
+/// it ticks, but seldom unless no parcel is under way (`is_calm`).
 fn wait(words: &mut Pcg32, node: NodeId, may_enter: bool, is_calm: bool) -> Option<Event>
     ensures event { result ≡ waiting_by (word words.old % 64) node may_enter is_calm }
     ensures next { words.new ≡ after_words 1 words.old }
@@ -163,7 +167,7 @@ fn be_inside(words: &mut Pcg32, nodes: u8, registers: u8, node: NodeId) -> Optio
     inside_by(number, words, nodes, registers, node)
 }
 
-/// Returns what a node inside does for a number below 16.
+/// Returns what a node inside does, as `number` (0 to 15) chooses.
 fn inside_by(
     number: u32,
     words: &mut Pcg32,
@@ -188,8 +192,8 @@ fn inside_by(
     }
 }
 
-/// Returns the first node from this one on, in cyclic order, that may enter or is inside, or this
-/// one if there is none.
+/// Returns the first node from `any` on, in cyclic order, that may enter or is inside, or `any` if
+/// there is none.
 fn ready_or<C: Exclusion>(nodes: u8, cluster: &Cluster<C>, any: NodeId) -> NodeId
     requires { (0 < nodes) × (nodes ≤ MAX_NODES) }
     ensures { result ≡ ready_from C.core cluster.now.members nodes any 0

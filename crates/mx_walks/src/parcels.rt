@@ -9,7 +9,7 @@ use mx_nodelaws::Exclusion;
 use mx_stamps::NodeId;
 use std::alloc::AllocError;
 
-/// Adds the parcels sent since there were `seen`: they are under way.
+/// Adds the newest parcels, numbered `seen` to `sent - 1`, to `flying`, those under way.
 pub(crate) fn put_new(flying: &mut Vec<u64>, seen: u64, sent: u64) -> Result<(), AllocError>
     ensures { OnOk result
         (flying.new.items ≡ flying.old.items ++ range_with_len seen (sent - seen)) }
@@ -20,7 +20,7 @@ pub(crate) fn put_new(flying: &mut Vec<u64>, seen: u64, sent: u64) -> Result<(),
     Ok(())
 }
 
-/// Removes a parcel, which is no longer under way. The last of the list takes its place.
+/// Removes a parcel from `flying`, those under way. The last of the list takes its place.
 pub(crate) fn take(flying: &mut Vec<u64>, number: u64)
     ensures { flying.new.items ≡ without number flying.old.items }
 {
@@ -32,7 +32,7 @@ pub(crate) fn take(flying: &mut Vec<u64>, number: u64)
     }
 }
 
-/// Returns the place of a number.
+/// Returns the place of a parcel in the list of those under way.
 fn place_of(number: u64, flying: &[u64]) -> Option<usize>
     ensures value { result ≡ position (nat_eq number) flying.now }
     ensures within { IfSome result (λ place. place < length flying.now) }
@@ -46,7 +46,8 @@ fn is_same(number: u64, other: u64) -> bool
     number == other
 }
 
-/// Returns the oldest parcel under way on the link of this one, or this one if there is none.
+/// Returns the oldest parcel under way from and to the same nodes as parcel `number`, or `number`
+/// if none is older.
 pub(crate) fn oldest_beside<C: Exclusion>(cluster: &Cluster<C>, flying: &[u64], number: u64) -> u64
     ensures { result ≡ oldest_beside cluster.now.sent flying.now number }
 {
@@ -56,7 +57,7 @@ pub(crate) fn oldest_beside<C: Exclusion>(cluster: &Cluster<C>, flying: &[u64], 
     }
 }
 
-/// Returns the least of a number and the parcels under way from one node to another.
+/// Returns the least of `number` and the numbers of the parcels under way from one node to another.
 fn oldest_on<C: Exclusion>(
     cluster: &Cluster<C>,
     from: NodeId,
@@ -73,8 +74,8 @@ fn oldest_on<C: Exclusion>(
     oldest
 }
 
-/// Returns the lesser of two numbers if the second is a parcel from one node to another, else the
-/// first.
+/// Returns the lesser of `oldest` and `other` if parcel `other` goes from `from` to `to`, else
+/// `oldest`.
 fn older_of<C: Exclusion>(
     cluster: &Cluster<C>,
     from: NodeId,
@@ -92,7 +93,7 @@ fn older_of<C: Exclusion>(
     }
 }
 
-/// Whether the parcel of this number goes from one node to another.
+/// Whether the parcel of this number goes from `from` to `to`.
 fn is_on<C: Exclusion>(cluster: &Cluster<C>, from: NodeId, to: NodeId, number: u64) -> bool
     ensures { result ≡ is_on cluster.now.sent from to number }
 {

@@ -15,7 +15,7 @@ pub struct Seeds {
     pub count: u64,
 }
 
-/// Parses a range of seeds such as `1..100`, which includes both ends.
+/// Parses a range of at most 1,000,000 seeds such as `1..100`, which includes both ends.
 pub fn seeds_in(text: &str) -> Option<Seeds>
     ensures { IfSome result (λ seeds. IsRange text.now seeds.first seeds.count) }
 {

@@ -1,4 +1,4 @@
-//! `explore` with `--seeds`: from words, named bytes and two outputs to a status.
+//! The command `explore` with `--seeds`, from the words of its command line to its exit status.
 
 ghost use Rattle.std.specs.Prelude.{◌≡◌, ◌⊎◌, IfOk, IfSome};
 ghost use Rattle.std.specs.Io.KnownBytes.{Keeps};
@@ -21,7 +21,7 @@ use std::alloc::Global;
 /// - 0 if all seeds are sound, or if help was requested;
 /// - 1 for an error in the plan, a file or an output;
 /// - 2 for wrong arguments;
-/// - 4 if a seed is not sound;
+/// - 4 if the run of a seed is not sound, which the run of a cluster always is;
 /// - 5 if memory ran out.
 pub fn explore_seeds<S: Source, O: Output, E: Output>(
     alloc: Global,
@@ -37,6 +37,7 @@ pub fn explore_seeds<S: Source, O: Output, E: Output>(
 {
     match parse_seeds(alloc, words) {
         Ok(Some(request)) => run_request(alloc, &request, source, out, err),
+        // an option of a walk without `--walk`
         Ok(None) => refuse_words(help::NEEDS_WALK, err),
         Err(e) => refuse(alloc, &e, out, err),
     }
@@ -50,7 +51,7 @@ fn refuse_words<E: Output>(why: &str, err: &mut E) -> u8
     2
 }
 
-/// Explores the seeds that are asked for, and closes the run. Returns the status.
+/// Explores the seeds that the request names, or reports that it names none. Returns the status.
 fn run_request<S: Source, O: Output, E: Output>(
     alloc: Global,
     request: &SeedsRequest<'_>,
@@ -67,7 +68,8 @@ fn run_request<S: Source, O: Output, E: Output>(
     }
 }
 
-/// Explores these seeds, and closes the run. Returns the status.
+/// Explores these seeds, flushes the output, and reports a fault if there is one. Returns the
+/// status.
 fn run_seeds<S: Source, O: Output, E: Output>(
     alloc: Global,
     request: &SeedsRequest<'_>,

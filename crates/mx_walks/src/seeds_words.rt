@@ -11,8 +11,8 @@ use clap::{ArgMatches, Error};
 use mx_cli::{CommandId, is_given, matches_in, number_at, text_at};
 use std::alloc::Global;
 
-/// What is to be explored: a plan, the text that names the seeds, the number of steps of each, and
-/// how their events are drawn.
+/// What is to be explored: the file name of a plan, a text such as `1..100` that names the seeds,
+/// the number of steps for each seed, and how events are drawn.
 #[derive(Clone, Copy)]
 pub(crate) struct SeedsRequest<'a> {
     pub(crate) plan: &'a str,
@@ -21,7 +21,8 @@ pub(crate) struct SeedsRequest<'a> {
     pub(crate) manner: Manner,
 }
 
-/// Parses a command line that is `explore` with `--seeds`.
+/// Parses a command line that is `explore` with `--seeds`. Returns `None` for options of a walk
+/// without `--walk`.
 ///
 /// # Errors
 ///
@@ -47,6 +48,7 @@ fn from_matches<'a>(matches: &ArgMatches<'a>) -> Option<SeedsRequest<'a>>
     }
 }
 
+/// Returns the request that the arguments of `explore` give, if it is whole.
 fn seeds_in<'a>(matches: &ArgMatches<'a>) -> Option<SeedsRequest<'a>>
     ensures { option_map request_of result ≡ seeds_in (rows_of (found_of matches.now)) }
 {
@@ -70,7 +72,8 @@ fn seeds_in<'a>(matches: &ArgMatches<'a>) -> Option<SeedsRequest<'a>>
     })
 }
 
-/// Returns how events are drawn: as a walk, or each alone if no option is about parcels.
+/// Returns how events are drawn: as a walk with `--walk`, else each on its own. Returns `None` for
+/// options of a walk without `--walk`.
 fn manner_in(matches: &ArgMatches<'_>) -> Option<Manner>
     ensures { result ≡ manner_in (rows_of (found_of matches.now)) }
 {
@@ -83,7 +86,7 @@ fn manner_in(matches: &ArgMatches<'_>) -> Option<Manner>
     }
 }
 
-/// Whether it is said what becomes of parcels.
+/// Whether an option says what becomes of parcels: `--loss`, `--repeat` or `--in-order`.
 fn has_conditions(matches: &ArgMatches<'_>) -> bool
     ensures { result ≡ has_conditions (rows_of (found_of matches.now)) }
 {

@@ -14,7 +14,7 @@ use mx_plan::Plan;
 use mx_stamps::MAX_NODES;
 use std::alloc::{AllocError, Global};
 
-/// Runs a walk of `steps` steps from a seed. A step may have no event.
+/// Runs a walk of `steps` steps, drawn from `seed`, in a cluster. A step may have no event.
 pub fn walk_cluster<C: Exclusion>(
     alloc: Global,
     plan: &Plan,
@@ -38,7 +38,7 @@ pub fn walk_cluster<C: Exclusion>(
     )
 }
 
-/// A walk over these numbers of nodes and registers.
+/// Runs a walk over the first `nodes` nodes and `registers` registers.
 fn walk_over<C: Exclusion>(
     alloc: Global,
     nodes: u8,
@@ -60,7 +60,7 @@ fn walk_over<C: Exclusion>(
     Ok(())
 }
 
-/// One step.
+/// Takes the next step of a walk: applies its event, if there is one, and notes the parcels sent.
 fn step<C: Exclusion>(
     nodes: u8,
     registers: u8,
@@ -80,7 +80,8 @@ fn step<C: Exclusion>(
     walk.look(cluster.sent())
 }
 
-/// Applies the event, if there is one. A delivery of an unsent parcel is passed over.
+/// Applies the event, if there is one. A delivery of an unsent parcel, or an event of a node that
+/// the cluster lacks, is passed over.
 fn play<C: Exclusion>(cluster: &mut Cluster<C>, event: Option<Event>) -> Result<(), AllocError>
     ensures { OnOk result (after_placed C.core cluster.old event ≡ cluster.new) }
 {

@@ -1,4 +1,4 @@
-//! The outcome of the events drawn from a seed.
+//! The summary of the events drawn from a seed.
 
 ghost use Rattle.std.specs.Prelude.{◌≡◌, Some};
 ghost use Rattle.mx_walks.specs.Summaries.{summary_text};
@@ -8,7 +8,7 @@ use mx_explorer::Verdict;
 use mx_format::ExploredLine;
 use std::fmt;
 
-/// How many steps there were, how often a node entered, how many parcels were sent, and the verdict.
+/// How many steps were taken, sections entered and parcels sent, and the verdict on the trace.
 #[derive(Clone, Copy)]
 pub struct Summary {
     pub steps: u64,
@@ -18,7 +18,7 @@ pub struct Summary {
 }
 
 impl Summary {
-    /// Returns the line of the counts.
+    /// Returns the line of the counts, without the verdict.
     fn counts(&self) -> ExploredLine
         ensures steps { result.steps ≡ self.now.steps }
         ensures entered { result.entered ≡ self.now.entered }

@@ -1,4 +1,4 @@
-//! The sums of the explorations of some seeds.
+//! The sums over the explorations of several seeds.
 
 ghost use Rattle.std.specs.Prelude.{◌≡◌, ◌+◌, ◌%◌, ◌^◌, Some};
 ghost use Rattle.mx_walks.specs.Seeds.{after_summary, end_text, is_sound, no_sums, seed_start, sums_line};
@@ -18,7 +18,7 @@ pub struct Sums {
 }
 
 impl Sums {
-    /// Returns the sums before the first seed.
+    /// Returns the sums over no seeds: zeros.
     pub(crate) fn none() -> Sums
         ensures { result ≡ no_sums }
     {
@@ -69,7 +69,7 @@ impl fmt::Display for Sums {
     }
 }
 
-/// The seed that a text is about.
+/// The start of a text about this seed.
 #[derive(Clone, Copy)]
 struct SeedStart(u64);
 
@@ -81,10 +81,10 @@ impl fmt::Display for SeedStart {
     }
 }
 
-/// How the explorations of some seeds end.
+/// How the explorations of several seeds end.
 #[derive(Clone, Copy)]
 pub enum SeedsEnd {
-    /// All are sound.
+    /// All seeds are sound; these are their sums.
     All(Sums),
     /// The first seed that is not sound, and its summary.
     Broken(u64, Summary),

@@ -1,4 +1,4 @@
-//! The next step of a walk: mostly it delivers a parcel; else a node acts that has something to do.
+//! The next step of a walk: it mostly delivers a parcel; else a node acts by itself.
 
 ghost use Rattle.std.specs.Prelude.{◌≡◌, ◌<◌, ◌≤◌, OnOk, false};
 ghost use Rattle.mx_walks.specs.Walk.{at_first, chosen, is_delivery, is_empty, looked, next_step, repeated, taken_up};
@@ -16,20 +16,21 @@ use rand_core::utils::NextWord;
 use rand_pcg::Pcg32;
 use std::alloc::{AllocError, Global};
 
-/// Of 64 steps that deliver no parcel again, those from the first to the second deliver a parcel
-/// under way, if there is one. In the other steps a node acts.
+/// A step that repeats no parcel has a chance, 0 to 63. From the first number to below the second,
+/// the step delivers or loses a parcel under way, if there is one; else a node acts.
 const DELIVERIES: (u32, u32) = (4, 52);
 
-/// How many of the newest parcels are repeated.
+/// A parcel to repeat is drawn from this many newest ones.
 const WINDOW: u64 = 64;
 
-/// A generator of words, and the parcels that are under way.
+/// The state of a walk: a generator of random words, and the parcels that are under way.
 #[derive(Drop)]
 pub(crate) struct Walk {
     words: Pcg32,
-    /// The numbers of the parcels that were neither taken up nor lost, in no order.
+    /// The numbers of the parcels under way: those that no step has yet taken up, to deliver or
+    /// lose them. They are in no order.
     flying: Vec<u64>,
-    /// How many parcels were sent, as far as the walk has looked.
+    /// How many parcels had been sent at the last look.
     seen: u64,
 }
 
@@ -45,7 +46,7 @@ impl Walk {
         }
     }
 
-    /// Takes in the parcels that were sent since the last look.
+    /// Adds the parcels sent since the last look to those under way; `sent` counts all so far.
     pub(crate) fn look(&mut self, sent: u64) -> Result<(), AllocError>
         ensures { OnOk result (state_of self.new ≡ looked sent (state_of self.old)) }
     {
@@ -54,8 +55,8 @@ impl Walk {
         Ok(())
     }
 
-    /// Returns the event of the next step, or none if a parcel is lost or the node that would act
-    /// can only wait.
+    /// Returns the event of the next step, or `None` if the step loses a parcel or finds nothing to
+    /// do.
     pub(crate) fn next<C: Exclusion>(
         &mut self,
         conditions: &Conditions,
@@ -82,7 +83,8 @@ impl Walk {
         act(&mut self.words, nodes, registers, cluster, chance, is_calm)
     }
 
-    /// Delivers one of the newest parcels.
+    /// Returns a delivery of one of the newest parcels, or of the one that `chosen` puts in its
+    /// place; `None` if no parcel was sent. What is under way stays so.
     fn repeat<C: Exclusion>(
         &mut self,
         conditions: &Conditions,
@@ -102,7 +104,8 @@ impl Walk {
         Some(Event::Deliver(number))
     }
 
-    /// Delivers or loses any parcel under way.
+    /// Takes up a drawn parcel under way, or the one that `chosen` puts in its place. Returns the
+    /// delivery of that parcel, or `None` if it is lost.
     fn take_up<C: Exclusion>(
         &mut self,
         conditions: &Conditions,
@@ -125,7 +128,8 @@ impl Walk {
         }
     }
 
-    /// Returns the parcel that is delivered in place of this one.
+    /// Returns the parcel that is taken in place of parcel `number`: if links keep their order, the
+    /// oldest under way from and to the same nodes, if one is older; else `number` itself.
     fn chosen<C: Exclusion>(
         &self,
         conditions: &Conditions,
@@ -143,7 +147,8 @@ impl Walk {
     }
 }
 
-/// Whether a step delivers a parcel that is under way, by its chance.
+/// Whether a step of this `chance` (0 to 63) delivers or loses a parcel under way; not if there is
+/// none (`is_calm`).
 fn is_delivery(chance: u32, is_calm: bool) -> bool
     ensures { result ≡ is_delivery chance is_calm }
 {

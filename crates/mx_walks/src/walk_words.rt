@@ -10,13 +10,13 @@ use clap::{ArgMatches, Error};
 use mx_cli::{CommandId, Exploration, exploration_at, is_given, matches_in, number_at};
 use std::alloc::Global;
 
-/// How many of 256 parcels are lost, if nothing is said of that.
+/// The chance in 256 that a parcel is lost, if `--loss` is absent.
 const LOSS: u64 = 4;
 
-/// How many of 256 steps repeat a parcel, if nothing is said of that.
+/// The chance in 256 that a step repeats a parcel, if `--repeat` is absent.
 const REPEAT: u64 = 8;
 
-/// What is to be walked: a plan, a seed and a number of steps, and what becomes of parcels.
+/// What a walk is asked to do: its plan, seed and number of steps, and what becomes of parcels.
 #[derive(Clone, Copy)]
 pub(crate) struct WalkRequest<'a> {
     pub(crate) exploration: Exploration<'a>,
@@ -49,6 +49,7 @@ fn from_matches<'a>(matches: &ArgMatches<'a>) -> Option<WalkRequest<'a>>
     }
 }
 
+/// Returns the request that the arguments of `explore` give, if it is whole.
 fn walk_in<'a>(matches: &ArgMatches<'a>) -> Option<WalkRequest<'a>>
     ensures { option_map request_of result ≡ walk_in (rows_of (found_of matches.now)) }
 {
@@ -61,7 +62,7 @@ fn walk_in<'a>(matches: &ArgMatches<'a>) -> Option<WalkRequest<'a>>
     })
 }
 
-/// Returns the conditions that the arguments give.
+/// Returns the conditions of a walk that the arguments give, with defaults for absent ones.
 pub fn conditions_in(matches: &ArgMatches<'_>) -> Conditions
     ensures { result ≡ conditions_in (rows_of (found_of matches.now)) }
 {
@@ -72,7 +73,7 @@ pub fn conditions_in(matches: &ArgMatches<'_>) -> Conditions
     }
 }
 
-/// Returns the number of an option, or another if the option is absent.
+/// Returns the number of the option named `id`, or `other` if the option is absent.
 fn number_or(matches: &ArgMatches<'_>, id: &str, other: u64) -> u64
     ensures { result ≡ number_or id.now other (rows_of (found_of matches.now)) }
 {

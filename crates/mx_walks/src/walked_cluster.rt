@@ -1,4 +1,4 @@
-//! The events of a seed happen in the cluster of a plan.
+//! Runs of the events drawn from a seed, in the cluster of a plan.
 
 ghost use Rattle.std.specs.Prelude.{◌≡◌, IfOk, OnOk};
 ghost use Rattle.mx_cli.specs.Outputs.{refused_after};
@@ -18,7 +18,7 @@ use mx_nodelaws::Exclusion;
 use mx_plan::Plan;
 use std::alloc::{AllocError, Global};
 
-/// Runs the events of a seed, and prints the counts and the verdict. Returns the status.
+/// Runs the events drawn from a seed, and prints the counts and the verdict. Returns the status.
 pub fn explore_plan<O: Output>(
     alloc: Global,
     plan: &Plan,
@@ -57,7 +57,7 @@ fn print_summary<O: Output>(
     }
 }
 
-/// Returns the summary of a seed's events, by the plan's algorithm.
+/// Runs the events drawn from a seed in a new cluster of the plan, and returns their summary.
 pub(crate) fn explore_seed(
     alloc: Global,
     plan: &Plan,
@@ -75,7 +75,7 @@ pub(crate) fn explore_seed(
     )
 }
 
-/// Runs the events of a seed in a cluster.
+/// Runs the events drawn from a seed in this cluster, and returns their summary.
 fn explore_cluster<C: Exclusion>(
     alloc: Global,
     plan: &Plan,
@@ -91,7 +91,7 @@ fn explore_cluster<C: Exclusion>(
     Ok(summary_in(&cluster, steps))
 }
 
-/// Runs the events of a seed in order.
+/// Runs the events drawn from a seed, as `manner` says.
 fn apply_events<C: Exclusion>(
     alloc: Global,
     plan: &Plan,
@@ -109,7 +109,7 @@ fn apply_events<C: Exclusion>(
     }
 }
 
-/// Runs events that are each drawn alone.
+/// Runs `steps` events, each drawn on its own.
 fn do_schedule<C: Exclusion>(
     alloc: Global,
     plan: &Plan,

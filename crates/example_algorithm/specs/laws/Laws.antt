@@ -1,4 +1,4 @@
--- The promises on phases, for any number of nodes; and the laws, for one.
+-- The promises on phases, for any number of nodes; and the laws, for one node.
 use Rattle.std.proofs.Common.{ℕ, ◌≡◌, List, [], ◌∷◌, Some, length, slice_get, refl, sym, ◌∙◌, ap, subst, arith}
 use Rattle.std.proofs.lemmas.Option.{same_Some, slice_get_within}
 use Rattle.mx_stamps.specs.Lists.{IsIn, greatest}
@@ -25,7 +25,7 @@ solo_phases count = phases_of (solo_rows count) (record {
   tick = λ s. refl;
 })
 
--- a step that sends nothing
+-- a step that sends nothing keeps a world safe
 quiet_safe : (w : World Node ℕ) (i : ℕ) (new : Node) → IsSafe w → IsSafe (after w i (becoming new))
 quiet_safe w i new safe = record {
   alone = length_set w.nodes i new ∙ safe.alone;
@@ -40,7 +40,7 @@ quiet_bounded n new ok = record { state = ok; letters = nil BoundedLetter n }
 zeroth : (w : World Node ℕ) (i : ℕ) (s : Node) → IsSafe w → IsNode w i s → i ≡ 0
 zeroth w i s safe at = let lt = slice_get_within w.nodes i s at in let e = safe.alone in omega arith
 
--- the greatest number of one node is its own
+-- in a list of one node, the greatest `mine` is that of this node
 only_mine : (xs : List Node) (s : Node) → length xs ≡ 1 → slice_get xs 0 ≡ Some s
     → greatest (λ x. x.mine) xs ≡ s.mine
 only_mine [] s e h = absurd (none_is_no_some s h)

@@ -8,7 +8,8 @@ use Rattle.mx_nodelaws.specs.declared.phase.Phase.TheVariants.{Waiting}
 use Rattle.mx_maekawa.specs.Node.{Node}
 use Rattle.mx_maekawa.specs.Good.{NodeWorld, IsEnded, IsGiven, IsReached, IsLockedFor}
 
--- the letter that ends a lock has come, and `last` takes in its section number
+-- a letter that ends the lock for this stamp and grant was sent to node i; if it is a release,
+-- `last` is at least its section number
 abbrev pub IsToEnd : NodeWorld → ℕ → Stamp → ℕ → ℕ → Type 0
 IsToEnd w i stamp g last = WasSent w stamp.node i (Relinquish stamp g)
     ⊎ ((later : Stamp) × (t : ℕ) × WasSent w stamp.node i (Release later t)
@@ -27,7 +28,7 @@ pub record MovesForward (w : NodeWorld) (i : ℕ) (s new : Node) : Type 0 where
   pub lock : (stamp : Stamp) (g c : ℕ) → IsLockedFor s stamp g c → IsLockedFor new stamp g c
       ⊎ IsToEnd w i stamp g new.arbiter.last
 
--- a new lock
+-- the step gives grant g to node b: the arbiter, which had no lock, is now locked for it
 pub record IsGranted (s new : Node) (b : ℕ) (stamp : Stamp) (g c : ℕ) : Type 0 where
   pub node : stamp.node ≡ b
   pub free : s.arbiter.lock ≡ None
@@ -36,13 +37,14 @@ pub record IsGranted (s new : Node) (b : ℕ) (stamp : Stamp) (g c : ℕ) : Type
   pub granted : new.arbiter.granted ≡ g
   pub last : c ≡ s.arbiter.last
 
--- a grant for the current stamp goes back
+-- the step of node i gives grant g for its current stamp back to arbiter a
 pub record IsGivingBack (i : ℕ) (s new : Node) (a : ℕ) (stamp : Stamp) (g : ℕ) : Type 0 where
   pub node : stamp.node ≡ i
   pub waiting : s.requester.phase ≡ Waiting
   pub number : stamp.number ≡ s.requester.issued
   pub given : IsGiven new.requester a stamp g
 
+-- a release by node i: the stamp has ended; t is at least its `mine` and at most the greatest one
 pub record IsReleasing (w : NodeWorld) (i : ℕ) (new : Node) (stamp : Stamp) (t : ℕ) : Type 0 where
   pub node : stamp.node ≡ i
   pub ended : IsEnded new.requester stamp.number

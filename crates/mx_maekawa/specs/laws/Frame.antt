@@ -31,7 +31,7 @@ module _ {A : Type 0} (w : NodeWorld) (i : ℕ) (s : Node) (done : Done Node A M
     | inr new ↦ inr (new.0, may b m new.1)
   ]
 
-  -- a LOCKED sent is an old one, or that of a new lock
+  -- a LOCKED that was sent is an old one, or that of a new lock
   sent_locked : (a b : ℕ) (stamp : Stamp) (g c : ℕ)
       → WasSent (after w i done) a b (Locked stamp g c) → WasSent w a b (Locked stamp g c)
       ⊎ ((a ≡ i) × IsGranted s done.state b stamp g c)
@@ -56,7 +56,7 @@ module _ {A : Type 0} (w : NodeWorld) (i : ℕ) (s : Node) (done : Done Node A M
   over_from b stamp g last node (inr (later, t, sent, le, _)) =
       inr (later, t, subst (λ x. WasSent w x i (Release later t)) node sent, le)
 
-  -- the lock of a held grant stays
+  -- the lock of a held grant does not end
   held_lasts : (j : ℕ) (t : Node) (g last : ℕ) → IsNode w j t → IsBusy t.requester
       → back_at t.requester i < g → held_at t.requester i ≡ Some g
       → IsToEnd w i t.requester.ours g last → ⊥
@@ -93,7 +93,7 @@ module _ {A : Type 0} (w : NodeWorld) (i : ℕ) (s : Node) (done : Done Node A M
         ]);
   }
 
-  -- the entry of node j into its last section, if node j takes the step
+  -- a node gives back no grant of its last entry
   kept_here : (j a : ℕ) (t : Node) (en : IsEntered w j t) → IsNode w j t → j ≡ i
       → IsGivingBack i s done.state a en.stamp (en.grant_of a) → ⊥
   kept_here j a t en tat e back =
@@ -180,7 +180,7 @@ module _ {A : Type 0} (w : NodeWorld) (i : ℕ) (s : Node) (done : Done Node A M
         (λ e p. (p.0, p.1, ap (λ x. slice_index_or x p.0 false) moves.own ∙ p.2)) u uat;
   }
 
-  -- the facts of a node's state before the step, in the world after it
+  -- what holds for a state of a node before the step holds for this state after it
   pub node_ok_after : (j : ℕ) (t : Node) → IsNode w j t → IsNodeOk (after w i done) j t
   node_ok_after j t tat =
       let ok = good.nodes j t tat in record {
@@ -299,7 +299,7 @@ module _ {A : Type 0} (w : NodeWorld) (i : ℕ) (s : Node) (done : Done Node A M
     reached = reached_after t new.reached;
   }
 
-  -- a step is sound if the node's new state is
+  -- a world is sound after a step if the node's new state is as it should be
   pub sound_after : IsNodeOk (after w i done) i done.state → IsSound (after w i done)
   sound_after node = each_after_step IsNodeOk IsLetterOk w i s done at good
       (λ j t tat _. node_ok_after j t tat) (λ a b m _ ok. letter_old a b m ok) node

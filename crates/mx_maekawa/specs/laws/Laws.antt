@@ -1,4 +1,4 @@
--- All together: the promises on phases, and the laws.
+-- The promises on phases, and all laws together.
 use Rattle.std.proofs.Common.{ℕ, zero, suc, ◌<◌, ◌≡◌, ◌↔◌, inl, inr, cond, false, not, ◌&&◌, List, Option, Some, None, slice_index_or, get_or, nat_eq, nat_lt, refl, sym, ◌∙◌, ap, arith}
 use Rattle.mx_stamps.specs.declared.stamp.Stamp.{Stamp}
 use Rattle.mx_stamps.specs.Lists.{IsIn}
@@ -25,7 +25,7 @@ use Rattle.mx_maekawa.specs.laws.Keeps.{ask_safe, deliver_safe, enter_safe, ende
 use Rattle.mx_maekawa.specs.laws.Bounds.{ask_done, deliver_done, enter_done, ended_done, tick_done, start_node}
 use Rattle.mx_maekawa.specs.laws.Safety.{one_inside, nobody_inside, top_greatest}
 
--- a letter comes: the requester keeps its phase, its last own number and its limit
+-- a letter comes: the requester keeps its phase, `mine` and its limit
 
 abbrev Stays : RequesterState → RequesterState → Type 0
 Stays r new = course new.phase new.mine new.limit ≡ course r.phase r.mine r.limit

@@ -46,7 +46,7 @@ module _ (w : NodeWorld) (i : ℕ) (s : Node) (good : IsSafe w) (at : IsNode w i
   pub still_safe : IsSafe (after w i (becoming s))
   still_safe = nothing_kept {A = Unit {0}} IsSafe w i s tt good at
 
-  -- one letter
+  -- a step that only sends one letter
   says_safe : (a : ℕ) (m : MaekawaMsg) → IsSendable w i s s a m
       → IsSafe (after w i (by_requester s (saying s.requester a m)))
   says_safe a m may = safe_of {A = Unit {0}} (by_requester s (saying s.requester a m))

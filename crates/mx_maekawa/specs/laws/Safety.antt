@@ -1,4 +1,4 @@
--- At most one node is inside, and it draws the next number.
+-- In a safe world at most one node is inside, and a node that enters draws the next number.
 use Rattle.std.proofs.Common.{ℕ, ◌≤◌, ◌≡◌, ◌≢◌, inl, inr, true, Some, sym, ◌∙◌, ap, subst, arith}
 use Rattle.std.proofs.lemmas.Option.{same_Some}
 use Rattle.mx_stamps.specs.Lists.{greatest}
@@ -21,7 +21,7 @@ pub holds_own : (w : NodeWorld) (i : ℕ) (s : Node) → IsNodeOk w i s → hold
 holds_own w i s ok all a own =
     some_of (held_at s.requester a) (holds_each s.requester all a (ok.placed.own_few a own) own)
 
--- the lock of an arbiter whose grant is held
+-- an arbiter whose grant is held is locked for it
 pub held_lock : (w : NodeWorld) (i : ℕ) (s : Node) (a g : ℕ) (arbiter : Node) → IsSound w
     → IsNode w i s → IsBusy s.requester → held_at s.requester a ≡ Some g → IsNode w a arbiter
     → (c : ℕ) × (c ≤ s.requester.top) × IsLockedFor arbiter s.requester.ours g c
@@ -70,7 +70,8 @@ nobody_inside w i s good at waiting all j t bt (n, inside) =
     waiting_not_inside t.requester.phase n
     (ap (λ x. x.requester.phase) (was w i s at j t (sym e) bt) ∙ waiting) inside
 
--- the holder's grant of a common arbiter came after that of an entry
+-- the lock of an arbiter for one node carries at least the number of the last section of another
+-- node with this arbiter
 grant_after : (w : NodeWorld) (i j : ℕ) (s t : Node) (a g c : ℕ) (arbiter : Node) (good : IsSound w)
     → IsNode w a arbiter → i ≢ j → s.requester.ours.node ≡ i
     → IsLockedFor arbiter s.requester.ours g c → (en : IsEntered w j t) → is_own t.requester a
@@ -91,7 +92,7 @@ grant_after w i j s t a g c arbiter good aat ne node lock en own =
       | inr f ↦ en.after a s.requester.ours.node s.requester.ours g c own last.1 (omega arith)
     ]
 
--- no node has entered a section above its `top`
+-- no node has entered a section above the `top` of a node that may enter
 mine_below : (w : NodeWorld) (i : ℕ) (s : Node) (good : IsSafe w) (at : IsNode w i s)
     → s.requester.phase ≡ Waiting → holds_all s.requester ≡ true → (j : ℕ) (t : Node) → IsNode w j t
     → t.requester.mine ≤ s.requester.top
@@ -118,7 +119,7 @@ mine_below w i s good at waiting all j t bt =
       ]
     ]
 
--- its `top` is the greatest number of all
+-- the `top` of a node that may enter is the greatest `mine` of all nodes
 pub top_greatest : (w : NodeWorld) (i : ℕ) (s : Node) (good : IsSafe w) (at : IsNode w i s)
     → s.requester.phase ≡ Waiting → holds_all s.requester ≡ true
     → greatest (λ x. x.requester.mine) w.nodes ≡ s.requester.top

@@ -202,7 +202,7 @@ module _ (w : NodeWorld) (i : ℕ) (s : Node) (good : IsSound w) (at : IsNode w 
 
   -- leave and cancel
 
-  -- the stamp of the last entry is no later than its latest stamp
+  -- the stamp of the last entry is no later than the node's latest stamp
   entry_issued : (v : NodeWorld) (p : Phase) → s.requester.phase ≡ p → s.requester.ours.number
       ≡ s.requester.issued → (en : IsEntered v i s) → en.stamp.number ≤ s.requester.issued
   entry_issued v Idle e number en =

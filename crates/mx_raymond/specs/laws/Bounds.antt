@@ -253,7 +253,7 @@ module _ (n : ℕ) (s : Node) (ok : BoundedNode n s) where
         (again_bounded s.unacked refl) request_again_bounded;
   }
 
--- a node at rest
+-- a node that has just been started
 
 pub start_bounded : (tree : Rooted) (origin limit i : ℕ) → IsRooted tree → origin < 2 ^ 64
     → limit ≤ 1000000 → i < tree.count → BoundedNode tree.count (start_of tree i origin limit)

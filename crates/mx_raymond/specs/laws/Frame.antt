@@ -9,7 +9,7 @@ use Rattle.mx_nodelaws.proofs.Frame.{each_after, sent_after, sent_before, still_
 use Rattle.mx_raymond.specs.Node.{Node}
 use Rattle.mx_raymond.specs.Good.{IsReached, IsLast, HasSeen, IsNodeOk, IsPrivilegeOk, IsLetterOk, IsHeld, IsUnderWay, IsSafeAt}
 
--- how a step of a node may change it: these numbers only rise
+-- how a step may change a node: `hop` and `mine` do not fall
 pub record MovesForward (s new : Node) : Type 0 where
   pub hop : s.hop ≤ new.hop
   pub mine : s.mine ≤ new.mine
@@ -52,7 +52,8 @@ module _ {A : Type 0} (w : World Node RaymondMsg) (i : ℕ) (s : Node) (done : D
         }
     letter_after a b (Got hop) sent = tt
 
-    -- a step is safe if the node's new state, its new letters and the place of the privilege are
+    -- a world is safe after a step if the node's new state, its new letters and the place of the
+    -- privilege are as they should be
     pub safe_after : IsNodeOk (after w i done) higher i done.state
         → ((b : ℕ) (m : RaymondMsg) → IsIn (b, m) done.letters
         → IsLetterOk (after w i done) higher b m) → IsHeld (after w i done) higher

@@ -19,7 +19,7 @@ use Rattle.mx_raymond.specs.laws.Tests.{permission_holds, may_pass}
 use Rattle.mx_raymond.specs.laws.PrivilegeStays.{KeepsPrivilege, stays_safe, still_safe}
 use Rattle.mx_raymond.specs.laws.PrivilegeMoves.{holds, passed_kept, arrived_kept, entered_kept}
 
--- a letter that is a request is no privilege
+-- a list of one request has no privilege in it
 only_request : (to b hop last number : ℕ)
     → IsIn {X = ℕ × RaymondMsg} (b, Privilege hop last) ((to, Request number) ∷ []) → ⊥
 only_request to b hop last number (inl e) =
@@ -32,7 +32,8 @@ only_got to b hop last gone (inl e) = let m : Privilege hop last ≡ Got gone = 
 only_got to b hop last gone (inr none) = absurd none
 
 module _ (w : World Node RaymondMsg) (i : ℕ) (s : Node) (at : IsNode w i s) (safe : IsSafe w) where
-  -- a step that changes neither the privilege's place nor what is known of it, and sends nothing
+  -- a step that sends nothing, and changes these parts of the state in these ways only, moves no
+  -- privilege
   quiet_stays : {A : Type 0} (state : Node) (answer : A) → state.me ≡ s.me → state.holder ≡ s.holder
       → state.hop ≡ s.hop → state.top ≡ s.top → state.mine ≡ s.mine
       → ((n : ℕ) → state.phase ≡ Inside n → s.phase ≡ Inside n)
@@ -49,7 +50,7 @@ module _ (w : World Node RaymondMsg) (i : ℕ) (s : Node) (at : IsNode w i s) (s
     letters = λ b h c none. absurd none;
   }
 
-  -- the privilege that is sent again was sent
+  -- a privilege that is sent again was sent before
   again_sent : (o : Option Unacked) → s.unacked ≡ o → (b hop last : ℕ)
       → IsIn (b, Privilege hop last) (privilege_again o) → WasSent w i b (Privilege hop last)
   again_sent None e b hop last none = absurd none
@@ -96,7 +97,7 @@ module _ (w : World Node RaymondMsg) (i : ℕ) (s : Node) (at : IsNode w i s) (s
       }))
       (λ _. still_safe w i s at safe)
 
--- a safe step, followed by one that keeps each world safe
+-- a safe step followed by one that keeps each world safe is safe
 then_safe : {A : Type 0} (w : World Node RaymondMsg) (i : ℕ) (s : Node) (at : IsNode w i s)
     (first : NodeDone A) (second : Node → NodeDone (Unit {0}))
     → ((v : World Node RaymondMsg) (t : Node) → IsNode v i t → IsSafe v
@@ -221,7 +222,7 @@ module _ (w : World Node RaymondMsg) (i : ℕ) (s : Node) (at : IsNode w i s) (s
         at = entered_kept w i s at safe.highest safe.at {A = Unit {0}} tt mine h.0 h.1;
       }
 
-  -- leave and cancel: the node becomes idle, with its queue or another
+  -- leave and cancel: the node becomes idle, with any queue
 
   rested_safe : (queue : List ℕ) → IsSafe
       (after w i (serving (becoming (record s { phase = Idle; queue = queue }))))

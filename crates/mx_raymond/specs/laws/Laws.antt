@@ -1,4 +1,4 @@
--- All together: the promises on phases, and the laws.
+-- The promises on phases, and all laws together.
 use Rattle.std.proofs.Common.{ℕ, ◌<◌, ◌+◌, ◌≡◌, ◌⊎◌, ◌↔◌, inl, inr, List, Option, Some, None, nat_eq, nat_lt, refl, sym, ◌∙◌, ap, subst, arith}
 use Rattle.mx_stamps.specs.declared.stamp.Stamp.{Stamp}
 use Rattle.mx_stamps.specs.Lists.{IsIn}
@@ -22,7 +22,7 @@ use Rattle.mx_raymond.specs.laws.Bounds.{start_bounded, asked_bounded, deliver_b
 
 -- phases
 
--- the two states have the same course
+-- the two states have the same phase, `mine` and limit
 abbrev IsSteady : Node → Node → Type 0
 IsSteady s new = course_of raymond_rows new ≡ course_of raymond_rows s
 
@@ -105,7 +105,7 @@ module _ (tree : Rooted) (origin limit : ℕ) (valid : IsRooted tree) where
       × (s ≡ start_of tree i origin limit)
   started_as i s at = get_each_below (λ k. start_of tree k origin limit) tree.count i s at
 
-  -- a node that is its own holder at the start is the tree's holder
+  -- a node that is its own holder at the start is the holder of the tree
   started_alone : (j : ℕ) (t : Node) → IsNode at_rest j t → t.holder ≡ j → j ≡ tree.holder
   started_alone j t at e =
       let r = started_as j t at in
@@ -148,7 +148,7 @@ module _ (tree : Rooted) (origin limit : ℕ) (valid : IsRooted tree) where
     };
   }
 
--- the letters by membership
+-- only the set of the letters that were sent matters, not how often or in which order
 
 module _ (w : World Node RaymondMsg) (sent : List (ℕ × ℕ × RaymondMsg))
     (same : (x : ℕ × ℕ × RaymondMsg) → IsIn x w.sent ↔ IsIn x sent) where

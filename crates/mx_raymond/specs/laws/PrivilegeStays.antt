@@ -13,7 +13,8 @@ use Rattle.mx_raymond.specs.Node.{Node}
 use Rattle.mx_raymond.specs.Good.{IsReached, IsLast, HasSeen, IsPrivilegeOk, IsLetterOk, IsHeld, IsUnderWay, IsSafeAt, IsSafe}
 use Rattle.mx_raymond.specs.laws.Frame.{MovesForward, seen_after, reached_after, last_after, letter_after, safe_after}
 
--- a step that moves no privilege: its letters are no privileges, or were sent before
+-- a step that moves no privilege: `holder`, `hop`, `top` and `mine` stay, and each privilege that
+-- it sends was sent before
 pub record KeepsPrivilege {A : Type 0} (w : World Node RaymondMsg) (i : ℕ) (s : Node)
     (done : Done Node A RaymondMsg) : Type 0 where
   pub me : done.state.me ≡ s.me
@@ -27,7 +28,7 @@ pub record KeepsPrivilege {A : Type 0} (w : World Node RaymondMsg) (i : ℕ) (s 
       → WasSent w i b (Privilege hop last)
 
 module _ (w : World Node RaymondMsg) (i : ℕ) (s : Node) (at : IsNode w i s) where
-  -- the facts of such a step
+  -- what such a step keeps
 
   module _ {A : Type 0} (done : Done Node A RaymondMsg) (highest : ℕ) (safe : IsSafeAt w highest)
       (stays : KeepsPrivilege w i s done) where
@@ -141,6 +142,6 @@ module _ (w : World Node RaymondMsg) (i : ℕ) (s : Node) (at : IsNode w i s) wh
   stays_safe done safe stays =
       record { highest = safe.highest; at = stays_kept done safe.highest safe.at stays }
 
-  -- a refusal
+  -- a step that changes nothing and sends nothing
   pub still_safe : IsSafe w → IsSafe (after w i (becoming s))
   still_safe safe = nothing_kept {A = Unit {0}} IsSafe w i s tt safe at

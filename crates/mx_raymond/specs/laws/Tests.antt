@@ -10,7 +10,7 @@ use Rattle.mx_raymond.specs.Step.{is_holder, is_named, has_permission, can_pass,
 
 -- the queue
 
--- the names in a queue that one more name has joined
+-- a name in a queue that one more name has joined was in the queue, or is that name
 pub queued_pushed : (queue : List ℕ) (name node : ℕ) → is_queued (queue ++ name ∷ []) node ≡ true
     → (is_queued queue node ≡ true) ⊎ (node ≡ name)
 queued_pushed [] name node h = elim (or_cases (nat_eq node name) false h) [
@@ -34,7 +34,7 @@ queued_joined queue name node =
     (is_queued queue name) queue (queue ++ name ∷ [])
     (λ _ h. inl h) (λ _ h. queued_pushed queue name node h)
 
--- a name that remains after another was removed
+-- a name in a queue without one name was in the queue, and is not that name
 pub queued_without : (queue : List ℕ) (name node : ℕ) → is_queued (without queue name) node ≡ true
     → (is_queued queue node ≡ true) × (node ≢ name)
 queued_without [] name node h = let bad : ⊥ = cc in absurd bad

@@ -199,7 +199,7 @@ module _ (n : ℕ) (s : Node) (ok : BoundedNode n s) where
         letters = requests_bounded s.ours ok.ours (λ j. nat_eq j s.me || has_reply s j);
       }) (λ _. as_was)
 
--- a node at rest
+-- a node that has just been started
 
 pub start_bounded : (count origin limit i : ℕ) → IsCount count → origin < 2 ^ 64 → limit ≤ 1000000
     → i < count → BoundedNode count (start_of count i origin limit)

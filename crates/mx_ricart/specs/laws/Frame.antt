@@ -16,13 +16,13 @@ use Rattle.mx_ricart.specs.Node.{Node}
 use Rattle.mx_ricart.specs.Step.{has_reply}
 use Rattle.mx_ricart.specs.Good.{IsBusy, HasSeen, IsReached, IsNodeOk, IsReplyOk, IsLetterOk, IsSafe}
 
--- how a step of a node may change it: its numbers rise, and
+-- how a step may change a node: `highest` and `mine` do not fall
 pub record MovesForward (w : World Node RicartMsg) (i : ℕ) (s new : Node) : Type 0 where
   pub highest : s.highest ≤ new.highest
   pub mine : s.mine ≤ new.mine
-  -- its stamp stays, is no longer current, or is a new one
+  -- a current stamp was current before, or is new and above the numbers that the node had seen
   pub stamp : IsBusy new → (IsBusy s × (new.ours ≡ s.ours)) ⊎ (s.highest < new.ours.number)
-  -- it enters only with every reply
+  -- the node enters only if the reply of every other node has counted
   pub entry : (new.mine ≡ s.mine) ⊎ (IsBusy s
       × ((j : ℕ) → j < length w.nodes → j ≢ i → has_reply s j ≡ true))
 
@@ -44,7 +44,7 @@ module _ {A : Type 0} (w : World Node RicartMsg) (i : ℕ) (s : Node) (done : Do
         ≡ stamp.number = ap (λ x. x.number) ours in absurd (omega arith)
   ]
 
-  -- a reply of the node that takes the step
+  -- a reply remains valid when its sender takes the step
   stands_from : (b : ℕ) (stamp : Stamp) (top : ℕ) → IsReplyOk w i b stamp top → (tb : Node)
       → IsNode w b tb → b ≢ i → IsBusy tb → tb.ours ≡ stamp → (done.state.mine ≤ top)
       × (IsBusy done.state → Before stamp done.state.ours)
@@ -93,7 +93,7 @@ module _ {A : Type 0} (w : World Node RicartMsg) (i : ℕ) (s : Node) (done : Do
       record { node = ok.node; issued = seen_after a stamp.number ok.issued }
   letter_after a b (Reply stamp top) ok = reply_after a b stamp top ok
 
-  -- the other nodes
+  -- what holds for a state of a node before the step holds for this state after it
   pub other_after : (j : ℕ) (t : Node) → IsNodeOk w j t → IsNodeOk (after w i done) j t
   other_after j t ok = record {
     me = ok.me;
@@ -109,7 +109,7 @@ module _ {A : Type 0} (w : World Node RicartMsg) (i : ℕ) (s : Node) (done : Do
     waits = λ k d was. let r = ok.waits k d was in (r.0, r.1, r.2, seen_after k d.number r.3);
   }
 
-  -- a step is good if the node's new state and its new letters are
+  -- a world is safe after a step if the node's new state and its new letters are as they should be
   pub good_after : IsNodeOk (after w i done) i done.state
       → ((b : ℕ) (m : RicartMsg) → IsIn (b, m) done.letters → IsLetterOk (after w i done) i b m)
       → IsSafe (after w i done)

@@ -1,4 +1,4 @@
--- All together: the promises on phases, and the laws.
+-- The promises on phases, and all laws together.
 use Rattle.std.proofs.Common.{ℕ, ◌≡◌, ◌↔◌, not, ◌&&◌, List, nat_eq, refl, sym, arith}
 use Rattle.mx_stamps.specs.Lists.{IsIn}
 use Rattle.mx_stamps.specs.Stamp.{is_before_of, is_same_as}
@@ -23,6 +23,7 @@ use Rattle.mx_ricart.specs.laws.Safety.{one_inside, nobody_inside, top_greatest}
 
 -- phases
 
+-- the step changes neither the phase nor `mine` nor the limit
 abbrev IsSteady : Node → Done Node (Unit {0}) RicartMsg → Type 0
 IsSteady s done = course_of ricart_rows done.state ≡ course_of ricart_rows s
 
@@ -53,7 +54,7 @@ ricart_phases = phases_of ricart_rows (record {
       (λ _. refl);
 })
 
--- the world at rest
+-- the start
 
 started_safe : (count origin limit : ℕ) → IsSafe (started ricart_core count origin limit)
 started_safe count origin limit =
@@ -63,7 +64,7 @@ started_safe count origin limit =
     (start_of count i origin limit) refl refl refl (sym e) (omega arith)
     (i, start_of count i origin limit, at, omega arith))
 
--- the set of the letters that were sent counts, not how often or in which order
+-- only the set of the letters that were sent matters, not how often or in which order
 
 module _ (w : World Node RicartMsg) (sent : List (ℕ × ℕ × RicartMsg))
     (same : (x : ℕ × ℕ × RicartMsg) → IsIn x w.sent ↔ IsIn x sent) where

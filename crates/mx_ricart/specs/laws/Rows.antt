@@ -28,7 +28,7 @@ pub sent_reply : (o : Option Stamp) (top : ℕ) (m : RicartMsg) → reply_to o t
 sent_reply None top m h = absurd (none_is_no_some m h)
 sent_reply (Some d) top m h = (d, refl, sym (same_Some (Reply d top) m h))
 
--- an idle node has no request, and defers none
+-- an idle node that defers no reply is as it should be
 pub idle_ok : (w : World Node RicartMsg) (i : ℕ) (s : Node) → s.phase ≡ Idle → s.deferred
     ≡ replicate 21 None → s.me ≡ i → s.count ≡ length w.nodes → s.mine ≤ s.top → IsReached w s.top
     → IsNodeOk w i s
@@ -49,7 +49,7 @@ module _ (w : World Node RicartMsg) (i : ℕ) (s : Node) (good : IsSafe w) (at :
   was_ok : IsNodeOk w i s
   was_ok = good.nodes i s at
 
-  -- a letter that no row fits
+  -- a letter that is ignored
   ignored : IsSafe (after w i (becoming s))
   ignored = nothing_kept {A = Unit {0}} IsSafe w i s tt good at
 
@@ -103,7 +103,7 @@ module _ (w : World Node RicartMsg) (i : ℕ) (s : Node) (good : IsSafe w) (at :
     entry = inl m;
   }
 
-  -- the request of node j that is deferred then is the new one or the old one
+  -- the request of node j that is deferred after the step is the new one or the old one
   waits_new : {A : Type 0} (from : ℕ) (stamp : Stamp) → from ≢ i → stamp.node ≡ from
       → IsRequestOk w from stamp → (done : Done Node A RicartMsg) → MovesForward w i s done.state
       → (j : ℕ) (d : Stamp) → j ≡ stamp.node → (old : Option Stamp) → deferred_at s stamp.node ≡ old

@@ -19,7 +19,7 @@ use Rattle.mx_ricart.specs.Good.{IsBusy, IsReplyOk, IsSafe}
 use Rattle.mx_ricart.specs.laws.Tests.{all_replies}
 use Rattle.mx_ricart.specs.laws.Rows.{has_of_all}
 
--- two nodes that each have the other's reply to their current request are the same node
+-- no two nodes each have the other's reply to their current request
 each_replied : (w : World Node RicartMsg) (i j : ℕ) (s t : Node) → IsSafe w → IsNode w i s
     → IsNode w j t → IsBusy s → IsBusy t → has_reply s j ≡ true → has_reply t i ≡ true → ⊥
 each_replied w i j s t good at bt busy_s busy_t has_s has_t =
@@ -41,7 +41,7 @@ one_inside w i j s t good at bt (n, p) (m, q) = elim (dec_eq i j) [
 
 module _ (w : World Node RicartMsg) (i : ℕ) (s : Node) (good : IsSafe w) (at : IsNode w i s)
     (waiting : s.phase ≡ Waiting) (granted : has_all_replies s ≡ true) where
-  -- another node's reply counted
+  -- the reply of each other node has counted
   has_its_reply : (j : ℕ) (t : Node) → IsNode w j t → j ≢ i → has_reply s j ≡ true
   has_its_reply j t bt ne =
       has_of_all w i s good at (all_replies s granted) j (slice_get_within w.nodes j t bt) ne
@@ -56,7 +56,7 @@ module _ (w : World Node RicartMsg) (i : ℕ) (s : Node) (good : IsSafe w) (at :
         (λ e. ne (sym e)))
   ]
 
-  -- no node has entered a section above its `top`
+  -- no node has entered a section above the `top` of a node that may enter
   mine_below : (j : ℕ) (t : Node) → IsNode w j t → t.mine ≤ s.top
   mine_below j t bt = elim (dec_eq j i) [
     | inl e ↦ let same : t.mine ≡ s.mine = ap (λ x. x.mine) (was w i s at j t e bt) in let l =
@@ -68,6 +68,6 @@ module _ (w : World Node RicartMsg) (i : ℕ) (s : Node) (good : IsSafe w) (at :
         let l : r.0 ≤ s.top = r.2 in omega arith
   ]
 
-  -- its `top` is the greatest number of all
+  -- the `top` of a node that may enter is the greatest `mine` of all nodes
   pub top_greatest : greatest_mine ricart_core w ≡ s.top
   top_greatest = greatest_is (λ x. x.mine) w s.top mine_below (good.nodes i s at).top_reached

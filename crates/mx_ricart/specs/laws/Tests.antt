@@ -11,7 +11,7 @@ other_is s j e =
     let p = and_true (nat_lt j s.count) (not (nat_eq j s.me)) e in
     (lt_true j s.count p.0, eq_false j s.me (not_true (nat_eq j s.me) p.1))
 
--- the permission and its test are one
+-- the permission holds if and only if its test does
 
 pub all_replies : (s : Node) → has_all_replies s ≡ true → HasAllReplies s
 all_replies s all j lt ne = or_false (nat_eq j s.me) (has_reply s j)
