@@ -1,7 +1,7 @@
 //! Edges that make a cycle.
 
 use crate::expectations::index_in;
-use crate::file_report::{Explained, FileReport};
+use crate::file_report::{FileReport, ReportResult};
 use crate::json_tree::Node;
 use crate::messages::Actual;
 use std::alloc::{AllocError, Global};
@@ -41,7 +41,7 @@ pub(crate) fn report_cycles(
     report: &mut FileReport<'_>,
     edges: &[Node<'_>],
     nodes: &[&str],
-) -> Explained {
+) -> ReportResult {
     let mut parts = Parts::new(report.alloc(), nodes.len())?;
     for (k, edge) in edges.iter().enumerate() {
         let ends = edge.items(report.alloc())?;
@@ -59,7 +59,7 @@ fn report_cycle(
     ends: &[Node<'_>],
     nodes: &[&str],
     parts: &mut Parts,
-) -> Explained {
+) -> ReportResult {
     let [first, second] = ends else {
         return Ok(());
     };

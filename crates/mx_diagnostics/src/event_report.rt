@@ -3,7 +3,7 @@
 ghost use Rattle.mx_diagnostics.specs.Reports.{IsLonger};
 
 use crate::expectations::Place;
-use crate::file_report::{Explained, FileReport};
+use crate::file_report::{FileReport, ReportResult};
 use crate::json_part::{Part, read_part};
 use crate::json_reader::read_tree;
 use crate::json_tree::{Node, items_of};
@@ -41,7 +41,11 @@ pub fn explain_event_text<'a>(
 }
 
 /// Adds what is wrong in events to the report on their file.
-fn explain_text<'a>(report: &mut FileReport<'a>, names: &PlanNames, part: Part<'a>) -> Explained {
+fn explain_text<'a>(
+    report: &mut FileReport<'a>,
+    names: &PlanNames,
+    part: Part<'a>,
+) -> ReportResult {
     let nodes = as_slices(report.alloc(), names.nodes.as_slice())?;
     let registers = as_slices(report.alloc(), names.registers.as_slice())?;
     let names = NameLists {
@@ -59,7 +63,7 @@ fn explain_text<'a>(report: &mut FileReport<'a>, names: &PlanNames, part: Part<'
 
 /// Warns if a text that is not a list of events looks like a script: its first line with words
 /// begins with a word of scripts.
-fn warn_of_script<'a>(report: &mut FileReport<'a>, part: Part<'a>) -> Explained {
+fn warn_of_script<'a>(report: &mut FileReport<'a>, part: Part<'a>) -> ReportResult {
     let Some(number) = first_script_line(report.alloc(), part.text)? else {
         return Ok(());
     };
@@ -75,7 +79,7 @@ fn explain_events(
     report: &mut FileReport<'_>,
     events: Node<'_>,
     names: &NameLists<'_>,
-) -> Explained {
+) -> ReportResult {
     let place = Place {
         path: Path::new("", "events"),
         value: Some(events),
@@ -103,7 +107,7 @@ fn explain_event<'a>(
     place: &Place<'a>,
     event: Node<'a>,
     names: &NameLists<'_>,
-) -> Explained {
+) -> ReportResult {
     let items = event.items(report.alloc())?;
     let Some((first, arguments)) = items.as_slice().split_first() else {
         return place.expect(
@@ -132,7 +136,7 @@ fn explain_event<'a>(
 
 /// Reports a word that no event has, and lists the words of events. If the report is full, only
 /// counts the fault.
-fn explain_word(report: &mut FileReport<'_>, place: &Place<'_>, word: &str) -> Explained {
+fn explain_word(report: &mut FileReport<'_>, place: &Place<'_>, word: &str) -> ReportResult {
     if report.is_full() {
         return place.expect(report, "");
     }
@@ -153,7 +157,7 @@ fn explain_argument(
     place: &Place<'_>,
     kind: ArgumentKind,
     names: &NameLists<'_>,
-) -> Explained {
+) -> ReportResult {
     match kind {
         ArgumentKind::Node => place.expect_word(report, names.nodes, "a node of the plan"),
         ArgumentKind::Register => {

@@ -3,7 +3,7 @@
 ghost use Rattle.std.specs.Prelude.{IfOk, IfSome};
 ghost use Rattle.std.specs.List.{Contains};
 
-use crate::file_report::{Explained, FileReport};
+use crate::file_report::{FileReport, ReportResult};
 use crate::json_tree::{Node, text_of};
 use crate::messages::Expected;
 use crate::path::Path;
@@ -39,7 +39,7 @@ impl<'a> Place<'a> {
     }
 
     /// Reports that another value is expected at this place: `expected`, in words.
-    pub(crate) fn expect(&self, report: &mut FileReport<'_>, expected: &str) -> Explained {
+    pub(crate) fn expect(&self, report: &mut FileReport<'_>, expected: &str) -> ReportResult {
         self.report_expected(report, expected, None)
     }
 
@@ -50,7 +50,7 @@ impl<'a> Place<'a> {
         report: &mut FileReport<'_>,
         expected: &str,
         nearest: Option<&str>,
-    ) -> Explained {
+    ) -> ReportResult {
         let message = Expected {
             path: self.path,
             actual: self.value,
@@ -67,7 +67,7 @@ impl<'a> Place<'a> {
         report: &mut FileReport<'_>,
         words: &[&str],
         expected: &str,
-    ) -> Explained {
+    ) -> ReportResult {
         let word = text_of(self.value);
         if words.is_empty() || is_among(word, words) {
             return Ok(());
@@ -83,7 +83,7 @@ impl<'a> Place<'a> {
         least: u64,
         most: u64,
         expected: &str,
-    ) -> Explained {
+    ) -> ReportResult {
         match number_of(self.value) {
             Some(n) if least <= n && n <= most => Ok(()),
             _ => self.expect(report, expected),

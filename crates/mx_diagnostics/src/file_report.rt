@@ -13,7 +13,7 @@ use std::fmt::Display;
 use std::marker::Model;
 
 /// The result of a function that adds lines to a report: an error if memory runs out.
-pub(crate) type Explained = Result<(), AllocError>;
+pub(crate) type ReportResult = Result<(), AllocError>;
 
 /// The greatest number of faults and warnings of one file that are shown. Further ones are only
 /// counted.

@@ -1,6 +1,6 @@
 //! Reading the JSON of a file, and reporting where it stops being JSON.
 
-use crate::file_report::{Explained, FileReport};
+use crate::file_report::{FileReport, ReportResult};
 use crate::json_fault::{Cut, JsonFault, Misfit, NotJson, TooDeep};
 use crate::json_reader::read_tree;
 use crate::json_tree::Tree;
@@ -74,7 +74,7 @@ fn report_fault(
     text: &str,
     above: usize,
     fault: JsonFault,
-) -> Explained {
+) -> ReportResult {
     match fault {
         JsonFault::Misfit { offset, expected } => {
             let rest = rest_of(text, offset).lines().next().unwrap_or("");
@@ -100,7 +100,7 @@ fn report_cut(
     above: usize,
     opened: Option<usize>,
     deep: Option<usize>,
-) -> Explained {
+) -> ReportResult {
     let Some(opened) = opened else {
         return report.fault_at(text.len(), NotJson("the text ends here, expected a value"));
     };

@@ -3,7 +3,7 @@
 ghost use Rattle.mx_diagnostics.specs.Reports.{IsLonger};
 
 use crate::expectations::Place;
-use crate::file_report::{Explained, FileReport};
+use crate::file_report::{FileReport, ReportResult};
 use crate::json_part::{Part, read_part};
 use crate::json_tree::{Node, Tree, text_of};
 use crate::messages::DuplicateKey;
@@ -50,7 +50,7 @@ fn explain_text<'a>(report: &mut FileReport<'a>, text: &'a [u8]) -> Result<PlanN
 
 /// Reports what is wrong in the value of a plan. `is_whole` says whether the text is JSON to its
 /// end, so that the plan has all its members.
-fn explain_plan(report: &mut FileReport<'_>, plan: Node<'_>, is_whole: bool) -> Explained {
+fn explain_plan(report: &mut FileReport<'_>, plan: Node<'_>, is_whole: bool) -> ReportResult {
     if !plan.is_object() {
         let place = Place {
             path: Path::new("", "the plan"),
@@ -76,7 +76,7 @@ fn explain_plan(report: &mut FileReport<'_>, plan: Node<'_>, is_whole: bool) -> 
 }
 
 /// Warns of each key that comes twice in one object.
-fn warn_of_duplicates(report: &mut FileReport<'_>, tree: &Tree) -> Explained {
+fn warn_of_duplicates(report: &mut FileReport<'_>, tree: &Tree) -> ReportResult {
     for repeated in tree.repeated_keys(report.alloc())?.iter() {
         report.warn_at(repeated.offset, DuplicateKey(repeated.key))?;
     }

@@ -2,7 +2,7 @@
 
 use crate::cycles::report_cycles;
 use crate::expectations::{Place, is_among, nearest_word, number_of};
-use crate::file_report::{Explained, FileReport};
+use crate::file_report::{FileReport, ReportResult};
 use crate::json_tree::{Node, items_of, text_of};
 use crate::messages::{DuplicateName, UnknownKey, UnusedKey};
 use crate::path::Path;
@@ -27,7 +27,7 @@ pub(crate) struct PlanWalk<'a> {
 
 impl PlanWalk<'_> {
     /// Reports what is wrong in each member, and warns of keys that are unknown or not used.
-    pub(crate) fn explain(&self, report: &mut FileReport<'_>) -> Explained {
+    pub(crate) fn explain(&self, report: &mut FileReport<'_>) -> ReportResult {
         for member in &PLAN_MEMBERS {
             if member.is_of(self.algorithm) {
                 self.explain_plan_member(report, member)?;
@@ -38,7 +38,7 @@ impl PlanWalk<'_> {
     }
 
     /// Reports what is wrong in a member of the plan.
-    fn explain_plan_member(&self, report: &mut FileReport<'_>, member: &Member) -> Explained {
+    fn explain_plan_member(&self, report: &mut FileReport<'_>, member: &Member) -> ReportResult {
         let place = place_of("", self.plan, member);
         match member.kind {
             MemberKind::Quorums => self.explain_quorums(report, &place, member),
@@ -52,7 +52,7 @@ impl PlanWalk<'_> {
         report: &mut FileReport<'_>,
         place: &Place<'_>,
         member: &Member,
-    ) -> Explained {
+    ) -> ReportResult {
         if place.value.is_none() && self.may_lack(member) {
             return Ok(());
         }
@@ -80,7 +80,7 @@ impl PlanWalk<'_> {
         report: &mut FileReport<'_>,
         place: &Place<'_>,
         member: &Member,
-    ) -> Explained {
+    ) -> ReportResult {
         match place.value {
             Some(quorums) if quorums.is_object() => self.explain_quorum_members(report, quorums),
             _ => self.explain_member(report, place, member),
@@ -89,7 +89,11 @@ impl PlanWalk<'_> {
 
     /// Reports what is wrong in the members that quorums of their kind have, and warns of other
     /// keys.
-    fn explain_quorum_members(&self, report: &mut FileReport<'_>, quorums: Node<'_>) -> Explained {
+    fn explain_quorum_members(
+        &self,
+        report: &mut FileReport<'_>,
+        quorums: Node<'_>,
+    ) -> ReportResult {
         let kind = text_of(quorums.get("kind"));
         for member in &QUORUM_MEMBERS {
             if member.is_of(kind) {
@@ -103,7 +107,7 @@ impl PlanWalk<'_> {
     }
 
     /// Reports the rows of a grid if rows times columns is not the number of nodes.
-    fn explain_grid(&self, report: &mut FileReport<'_>, quorums: Node<'_>) -> Explained {
+    fn explain_grid(&self, report: &mut FileReport<'_>, quorums: Node<'_>) -> ReportResult {
         let rows = quorums.get("rows");
         let sides = (number_of(rows), number_of(quorums.get("cols")));
         let (Some(height), Some(width)) = sides else {
@@ -131,7 +135,7 @@ impl PlanWalk<'_> {
         report: &mut FileReport<'_>,
         place: &Place<'_>,
         expected: &str,
-    ) -> Explained {
+    ) -> ReportResult {
         let sets = items_of(report.alloc(), place.value)?;
         let has_each = self.nodes.is_empty() || sets.len() == self.nodes.len();
         if !is_array(place.value) || !has_each {
@@ -149,7 +153,7 @@ impl PlanWalk<'_> {
         report: &mut FileReport<'_>,
         place: &Place<'_>,
         expected: &str,
-    ) -> Explained {
+    ) -> ReportResult {
         if !is_array(place.value) {
             return place.expect(report, expected);
         }
@@ -161,7 +165,7 @@ impl PlanWalk<'_> {
     }
 
     /// Reports an edge that is no array of two nodes.
-    fn explain_edge(&self, report: &mut FileReport<'_>, place: &Place<'_>) -> Explained {
+    fn explain_edge(&self, report: &mut FileReport<'_>, place: &Place<'_>) -> ReportResult {
         match place.value {
             Some(edge) if edge.is_pair() => self.explain_nodes(report, place),
             _ => place.expect(report, "an array of two nodes"),
@@ -169,7 +173,7 @@ impl PlanWalk<'_> {
     }
 
     /// Reports what is wrong in an array of nodes' names.
-    fn explain_nodes(&self, report: &mut FileReport<'_>, place: &Place<'_>) -> Explained {
+    fn explain_nodes(&self, report: &mut FileReport<'_>, place: &Place<'_>) -> ReportResult {
         if !is_array(place.value) {
             return place.expect(report, "an array of nodes");
         }
@@ -183,7 +187,7 @@ impl PlanWalk<'_> {
     }
 
     /// Warns of the members that only plans for another algorithm use.
-    fn warn_of_unused(&self, report: &mut FileReport<'_>) -> Explained {
+    fn warn_of_unused(&self, report: &mut FileReport<'_>) -> ReportResult {
         if !is_among(self.algorithm, &ALGORITHMS) {
             return Ok(());
         }
@@ -196,7 +200,7 @@ impl PlanWalk<'_> {
     }
 
     /// Warns of a member that is for another algorithm, if the plan has it.
-    fn warn_if_there(&self, report: &mut FileReport<'_>, member: &Member) -> Explained {
+    fn warn_if_there(&self, report: &mut FileReport<'_>, member: &Member) -> ReportResult {
         let Some(value) = self.plan.get(member.key) else {
             return Ok(());
         };
@@ -233,7 +237,7 @@ fn explain_names(
     place: &Place<'_>,
     most: usize,
     expected: &str,
-) -> Explained {
+) -> ReportResult {
     let items = items_of(report.alloc(), place.value)?;
     if items.is_empty() || items.len() > most {
         return place.expect(report, expected);
@@ -257,7 +261,7 @@ fn explain_name(
     place: &Place<'_>,
     name: &str,
     earlier: &[&str],
-) -> Explained {
+) -> ReportResult {
     if !is_name(name) {
         return place.expect(report, NAME);
     }
@@ -280,7 +284,7 @@ fn warn_of_unknown(
     object: Node<'_>,
     members: &[Member],
     kind: Option<&str>,
-) -> Explained {
+) -> ReportResult {
     let known = keys_of(report.alloc(), members, kind)?;
     for (key, value) in object.members(report.alloc())?.iter() {
         if !is_among(key, known.as_slice()) {

@@ -91,7 +91,7 @@ impl Report {
         Ok(())
     }
 
-    /// Adds a line, unless it is of a fault and the command finds none.
+    /// Adds a line, unless it reports a fault and the command finds none.
     fn push(&mut self, line: ReportLine) -> Result<(), AllocError>
         ensures longer { IsLonger self.old self.new }
         ensures fault { OnOk result (has_fault self.new.lines
@@ -108,8 +108,8 @@ impl Report {
         Ok(())
     }
 
-    /// Ends the report. If the command finds a fault but no line is of a fault, adds a line on this
-    /// file that says so.
+    /// Ends the report. If the command finds a fault but no line reports one, adds a line about this
+    /// file, which says that the fault has no place in it.
     pub fn end(&mut self, file: &str) -> Result<(), AllocError>
         ensures longer { IsLonger self.old self.new }
         ensures well { OnOk result (has_fault self.new.lines ≡ not self.old.is_well) }
@@ -123,7 +123,7 @@ impl Report {
         )
     }
 
-    /// Returns all lines, in order. If no line is of a fault, a last one says `nothing is at
+    /// Returns all lines, in order. If no line reports a fault, a last one says `nothing is at
     /// fault`.
     pub fn text(&self) -> Result<String, AllocError>
         ensures value { IfOk result (λ text. string_bytes text ≡ report_text self.now.lines) }

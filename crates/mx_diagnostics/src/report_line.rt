@@ -8,7 +8,7 @@ use std::alloc::{AllocError, Global};
 use std::fmt::Display;
 use std::marker::Model;
 
-/// A line of a fault or of a warning: printable text with a colon.
+/// A line that reports a fault or a warning: printable text with a colon.
 #[derive(Drop)]
 pub(crate) struct ReportLine {
     is_fault: bool,
@@ -46,7 +46,7 @@ impl ReportLine {
         Ok(ReportLine { is_fault, text })
     }
 
-    /// Returns whether the line is of a fault.
+    /// Returns whether the line reports a fault.
     pub(crate) fn is_fault(&self) -> bool
         ensures value { result ≡ self.now.is_fault }
         ensures line { IsLine self.now.text }

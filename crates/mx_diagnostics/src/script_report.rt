@@ -2,7 +2,7 @@
 
 ghost use Rattle.mx_diagnostics.specs.Reports.{IsLonger};
 
-use crate::file_report::{Explained, FileReport};
+use crate::file_report::{FileReport, ReportResult};
 use crate::json_reader::read_tree;
 use crate::names::{PlanNames, as_slices};
 use crate::report::Report;
@@ -37,7 +37,7 @@ pub fn explain_script_text<'a>(
 }
 
 /// Adds what is wrong in a script to the report on its file.
-fn explain_text(report: &mut FileReport<'_>, names: &PlanNames, text: &[u8]) -> Explained {
+fn explain_text(report: &mut FileReport<'_>, names: &PlanNames, text: &[u8]) -> ReportResult {
     let nodes = as_slices(report.alloc(), names.nodes.as_slice())?;
     let registers = as_slices(report.alloc(), names.registers.as_slice())?;
     let names = NameLists {
@@ -49,7 +49,7 @@ fn explain_text(report: &mut FileReport<'_>, names: &PlanNames, text: &[u8]) -> 
 }
 
 /// Warns if a script is a JSON array, as a list of events is.
-fn warn_of_events(report: &mut FileReport<'_>, text: &[u8]) -> Explained {
+fn warn_of_events(report: &mut FileReport<'_>, text: &[u8]) -> ReportResult {
     if !is_array(report.alloc(), text)? {
         return Ok(());
     }
@@ -72,7 +72,7 @@ fn is_array(alloc: Global, text: &[u8]) -> Result<bool, AllocError> {
 }
 
 /// Reports what is wrong in each line of a script.
-fn explain_lines(report: &mut FileReport<'_>, names: &NameLists<'_>, text: &[u8]) -> Explained {
+fn explain_lines(report: &mut FileReport<'_>, names: &NameLists<'_>, text: &[u8]) -> ReportResult {
     let mut begins = 0usize;
     for line in text.split(|byte| *byte == b'\n') {
         explain_line(report, names, line, begins)?;
@@ -87,7 +87,7 @@ fn explain_line(
     names: &NameLists<'_>,
     line: &[u8],
     begins: usize,
-) -> Explained {
+) -> ReportResult {
     match str::from_utf8(line) {
         Ok(line) => explain_words(report, names, line, begins),
         Err(e) => {
@@ -104,7 +104,7 @@ fn explain_words(
     names: &NameLists<'_>,
     line: &str,
     begins: usize,
-) -> Explained {
+) -> ReportResult {
     let words = words_in(report.alloc(), line)?;
     let mut wrong = first_error(names, words.as_slice());
     for _ in 0..words.len().saturating_add(1) {
@@ -136,7 +136,7 @@ fn explain_word(
     words: &[&str],
     error: &LineError,
     begins: usize,
-) -> Explained {
+) -> ReportResult {
     if report.is_full() {
         return report.fault_at(0, "");
     }

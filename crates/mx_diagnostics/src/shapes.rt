@@ -1,7 +1,7 @@
 //! What is wrong in the arbiter sets or the tree of a plan as a whole.
 
 use crate::expectations::{index_in, is_among};
-use crate::file_report::{Explained, FileReport};
+use crate::file_report::{FileReport, ReportResult};
 use crate::json_tree::{Node, items_of, text_of};
 use mx_plan::is_name;
 use mx_quorums::{QuorumFault, Quorums};
@@ -16,7 +16,7 @@ pub(crate) fn explain_shape(
     plan: Node<'_>,
     algorithm: &str,
     nodes: &[&str],
-) -> Explained {
+) -> ReportResult {
     if !are_names(nodes) {
         return Ok(());
     }
@@ -38,7 +38,7 @@ fn are_names(nodes: &[&str]) -> bool {
 }
 
 /// Reports the first rule that the arbiter sets of a plan break.
-fn explain_quorums(report: &mut FileReport<'_>, plan: Node<'_>, nodes: &[&str]) -> Explained {
+fn explain_quorums(report: &mut FileReport<'_>, plan: Node<'_>, nodes: &[&str]) -> ReportResult {
     let Some(quorums) = plan.get("quorums") else {
         return Ok(());
     };
@@ -132,7 +132,7 @@ fn place_of<'a>(
 }
 
 /// Reports why the edges and the holder of a plan are no tree.
-fn explain_tree(report: &mut FileReport<'_>, plan: Node<'_>, nodes: &[&str]) -> Explained {
+fn explain_tree(report: &mut FileReport<'_>, plan: Node<'_>, nodes: &[&str]) -> ReportResult {
     let Some(edges) = plan.get("edges") else {
         return Ok(());
     };
