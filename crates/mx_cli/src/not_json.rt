@@ -14,8 +14,8 @@ use mx_io::Source;
 use mx_plan::PlanFault;
 use std::alloc::Global;
 
-/// Reads a plan, and the bytes that come with it, as `fetch_both` does. If the plan is not JSON,
-/// the fault names the plan.
+/// Reads the plan of the first name and the bytes of the second, as `fetch_both` does. If the plan
+/// is not JSON, the fault names the plan.
 pub fn fetch_named<S: Source>(
     alloc: Global,
     source: &mut S,

@@ -40,8 +40,8 @@ impl From<AllocError> for MergeFault {
 /// # Errors
 ///
 /// Returns `Conflict` with the least number at which the journals differ. Returns `Memory` if they
-/// agree and memory runs out; `other` then has a record of a section that `journal` does not cover.
-/// On an error `journal` is unchanged.
+/// agree and memory runs out, which is possible only if `other` has a record of a section that
+/// `journal` does not cover. On an error `journal` is unchanged.
 pub fn merge(journal: &mut Journal, other: &Journal) -> Result<u64, MergeFault>
     ensures conflict { (n : ℕ) → (result ≡ Err (MergeFault.Conflict n))
         ↔ IsFirstDifference n journal.old other.now }

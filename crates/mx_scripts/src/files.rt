@@ -189,8 +189,8 @@ impl fmt::Display for NextText<'_> {
     }
 }
 
-/// Proves that the file of at most 1,000,000 events over a plan's names is read as these events, by
-/// the rules of `replay`. Does nothing.
+/// Proves that the file that is printed of `events` is read as the same events, by the rules of
+/// `replay`, if they are at most 1,000,000 and name only what the plan names. Does nothing.
 pub fn reads_back(plan: &Plan, events: &[Event])
     ensures { IsPlan plan.now → AreReadable plan.now events.now
         → events_at plan.now (file_text plan.now events.now) ≡ Ok events.now }
