@@ -37,8 +37,8 @@ pub enum Request<'a> {
     Explore(Exploration<'a>),
 }
 
-/// Parses the words of a command line for `mx_commands::command`. Returns `None` if they name a
-/// command, or a form of a command, that another function runs.
+/// Parses the words of a command line for `mx_commands::command`. Returns `None` if they have no
+/// fault, but name a command, or a form of a command, that another function runs.
 ///
 /// # Errors
 ///

@@ -33,8 +33,9 @@ is_refused_under name (Refused cause) =
     bytes_eq name (codes "refused") || bytes_eq name (cause_words cause)
 is_refused_under name _ = false
 
--- the name under which all letters are counted, and (below) those for the other parcels, in the
--- order of their lines. The names for the kinds of letters are the words of the algorithm's letters
+-- the name under which all letters from one node to another are counted, and (below) those for the
+-- other parcels, in the order of their lines. The names for the kinds of letters are the words of
+-- the algorithm's letters
 abbrev pub letter_names : List Text
 letter_names = codes "letters" ∷ []
 

@@ -47,8 +47,8 @@ pub fn count<S: Source, O: Output, E: Output>(
     }
 }
 
-/// Prints the counts that `request` asks for, flushes `out`, and writes to `err` why the command
-/// ended early, if it did. Returns the exit status.
+/// Prints the counts that `request` asks for, then flushes `out` and reports an error as `close`
+/// does. Returns the exit status.
 fn count_and_close<S: Source, O: Output, E: Output>(
     alloc: Global,
     request: &Request<'_>,

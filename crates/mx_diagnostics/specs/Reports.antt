@@ -30,8 +30,8 @@ abbrev pub has_fault : List Told → Bool
 has_fault [] = false
 has_fault (t ∷ ts) = t.is_fault || has_fault ts
 
--- the line is a fault or a warning about this file; its text is the file, a colon and the message,
--- if the message is known
+-- the line is a fault or a warning about this file; if the message is known, the text is the file,
+-- a colon and the message, with control characters escaped
 pub record IsLineOf (is_fault : Bool) (file : Text) (message : Option Text) (t : Told) : Type 0 where
   pub kind : t.is_fault ≡ is_fault
   pub text : IfSome message (λ said. t.text ≡ shown file ++ codes ":" ++ shown said)

@@ -150,8 +150,8 @@ fn explain_word(report: &mut FileReport<'_>, place: &Place<'_>, word: &str) -> R
     place.expect_word(report, words.as_slice(), listed.as_str())
 }
 
-/// Reports an argument that is not what its kind requires: a node or a register of the plan, or a
-/// `u64`.
+/// Reports an argument that is not what its kind requires: a node or a register of the plan (if the
+/// plan's are known), or a `u64`.
 fn explain_argument(
     report: &mut FileReport<'_>,
     place: &Place<'_>,
@@ -182,7 +182,8 @@ pub struct EventOffsets {
 }
 
 impl EventOffsets {
-    /// Finds where the events of a text begin. After a fault of JSON, no events are found.
+    /// Finds where the events of a text begin. If the text is not JSON, finds only the events that
+    /// a comma follows before the fault.
     ///
     /// # Errors
     ///
@@ -207,8 +208,8 @@ impl EventOffsets {
         }
     }
 
-    /// Returns the byte at which the first argument of event `k` begins, or 0 if there is no such
-    /// event. Events are counted from 0.
+    /// Returns the byte at which the first argument of event `k` begins, that of the event itself
+    /// if it has none, or 0 if there is no such event. Events are counted from 0.
     pub fn argument(&self, k: u64) -> usize {
         match self.offsets.get(k as usize) {
             Some((_, offset)) => *offset,

@@ -18,7 +18,7 @@ pub(crate) struct Part<'a> {
     pub(crate) above: usize,
 }
 
-/// The values of a part, and whether the part is JSON to its end.
+/// The values of a part, and whether the part, after a byte order mark, is JSON to its end.
 #[derive(Drop)]
 pub(crate) struct Content {
     pub(crate) tree: Tree,

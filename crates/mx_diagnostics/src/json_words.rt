@@ -44,7 +44,8 @@ pub(crate) fn is_value(word: &str) -> bool {
     matches!(word, "true" | "false" | "null") || is_number(word)
 }
 
-/// Returns whether a word may be the start of a value of JSON, such as `tr` or `1e`.
+/// Returns whether a word that is not yet a value may be the start of a value of JSON, such as `tr`
+/// or `1e`.
 pub(crate) fn is_value_start(word: &str) -> bool {
     ["true", "false", "null"]
         .iter()
@@ -52,8 +53,8 @@ pub(crate) fn is_value_start(word: &str) -> bool {
         || is_number_start(word)
 }
 
-/// Returns whether a word may be the start of a number that goes on with a digit, such as `-` or
-/// `1e+`.
+/// Returns whether a word that is not yet a number looks like the start of one: a digit has to
+/// follow, as after `-`, `1.`, `1e` or `1e+`.
 fn is_number_start(word: &str) -> bool {
     match word.as_bytes().split_last() {
         Some((b'-', [])) => true,

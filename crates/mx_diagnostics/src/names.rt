@@ -93,7 +93,7 @@ pub fn message_of_unknown_node(alloc: Global, plan: &Plan, name: &str) -> Result
     Ok(message)
 }
 
-/// The message for a name that no node has, with the nearest name of a node.
+/// The message for a name that no node has, with the nearest name of a node, if one is near.
 #[derive(Clone, Copy)]
 struct UnknownNode<'a> {
     name: &'a str,

@@ -106,7 +106,8 @@ impl PlanWalk<'_> {
         warn_of_unknown(report, "quorums", quorums, &QUORUM_MEMBERS, Some(kind))
     }
 
-    /// Reports the rows of a grid if rows times columns is not the number of nodes.
+    /// Reports the rows of a grid if rows times columns is not the number of nodes, as far as these
+    /// are known.
     fn explain_grid(&self, report: &mut FileReport<'_>, quorums: Node<'_>) -> ReportResult {
         let rows = quorums.get("rows");
         let sides = (number_of(rows), number_of(quorums.get("cols")));

@@ -9,8 +9,8 @@ use mx_trees::{Tree, TreeFault};
 use std::alloc::{AllocError, Global};
 use std::fmt;
 
-/// Reports the first rule that the arbiter sets or the tree of a plan break. Reports nothing if a
-/// name, a set, an edge or the holder is malformed.
+/// Reports the first rule that the arbiter sets or the tree of a plan break. Reports nothing if the
+/// names, or the members for the shape, have another fault.
 pub(crate) fn explain_shape(
     report: &mut FileReport<'_>,
     plan: Node<'_>,
@@ -70,7 +70,7 @@ fn quorum_fault(
 }
 
 /// Returns the first rule that these arbiter sets break. Returns `None` if there are not as many
-/// sets as nodes, or one is malformed.
+/// sets as nodes, or one is no list of nodes.
 fn listed_fault(
     alloc: Global,
     sets: &[Node<'_>],
@@ -155,8 +155,8 @@ fn explain_tree(report: &mut FileReport<'_>, plan: Node<'_>, nodes: &[&str]) -> 
     report.fault_at(place.offset(), message)
 }
 
-/// Returns why the edges and the holder of a plan are no tree. Returns `None` if one of them is
-/// malformed.
+/// Returns why the edges and the holder of a plan are no tree. Returns `None` if the holder is no
+/// node, or an edge is no pair of nodes.
 fn tree_fault(
     alloc: Global,
     plan: Node<'_>,

@@ -16,7 +16,7 @@ pub(crate) struct Message {
     pub(crate) text: String,
 }
 
-/// Warnings in the order of a run. The first `MAX_LINES` are shown, and further ones only counted.
+/// Warnings in the order of a run. The first `MAX_LINES` are kept, and further ones only counted.
 #[derive(Drop)]
 pub(crate) struct Warnings {
     alloc: Global,
@@ -39,7 +39,7 @@ impl Warnings {
         self.alloc
     }
 
-    /// Returns the warnings that are shown.
+    /// Returns the warnings that are kept.
     pub(crate) fn shown(&self) -> &[Message] {
         self.shown.as_slice()
     }

@@ -20,8 +20,8 @@ ReadsFit ss (Wrote i register value ∷ ms) = ReadsFit (after_mark ss (Wrote i r
 ReadsFit ss (Went i receipt ∷ ms) = ReadsFit (after_mark ss (Went i receipt)) ms
 ReadsFit ss (Woke i ∷ ms) = ReadsFit (after_mark ss (Woke i)) ms
 
--- entries and exits alternate, the n-th section entered has the number n, and each value read is
--- what the writes before it leave in the register
+-- entries and exits alternate, the n-th section entered has the number n, and each value is read by
+-- the node inside, and is what the writes before it leave in the register
 abbrev pub IsSoundTrace : List Entry → Type 0
 IsSoundTrace trace = IsExclusive trace × IsNumbered trace × ReadsFit [] (marks trace)
 

@@ -53,7 +53,7 @@ TouchesAbove n i runs = (i < length runs) × (first_number (get_or runs i []) �
 abbrev pub with_joined : ℕ → List Record → List (List Record) → List (List Record)
 with_joined i run runs = remove (slice_set (slice_set runs i []) (i - 1) run) i
 
--- the new runs have the old records and the record r
+-- the new runs have the old records and, if its number is new, the record r
 pub record IsPut (r : Record) (old new : List (List Record)) : Type 0 where
   pub records : flatten new ≡ with_record r (flatten old)
   pub runs : AreRuns 1 new
@@ -64,7 +64,7 @@ pub record IsNextOfBoth (n : ℕ) (xs ys : List Record) (r : Record) : Type 0 wh
   pub behind : n < r.number
   pub least : (x : Record) → IsIn x xs ⊎ IsIn x ys → n < x.number → r.number ≤ x.number
 
--- the joined records are exactly those of both maps that are numbered above `from` and up to `to`
+-- the joined records are exactly those of either map that are numbered above `from` and up to `to`
 pub record IsJoinedUpTo (from to : ℕ) (xs ys joined : List Record) : Type 0 where
   pub known : (x : Record) → IsIn x joined
       → (IsIn x xs ⊎ IsIn x ys) × (from < x.number) × (x.number ≤ to)
@@ -78,8 +78,8 @@ pub record CanJoin (from : ℕ) (other runs : List (List Record)) : Type 0 where
   pub agreeing : AreAgreeing (flatten runs) (flatten other)
   pub behind : Ascending (suc from) (flatten runs)
 
--- the new runs have the old records and those of `other` that are numbered above `from`; k of the
--- latter are new
+-- the new runs have the old records and, of those of `other` numbered above `from`, the k whose
+-- numbers are new
 pub record AreJoined (from : ℕ) (other old new : List (List Record)) (k : ℕ) : Type 0 where
   pub records : flatten new ≡ with_records (above from (flatten other)) (flatten old)
   pub runs : AreRuns 1 new

@@ -8,7 +8,7 @@ ghost use Rattle.mx_journal.specs.Written.{after_one};
 use crate::records::{Record, Write};
 use mx_stamps::MAX_REGISTERS;
 
-/// The number of registers in a base. Writes to registers with higher numbers are skipped.
+/// The number of registers in a base, which are numbered from 0. Writes to others are skipped.
 pub(crate) const REGISTERS: usize = MAX_REGISTERS as usize;
 
 /// The contents of a register: a value, and the number of the section that wrote it, or 0 if none

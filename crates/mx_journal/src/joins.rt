@@ -74,7 +74,7 @@ pub(crate) fn are_there(runs: &[Run], from: u64, other: &[Run]) -> bool
 /// Adds the records of `other` numbered above `from`, and returns how many were new. Records of the
 /// same number are equal in both, and all of `runs` are numbered above `from`. If `other` is a
 /// single run above `from` that continues a run here, with a gap to the next, it is appended there;
-/// otherwise the records of both are copied.
+/// otherwise, unless `other` is empty, the records of both are copied.
 ///
 /// # Errors
 ///

@@ -48,8 +48,8 @@ pub fn judge_trace<S: Source, O: Output, E: Output>(
     }
 }
 
-/// Judges the trace that `names` names, flushes `out`, and writes to `err` why there is no verdict,
-/// if there is none. Returns the exit status.
+/// Judges the trace that `names` names, then flushes `out` and reports an error as `close` does.
+/// Returns the exit status.
 fn judge_and_close<S: Source, O: Output, E: Output>(
     alloc: Global,
     names: &Names<'_>,

@@ -22,7 +22,8 @@ pub struct Line {
 /// # Errors
 ///
 /// Returns the first wrong word, from the left. A wrong number of arguments goes before a wrong
-/// argument, as an error of the word that takes the arguments.
+/// argument, as an error of the word that takes the arguments; but after `times`, a wrong number
+/// goes before a missing line.
 pub fn read_line<N: Names>(names: &N, words: &[&str]) -> Result<Option<Line>, LineError>
     ensures { result ≡ line_of (N.known names.now) (texts_of words.now) }
 {
@@ -74,8 +75,9 @@ pub fn first_error<N: Names>(names: &N, words: &[&str]) -> Option<LineError>
     }
 }
 
-/// Returns the next wrong word of a line after that of `error`. After an unknown verb, or a wrong
-/// number of words, there is none.
+/// Returns the next error of a line after `error`, from the left; that a line is missing after
+/// `times` comes after a wrong number there. After an unknown verb, or a wrong number of words,
+/// there is none.
 pub fn next_error<N: Names>(names: &N, words: &[&str], error: &LineError) -> Option<LineError> {
     match error.expected {
         Expected::Times => error_after_times(names, words),

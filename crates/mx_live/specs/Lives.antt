@@ -66,8 +66,9 @@ Ends takes told request old new kept_back (Ok done) =
 Ends takes told request old new kept_back (Err error) =
     Halts takes told request error × Prints told request error old new
 
--- after a run that ended in this way, standard error got the error's line, if there is an error,
--- and this is the exit status. `takes` says that standard error takes all bytes
+-- the exit status of a run that ended in this way, and what standard error got: after `Ok`, status
+-- 0 and nothing; after an error, what `ReportsError` says. `takes` says whether standard error
+-- takes all bytes
 abbrev pub Closes : Bool → Text → Result (Unit {0}) LiveError → Held → Held → ℕ → Type 0
 Closes takes name (Ok done) old new status = (status ≡ 0) × Keeps old new
 Closes takes name (Err error) old new status = ReportsError takes name error old new status

@@ -121,7 +121,8 @@ fn live_plan<R: Threads + Clock, O: Output, E: Output>(
     show(alloc, plan, &gathered, out)
 }
 
-/// Prints the number of receipts and the merged journal of the nodes, whole or not at all.
+/// Prints the number of receipts, the number up to which the merged journal has no gap, and the
+/// value of each register after it, whole or not at all.
 fn show<O: Output>(
     alloc: Global,
     plan: &Plan,

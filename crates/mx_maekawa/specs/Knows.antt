@@ -27,8 +27,8 @@ missing_of r =
 abbrev pub permission_of : RequesterState → List Known
 permission_of r = if is_waiting r.phase then missing_of r else []
 
--- the arbiters that have failed the request; those whose inquiries are remembered, each with the
--- grant that it has asked back
+-- the arbiters that have failed the request or got their grant back, and have not granted it since;
+-- those whose inquiries are remembered, each with the grant that it has asked back
 abbrev pub answers_of : RequesterState → List Known
 answers_of r =
     listed (codes "failed") (below (node_at r.failed) r.count)

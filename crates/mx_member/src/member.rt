@@ -55,9 +55,9 @@ impl<C: Exclusion> Model for Member<C> {
 }
 
 impl<C: Exclusion> Member<C> {
-    /// Creates an idle member with an empty journal. The core's stamps, grants or hops get numbers
-    /// above `origin`, `limit` is the greatest section number, and `registers` the number of
-    /// registers.
+    /// Creates an idle member with an empty journal. By its algorithm, the core counts its stamps
+    /// and grants, or its hops, on from `origin`; `limit` is the greatest section number, and
+    /// `registers` the number of registers.
     pub fn start(
         alloc: Global,
         shape: &C::Shape,

@@ -65,9 +65,9 @@ impl<C: Exclusion> Model for Cluster<C> {
 }
 
 impl<C: Exclusion> Cluster<C> {
-    /// Creates a cluster of idle members. The algorithm's stamps, grants or hops get numbers above
-    /// `origin`, `limit` is the greatest section number, and there are `registers` registers with
-    /// the value 0.
+    /// Creates a cluster of idle members. The algorithm counts its stamps and grants, or its hops,
+    /// on from `origin`; `limit` is the greatest section number, and there are `registers`
+    /// registers with the value 0.
     ///
     /// # Errors
     ///

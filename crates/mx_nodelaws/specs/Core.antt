@@ -17,8 +17,9 @@ use Rattle.mx_nodelaws.specs.World.{Done, Quiet}
 pub record Core (H S M : Type 0) : Type 0 where
   -- the number of nodes in a shape
   pub count : H → ℕ
-  -- the state of a node that has just been started, from the shape, the node, the origin (stamps,
-  -- grants or hops get numbers above it) and the limit (the greatest section number)
+  -- the state of a node that has just been started, from the shape, the node, the origin (the
+  -- algorithm may count its stamps and grants, or its hops, on from it) and the limit (the greatest
+  -- section number)
   pub start : H → ℕ → ℕ → ℕ → S
   pub phase : S → Phase
   -- the number of the last section that the node entered, or 0 before the first

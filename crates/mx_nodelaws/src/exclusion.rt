@@ -46,8 +46,8 @@ pub trait Exclusion: Drop {
     fn is_same(one: &Self::Msg, other: &Self::Msg) -> bool
         ensures { IsTrue result ↔ (one.now ≡ other.now) };
 
-    /// Creates the node `me`, idle, at the start of a cluster. The algorithm's stamps, grants or
-    /// hops get numbers above `origin`; `limit` is the greatest section number.
+    /// Creates the node `me`, idle, at the start of a cluster. The algorithm may count its stamps
+    /// and grants, or its hops, on from `origin`; `limit` is the greatest section number.
     fn start(shape: &Self::Shape, me: NodeId, origin: u64, limit: u64) -> Self
         requires node { me < core.count shape.now }
         requires low { 0 < limit }

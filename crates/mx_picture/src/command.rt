@@ -40,7 +40,8 @@ pub fn picture<S: Source, O: Output, E: Output>(
     }
 }
 
-/// Prints the requested picture, or reports why there is none. Returns the exit status.
+/// Prints the requested picture, or reports why there is none, as `close` does. Returns the exit
+/// status.
 fn run_picture<S: Source, O: Output, E: Output>(
     alloc: Global,
     request: &Request<'_>,

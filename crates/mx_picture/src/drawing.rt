@@ -75,8 +75,8 @@ where
         draw_row(plan, index, before, cluster, self)
     }
 
-    /// Ends the picture: adds a row with `..` if the last events were left out, and draws the
-    /// phases that last to the end. Returns status 0.
+    /// Ends the picture: adds a row with `..` if the last events were left out and a row has to say
+    /// so (`has_skipped`), and draws the phases that last to the end. Returns status 0.
     fn end(
         &mut self,
         _alloc: Global,
@@ -115,7 +115,8 @@ where
     drawing.sheet.next_row()
 }
 
-/// Adds a row with `..` for the events that were left out since the last row, if there are any.
+/// Adds a row with `..` if events were left out since the last row and a row has to say so. Events
+/// that only `--letters` leaves out need none.
 fn add_gap(drawing: &mut Drawing) -> Result<(), AllocError> {
     if drawing.has_skipped {
         drawing.has_skipped = false;

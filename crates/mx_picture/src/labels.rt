@@ -9,8 +9,8 @@ use std::alloc::AllocError;
 /// Half the height of a text's characters, in pixels.
 const HALF_HIGH: u64 = 5;
 
-/// The greatest number of arrows that are checked for one text: the first that end in its row or
-/// below.
+/// The greatest number of arrows that are checked for one text: the last that was added before it,
+/// and the first after it.
 const MAX_ARROWS: usize = 400;
 
 /// A text beside a node, at the height `y`, `width` pixels wide, with the side that it prefers.

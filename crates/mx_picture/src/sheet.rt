@@ -84,8 +84,8 @@ impl Sheet {
         self.shapes.add_index(y, Some(index))
     }
 
-    /// Repeats the names of the nodes in a row of their own, if the last such row is `NAMED_ROWS`
-    /// rows or more above.
+    /// Repeats the names of the nodes in a row of their own, if the last such row, or the top of
+    /// the picture before the first, is `NAMED_ROWS` rows or more above.
     fn repeat_names(&mut self) -> Result<(), AllocError> {
         if self.row.saturating_sub(self.named) < NAMED_ROWS {
             return Ok(());

@@ -29,7 +29,7 @@ pub enum PlanFault {
     NotPlan(Place),
     /// A name occurs twice at this place.
     DoubleName(Place),
-    /// The name at this place is well-formed, but the plan has no such node or register.
+    /// A name at this place is well-formed, but the plan has no such node or register.
     UnknownName(Place),
     /// Each place has the right form, but the arbiter sets or the tree break a rule.
     BadShape(ShapeFault),

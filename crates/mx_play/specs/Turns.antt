@@ -160,8 +160,8 @@ module _ {H S M : Type 0} (core : Core H S M) (letter_text : Fields → M → Te
     pub ended : has_ended turns ≡ not goes_on
     pub are : IfSome lines (λ known. AreTurnsOf p known turns)
 
-  -- if the session goes on, the turns of these lines were taken, and an output got what they print;
-  -- else no turn was taken
+  -- if the session goes on, the turns of these lines were taken (some turns, if the lines are not
+  -- known), and an output got what they print; else no turn was taken
   pub record RunsOn (goes_on : Bool) (lines : Option (List Text)) (old new : SessionState S M)
       (out out' : Held) : Type 0 where
     pub turns : List Turn

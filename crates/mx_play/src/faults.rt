@@ -17,7 +17,7 @@ pub(crate) enum InputFault {
     TooLong,
     /// `undo` asks for more lines than were done: only this many were.
     TooFew(usize),
-    /// `redo` finds nothing that was undone.
+    /// `redo` finds nothing undone that can be redone.
     NoUndo,
 }
 
@@ -67,8 +67,8 @@ impl fmt::Display for InputFaultLine {
     }
 }
 
-/// Returns a colon and a message about the line, if it has a wrong word or asks for what can't be
-/// done; else an empty text.
+/// Returns a colon and a message about the line, if its fault is `InputFault::Line`: a word is
+/// wrong, or a script line can't be done. Returns an empty text for other faults.
 fn message_about(
     alloc: Global,
     plan: &Plan,

@@ -31,8 +31,8 @@ pub record IsPlayed {H S M : Type 0} (core : Core H S M) (nodes registers : ℕ)
   pub runs : RunsTo core start (events_of g.trace) g
   pub over : AreOver nodes registers (events_of g.trace)
 
--- if the events of the old cluster's trace lead from a start to the old cluster, so do those of the
--- new one's trace to the new one; they name only these nodes and registers
+-- if the events of the old cluster's trace lead from a start to the old cluster, and name only
+-- these nodes and registers, the same holds of the new cluster and its trace
 abbrev pub Plays : {H S M : Type 0} → Core H S M → ℕ → ℕ → ClusterState S M → ClusterState S M
     → Type 0
 Plays {H} {S} {M} core nodes registers old new =
@@ -49,7 +49,8 @@ pub record IsFileOf {H S M : Type 0} (core : Core H S M) (p : Fields) (start : C
   pub last : ClusterState S M
   pub runs : RunsTo core start events last
 
--- the text is the file of events that can happen from the cluster of a plan, at rest
+-- the text is the file of events that name only nodes and registers of a plan, and can happen from
+-- the cluster of the plan, at rest
 abbrev pub IsEventFile : Fields → Text → Shape → Type 0
 IsEventFile p text (Ricart count) = IsFileOf ricart_core p (at_rest ricart_core p count) text
 IsEventFile p text (Maekawa family) = IsFileOf maekawa_core p (at_rest maekawa_core p family) text

@@ -184,8 +184,8 @@ impl<C: Exclusion> State<C> {
         }
     }
 
-    /// Returns an error if the next event can't happen: the cluster has had 1,000,000 events, or a
-    /// link is cut.
+    /// Returns an error if the next event is one of the cluster that can't happen: the cluster has
+    /// had 1,000,000 events, or the event delivers a parcel over a cut link.
     fn admit(&self, next: &Option<SessionEvent>) -> Result<(), LineFault>
         ensures ok { OnOk result (Admits self.now next.now) }
         ensures err { IfErr result (Bars self.now next.now) }

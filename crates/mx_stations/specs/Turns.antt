@@ -65,7 +65,7 @@ noted_fate Pass r = record r { taken = r.taken + 1 }
 noted_fate Drop r = record r { taken = r.taken + 1; dropped = r.dropped + 1 }
 noted_fate Twice r = record r { taken = r.taken + 1; twice = r.twice + 1 }
 
--- the report, with a try to take a parcel counted: none was taken, or one with this fate
+-- the report after a try to take a parcel: a parcel taken, with this fate, is counted
 abbrev pub noted : Option Fate → TurnReport → TurnReport
 noted None r = r
 noted (Some fate) r = noted_fate fate r
@@ -74,7 +74,7 @@ abbrev pub noted_all : List (Option Fate) → TurnReport → TurnReport
 noted_all [] r = r
 noted_all (x ∷ xs) r = noted_all xs (noted x r)
 
--- the report, with a try to put a parcel out counted, which had this result
+-- the report after a try to put a parcel out: `Sent` and `Full` are counted
 abbrev pub noted_put : PutOut → TurnReport → TurnReport
 noted_put Sent r = record r { put = r.put + 1 }
 noted_put Full r = record r { full = r.full + 1 }

@@ -53,7 +53,7 @@ impl<C: Exclusion> Watch<C> {
     }
 }
 
-/// Returns the number of sections that were completed when a node had this status word: all up to
+/// Returns how many sections, at least, were completed when a node had this status word: all up to
 /// the node's last section, without this one if the word is odd (the node is inside).
 fn sections_in(word: u64) -> u64 {
     (word / 2).saturating_sub(word % 2)

@@ -87,9 +87,8 @@ impl Patience {
     }
 
     /// Counts this call, and lets other threads run once `ACTING_TURNS` calls are counted. A node
-    /// that is still inside usually lacks records, and asks another node for them in each of its
-    /// turns. A reply has room for four records only, so several such questions may be on their way
-    /// at once.
+    /// that is still inside usually lacks records, and asks a node for them in each of its turns. A
+    /// reply has room for four records only, so several such questions may be on their way at once.
     fn wait_a_little(&mut self) {
         self.turns = self.turns.saturating_add(1);
         if self.turns >= ACTING_TURNS {

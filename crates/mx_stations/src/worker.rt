@@ -144,7 +144,8 @@ fn ask_if_due<C: Exclusion>(station: &mut Station<C>, sections: u64)
     }
 }
 
-/// Reads the register and writes 1 more, or asks another node for missing records. Does nothing if
+/// Reads the register and writes 1 more, or asks the next node in cyclic order for missing records,
+/// which may be the node itself. Does nothing if
 /// the node is not inside, or has written in its section already.
 fn add_if_due<C: Exclusion>(station: &mut Station<C>, register: u8, stance: &mut WorkerState)
     ensures none { LeavesNone C.core register station.old station.new }

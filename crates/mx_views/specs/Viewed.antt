@@ -76,7 +76,7 @@ HoldsOf told request P = IfSome (plan_told told request.names) (λ plan.
 -- ---- what was printed
 
 -- the report was printed whole, with its status and the line of its fault. Or memory ran out, or an
--- output refused, and only the first texts of the report were printed, perhaps none, each whole
+-- output refused, and the first texts of the report were printed, perhaps none or all, each whole
 abbrev pub PrintsReport : Bool → Text × Text → Report → Seen → Seen → ℕ → Type 0
 PrintsReport takes_all names r old new status =
     ((status ≡ status_of r.end) × Appends old.out new.out (concat r.texts)
@@ -84,7 +84,7 @@ PrintsReport takes_all names r old new status =
     ⊎ (FallsShort takes_all old.err new.err status × AppendsSome old.out new.out r.texts)
 
 -- standard output got nothing. Standard error got the line of an unknown name, or memory ran out,
--- or standard error refused
+-- or an output refused
 abbrev pub TellsName : Bool → Seen → Seen → ℕ → Type 0
 TellsName takes_all old new status =
     Keeps old.out new.out
@@ -95,8 +95,8 @@ PrintsCourse takes_all names (reports r) old new status =
     PrintsReport takes_all names r old new status
 PrintsCourse takes_all names unknown_node old new status = TellsName takes_all old new status
 
--- the outcome of a request was printed; or memory ran out, or an output refused, before standard
--- output got anything
+-- the outcome of a request was printed, if the source states what the files hold; or memory ran
+-- out, or an output refused, before standard output got anything
 abbrev pub Views : Bool → (Text → Option Telling) → Request → Seen → Seen → ℕ → Type 0
 Views takes_all told request old new status =
     (FallsShort takes_all old.err new.err status × Keeps old.out new.out)
@@ -105,8 +105,8 @@ Views takes_all told request old new status =
 
 -- ---- what a run writes and returns
 
--- the texts of the outcome's report were written, or only the first of them, if memory ran out or
--- the output refused; or the node is unknown, and nothing was written
+-- the texts of the outcome's report were written; or, if memory ran out or the output refused, the
+-- first of them, perhaps none or all; or the node is unknown, and nothing was written
 abbrev pub ViewRan : Bool → Held → Held → Course → Result ℕ ViewError → Type 0
 ViewRan takes_all old new (reports r) (Ok status) = Ran takes_all old new r (Ok status)
 ViewRan takes_all old new (reports r) (Err (view_error.Command end)) = Ran takes_all old new r (Err end)

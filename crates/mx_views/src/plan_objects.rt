@@ -47,8 +47,8 @@ pub fn check_objects<S: Source, O: Output, E: Output>(
     }
 }
 
-/// Prints what `request` asks for, flushes `out`, and writes to `err` why the command ended early,
-/// if it did. Returns the exit status.
+/// Prints what `request` asks for, then flushes `out` and reports an error as `close` does. Returns
+/// the exit status.
 fn check_and_close<S: Source, O: Output, E: Output>(
     alloc: Global,
     request: &PlanRequest<'_>,

@@ -57,8 +57,8 @@ pub fn replay_view<S: Source, O: Output, E: Output>(
     }
 }
 
-/// Shows what `request` asks for, flushes `out`, and writes to `err` why the command ended early,
-/// if it did. Returns the exit status.
+/// Shows what `request` asks for, then flushes `out` and reports an error as `close` does. Returns
+/// the exit status.
 fn view_and_close<S: Source, O: Output, E: Output>(
     alloc: Global,
     request: &Request<'_>,

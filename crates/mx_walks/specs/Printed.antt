@@ -17,8 +17,8 @@ abbrev pub seed_job : (Text → Option Telling) → Text → Manner → ℕ → 
 seed_job told name manner seed steps =
     option_map (on_plan (λ p. seed_text p manner seed steps)) (told name)
 
--- the job, if there is one, was done: its text was printed whole, status 0; or the line of the
--- plan's fault was printed, status 1; or memory ran out, or an output refused
+-- the job, if there is one, was done: its text was printed whole; or the line of the plan's fault
+-- was printed, with status 1; or memory ran out, or an output refused
 abbrev pub Explores : Bool → Bool → Text → Option Job → Held → Held → Held → Held → ℕ → Type 0
 Explores takes_out takes_err name job out out' err err' status =
     (ended : Result ℕ CommandError) × IfSome job (λ j. RanOn takes_out out out' j ended)

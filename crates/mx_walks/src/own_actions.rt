@@ -106,7 +106,7 @@ fn gapless_to(journal: &Journal) -> u64
     journal.gapless_to()
 }
 
-/// Returns what an idle node does, if anything: it asks, wants the records of another, or settles
+/// Returns what an idle node does, if anything: it asks, wants the records of a node, or settles
 /// its journal up to section `gapless`.
 fn be_idle(words: &mut Pcg32, nodes: u8, node: NodeId, gapless: u64) -> Option<Event>
     requires { (0 < nodes) × (nodes ≤ MAX_NODES) }
@@ -154,7 +154,7 @@ fn wait(words: &mut Pcg32, node: NodeId, may_enter: bool, is_calm: bool) -> Opti
     }
 }
 
-/// Returns what a node inside does: it reads, writes, wants the records of another, or leaves.
+/// Returns what a node inside does: it reads, writes, wants the records of a node, or leaves.
 fn be_inside(words: &mut Pcg32, nodes: u8, registers: u8, node: NodeId) -> Option<Event>
     requires nodes { (0 < nodes) × (nodes ≤ MAX_NODES) }
     requires registers { 0 < registers }

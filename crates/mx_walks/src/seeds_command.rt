@@ -51,7 +51,8 @@ fn refuse_words<E: Output>(why: &str, err: &mut E) -> u8
     2
 }
 
-/// Explores the seeds that the request names, or reports that it names none. Returns the status.
+/// Explores the seeds that the request names, or reports that its text is no range of at most
+/// 1,000,000 seeds. Returns the status.
 fn run_request<S: Source, O: Output, E: Output>(
     alloc: Global,
     request: &SeedsRequest<'_>,

@@ -48,7 +48,8 @@ fn from_matches<'a>(matches: &ArgMatches<'a>) -> Option<SeedsRequest<'a>>
     }
 }
 
-/// Returns the request that the arguments of `explore` give, if it is whole.
+/// Returns the request that the arguments of `explore` give. Returns `None` if one is missing, or
+/// for options of a walk without `--walk`.
 fn seeds_in<'a>(matches: &ArgMatches<'a>) -> Option<SeedsRequest<'a>>
     ensures { option_map request_of result ≡ seeds_in (rows_of (found_of matches.now)) }
 {

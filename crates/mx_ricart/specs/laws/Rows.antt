@@ -28,7 +28,7 @@ pub sent_reply : (o : Option Stamp) (top : ℕ) (m : RicartMsg) → reply_to o t
 sent_reply None top m h = absurd (none_is_no_some m h)
 sent_reply (Some d) top m h = (d, refl, sym (same_Some (Reply d top) m h))
 
--- an idle node that defers no reply is as it should be
+-- an idle node that defers no reply is as it should be, if its name, count, `mine` and `top` are
 pub idle_ok : (w : World Node RicartMsg) (i : ℕ) (s : Node) → s.phase ≡ Idle → s.deferred
     ≡ replicate 21 None → s.me ≡ i → s.count ≡ length w.nodes → s.mine ≤ s.top → IsReached w s.top
     → IsNodeOk w i s
