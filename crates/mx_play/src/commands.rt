@@ -6,16 +6,13 @@ ghost use Rattle.mx_format.specs.LetterTexts.{letter_text};
 ghost use Rattle.mx_play.specs.Commands.{IsSecondWord, IsOverPlan, second_of};
 ghost use Rattle.mx_play.specs.Sessions.{IsSession};
 ghost use Rattle.mx_play.specs.Turns.{HasDone, HasExecuted};
-ghost use Rattle.mx_play.specs.Views.{mark_line, view_text};
-ghost use Rattle.mx_scripts.specs.Files.{file_text};
-ghost use Rattle.mx_scripts.specs.Played.{events_of};
+ghost use Rattle.mx_play.specs.Views.{mark_line};
 ghost use Rattle.mx_lines.specs.Names.{texts_of};
 ghost use Rattle.mx_scripts.specs.Scripts.{IsOver};
 
 use crate::faults::InputFault;
 use crate::help::add_words;
 use crate::interpreter::repeat;
-use crate::run_texts::add_events;
 use crate::session::{Session, Setting};
 use crate::undo::{event_count, redo_lines, truncate, undo_lines};
 use crate::views::show;
@@ -23,8 +20,7 @@ use mx_format::Letter;
 use mx_knowledge::Knowledge;
 use mx_lines::{Line, SessionCommand, words_in};
 use mx_nodelaws::Exclusion;
-use mx_scripts::LineFailure;
-use mx_stamps::NodeId;
+use mx_scripts::{LineFailure, add_file};
 use std::alloc::{AllocError, Global};
 use std::str;
 
@@ -53,11 +49,11 @@ where
         SessionCommand::Undo(count) => undo_lines(setting, *count, session),
         SessionCommand::Redo => redo_lines(setting, session),
         SessionCommand::Show(to) => {
-            show_session(setting, to, session, text)?;
+            show(setting, to, &session.state, text)?;
             Ok(None)
         }
         SessionCommand::Events => {
-            list_session(setting, session, text)?;
+            add_file(setting.plan, session.state.cluster().trace(), text)?;
             Ok(None)
         }
         SessionCommand::Mark => {
@@ -117,36 +113,6 @@ fn commit<C: Exclusion>(before: usize, session: &mut Session<C>) -> Result<(), A
     session.marks.push(before)?;
     session.undone.clear();
     Ok(())
-}
-
-/// Appends what `show` prints of the node `to`, or of all nodes.
-fn show_session<C: Exclusion + Knowledge>(
-    setting: &Setting<'_, C>,
-    to: &Option<NodeId>,
-    session: &Session<C>,
-    text: &mut String,
-) -> Result<(), AllocError>
-where
-    C::Msg: Letter,
-    requires members { length session.now.state.cluster.members
-        ≡ length setting.now.plan.now.nodes }
-    ensures { OnOk result (string_bytes text.new ≡ string_bytes text.old
-        ++ view_text C.core (letter_text C.Msg.parts) setting.now.plan.now C.knows to.now
-        session.now.state) }
-{
-    show(setting, to, &session.state, text)
-}
-
-/// Appends the events so far, as a file for `replay`.
-fn list_session<C: Exclusion>(
-    setting: &Setting<'_, C>,
-    session: &Session<C>,
-    text: &mut String,
-) -> Result<(), AllocError>
-    ensures { OnOk result (string_bytes text.new ≡ string_bytes text.old
-        ++ file_text setting.now.plan.now (events_of session.now.state.cluster.trace)) }
-{
-    add_events(setting.plan, &session.state, text)
 }
 
 /// Appends what `mark` prints: `mark` and the word.

@@ -4,7 +4,7 @@ ghost use Rattle.std.specs.Prelude.{◌≡◌, ◌++◌, List, length, string_by
 ghost use Rattle.mx_format.specs.LetterTexts.{letter_text};
 ghost use Rattle.mx_scripts.specs.Lines.{Performs, Repeats};
 ghost use Rattle.mx_scripts.specs.States.{Brings, IsAllowed};
-ghost use Rattle.mx_scripts.specs.declared.session_event.SessionEvent.{SessionEvent};
+ghost use Rattle.mx_scripts.specs.declared.state.SessionEvent.{SessionEvent};
 ghost use Rattle.mx_play.specs.Histories.{new_text};
 ghost use Rattle.mx_play.specs.Sessions.{Adds, AddsOne, Extends};
 

@@ -1,7 +1,6 @@
 //! A session: a cluster, and what lines have done to it.
 
 ghost use Rattle.std.specs.Prelude.{◌≡◌, IfOk};
-ghost use Rattle.mx_play.specs.Histories.{first_state};
 ghost use Rattle.mx_play.specs.Sessions.{at_start};
 
 use crate::undo::Undone;
@@ -44,14 +43,6 @@ impl<C: Exclusion> Model for Session<C> {
     } };
 }
 
-/// Creates the cluster of the plan, at rest, before any parcel was sent.
-pub(crate) fn first_state<C: Exclusion>(setting: &Setting<'_, C>) -> Result<State<C>, AllocError>
-    ensures { IfOk result (λ state.
-        state ≡ first_state C.core setting.now.plan.now setting.now.shape.now) }
-{
-    State::start(setting.alloc, setting.plan, setting.shape)
-}
-
 /// Creates the session, before any line.
 pub(crate) fn first_session<C: Exclusion>(
     setting: &Setting<'_, C>,
@@ -60,7 +51,7 @@ pub(crate) fn first_session<C: Exclusion>(
         session ≡ at_start C.core setting.now.plan.now setting.now.shape.now) }
 {
     Ok(Session {
-        state: first_state(setting)?,
+        state: State::start(setting.alloc, setting.plan, setting.shape)?,
         done: Vec::new(setting.alloc),
         marks: Vec::new(setting.alloc),
         undone: Vec::new(setting.alloc),

@@ -4,7 +4,7 @@ ghost use Rattle.std.specs.Prelude.{◌≡◌, true, IfOk, option_map};
 ghost use Rattle.mx_cli.specs.Reading.{is_dash};
 ghost use Rattle.mx_play.specs.PlayWords.{request_of};
 ghost use Rattle.mx_play.specs.Lines.{AreLeft, session_lines};
-ghost use Rattle.mx_play.specs.Played.{IsLinePlan, IsPlanNamed, IsScriptOf, told_of_name, told_of_script};
+ghost use Rattle.mx_play.specs.Played.{IsLinePlan, IsPlanNamed, IsScriptOf, told_of_script};
 
 use crate::lines::{LineRead, Lines};
 use crate::words::Request;
@@ -68,7 +68,8 @@ fn first_plan<L: Lines>(alloc: Global, lines: &mut L) -> Result<Plan, CommandErr
     }
 }
 
-/// Returns the bytes of the script, or none if no script is named.
+/// Returns the bytes of the script. There are none if no script is named, or if it is `-`, standard
+/// input, since its lines are read later.
 fn script_of<S: Source>(
     alloc: Global,
     name: Option<&str>,
@@ -77,27 +78,13 @@ fn script_of<S: Source>(
     ensures { IfOk result (λ text. IsScriptOf (told_of_script (S.told source.old)
         (option_map (λ name. name.now) name.entry)) text.items) }
 {
-    match name {
-        Some(name) => named_script(alloc, name, source),
-        None => Ok(Vec::new(alloc)),
-    }
-}
-
-/// Returns the bytes of the script of this name. For `-`, standard input, there are none, since its
-/// lines are read later.
-fn named_script<S: Source>(
-    alloc: Global,
-    name: &str,
-    source: &mut S,
-) -> Result<Vec<u8>, CommandError>
-    ensures { IfOk result (λ text.
-        IsScriptOf (told_of_name (S.told source.old) name.now) text.items) }
-{
+    let Some(name) = name else {
+        return Ok(Vec::new(alloc));
+    };
     if is_dash(name) {
-        Ok(Vec::new(alloc))
-    } else {
-        fetch(alloc, source, name, Named::Events)
+        return Ok(Vec::new(alloc));
     }
+    fetch(alloc, source, name, Named::Events)
 }
 
 /// Whether a name is `-`, which stands for standard input.

@@ -1,6 +1,6 @@
 //! A run of a session: its lines are read, executed and printed, one after another.
 
-ghost use Rattle.std.specs.Prelude.{◌≡◌, ◌++◌, [], false, length, string_bytes, IfOk, OnOk};
+ghost use Rattle.std.specs.Prelude.{◌≡◌, [], false, length, string_bytes, IfOk, OnOk};
 ghost use Rattle.std.specs.Io.KnownBytes.{Appends};
 ghost use Rattle.std.specs.Option.{is_some};
 ghost use Rattle.mx_format.specs.LetterTexts.{letter_text};
@@ -13,9 +13,9 @@ use crate::commands::execute;
 use crate::faults::{InputFault, InputFaultLine};
 use crate::input::{Input, greet, is_end, read_input};
 use crate::lines::{Lines, Listed};
-use crate::run_texts::add_end;
 use crate::session::{Session, Setting};
 use mx_cli::{CommandError, Fault, Named, write_line};
+use mx_commands::{add_closing, verdict_status};
 use mx_format::Letter;
 use mx_io::Output;
 use mx_knowledge::Knowledge;
@@ -231,25 +231,7 @@ where
     ensures zero { IfOk result (λ status. status ≡ 0) }
 {
     let mut text = String::new(setting.alloc);
-    let status = end_session(setting, session, &mut text)?;
+    let verdict = add_closing(setting.plan, session.state.cluster(), &mut text)?;
     out.put(text.as_bytes())?;
-    Ok(status)
-}
-
-/// Appends the closing lines and the verdict. Returns the status.
-fn end_session<C: Exclusion>(
-    setting: &Setting<'_, C>,
-    session: &Session<C>,
-    text: &mut String,
-) -> Result<u8, AllocError>
-where
-    C::Msg: Letter,
-    requires members { length session.now.state.cluster.members
-        ≡ length setting.now.plan.now.nodes }
-    ensures text { OnOk result (string_bytes text.new ≡ string_bytes text.old
-        ++ closing_text C.core (letter_text C.Msg.parts) setting.now.plan.now
-        session.now.state.cluster) }
-    ensures zero { IfOk result (λ status. status ≡ 0) }
-{
-    add_end(setting.plan, &session.state, text)
+    Ok(verdict_status(verdict))
 }

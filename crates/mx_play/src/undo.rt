@@ -1,13 +1,12 @@
 //! Undoes and redoes lines of a session.
 
 ghost use Rattle.std.specs.Prelude.{◌≡◌, ◌∷◌, ◌++◌, [], IfNone, IfOk, IfSome, OnOk, drop, length, slice_index_or, take};
-ghost use Rattle.mx_format.specs.LetterTexts.{letter_text};
 ghost use Rattle.mx_play.specs.Histories.{CanLead, Leads, first_state};
 ghost use Rattle.mx_play.specs.Sessions.{IsSession};
 ghost use Rattle.mx_play.specs.Turns.{HasRedone, HasUndone};
 
 use crate::faults::InputFault;
-use crate::session::{Session, Setting, first_state};
+use crate::session::{Session, Setting};
 use mx_format::Letter;
 use mx_knowledge::Knowledge;
 use mx_nodelaws::Exclusion;
@@ -126,27 +125,9 @@ pub(crate) fn truncate<C: Exclusion>(
     ensures marks { session.new.marks ≡ session.old.marks }
     ensures undone { session.new.undone ≡ session.old.undone }
 {
-    go_back(setting, count, &mut session.state, &mut session.done)
-}
-
-/// Drops all but the first `count` events, and applies these again from the start.
-fn go_back<C: Exclusion>(
-    setting: &Setting<'_, C>,
-    count: usize,
-    state: &mut State<C>,
-    done: &mut Vec<SessionEvent>,
-) -> Result<(), AllocError>
-    requires leads { CanLead C.core
-        (first_state C.core setting.now.plan.now setting.now.shape.now)
-        (take count done.old.items) }
-    ensures leads { OnOk result (Leads C.core
-        (first_state C.core setting.now.plan.now setting.now.shape.now)
-        (take count done.old.items) state.new) }
-    ensures done { done.new.items ≡ take count done.old.items }
-{
-    done.truncate(count);
-    *state = first_state(setting)?;
-    reapply_all(done.as_slice(), state)
+    session.done.truncate(count);
+    session.state = State::start(setting.alloc, setting.plan, setting.shape)?;
+    reapply_all(session.done.as_slice(), &mut session.state)
 }
 
 /// Applies these events in order. All of them have happened before, from the same state.
@@ -213,12 +194,9 @@ fn events_before<C: Exclusion>(session: &Session<C>, line: usize) -> usize
     ensures { result
         ≡ slice_index_or session.now.marks line (length session.now.done) }
 {
-    mark_at(session.marks.as_slice(), line, event_count(session))
-}
-
-/// Returns the mark of this line, or `all` if there is none.
-fn mark_at(marks: &[usize], line: usize, all: usize) -> usize
-    ensures { result ≡ slice_index_or marks.now line all }
-{
-    if line < marks.len() { marks[line] } else { all }
+    if line < session.marks.len() {
+        session.marks[line]
+    } else {
+        session.done.len()
+    }
 }

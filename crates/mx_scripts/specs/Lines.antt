@@ -23,8 +23,8 @@ use Rattle.mx_scripts.specs.States.{Bars, Brings, IsAllowed, IsNotApplied, RunSt
 use Rattle.mx_scripts.specs.declared.script_error.LineFailure.{LineFailure}
 use Rattle.mx_scripts.specs.declared.script_error.LineFailure.TheVariants as failure
 use Rattle.mx_scripts.specs.declared.script_error.ScriptError.{ScriptError}
-use Rattle.mx_scripts.specs.declared.session_event.SessionEvent.{SessionEvent}
-use Rattle.mx_scripts.specs.declared.session_event.SessionEvent.TheVariants.{Happens, IsLost, LinksChange}
+use Rattle.mx_scripts.specs.declared.state.SessionEvent.{SessionEvent}
+use Rattle.mx_scripts.specs.declared.state.SessionEvent.TheVariants.{Happens, IsLost, LinksChange}
 
 -- the delivery of a parcel
 abbrev pub arrival : ℕ → SessionEvent

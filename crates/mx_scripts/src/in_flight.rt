@@ -1,6 +1,6 @@
 //! Which parcels are under way, and which links are cut.
 
-ghost use Rattle.std.specs.Prelude.{◌≡◌, ◌≤◌, ℕ, false, IfNone, IfSome, None, OnOk, slice_get, slice_index_or};
+ghost use Rattle.std.specs.Prelude.{◌≡◌, ℕ, false, IfNone, IfSome, None, OnOk, slice_get, slice_index_or};
 ghost use Rattle.mx_scripts.specs.Fates.{IsOldest, arrived, at_first, can_arrive, can_pass, delivered, is_held, is_in, is_under_way, is_waiting, is_wanted, is_within, lost, noted, relinked};
 ghost use Rattle.mx_scripts.specs.Links.{is_cut, link_of};
 
@@ -62,7 +62,7 @@ fn is_within(scope: &Scope, from: NodeId, to: NodeId) -> bool
 
 impl InFlight {
     /// Creates an `InFlight` before any parcel was sent. No link is cut.
-    pub fn new(alloc: Global) -> InFlight
+    pub(crate) fn new(alloc: Global) -> InFlight
         ensures { result ≡ at_first }
     {
         InFlight {
@@ -73,7 +73,7 @@ impl InFlight {
     }
 
     /// Notes which parcels an event sent and delivered. `cluster` is the cluster after the event.
-    pub fn note<C: Exclusion>(
+    pub(crate) fn note<C: Exclusion>(
         &mut self,
         event: &Event,
         cluster: &Cluster<C>,
@@ -105,21 +105,21 @@ impl InFlight {
     }
 
     /// Notes that the parcel of this number is under way no more.
-    pub fn lose(&mut self, number: u64)
+    pub(crate) fn lose(&mut self, number: u64)
         ensures { self.new ≡ lost number self.old }
     {
         self.under_way.lose(number);
     }
 
     /// Whether the parcel of this number was sent, and neither delivered nor lost.
-    pub fn is_under_way(&self, number: u64) -> bool
+    pub(crate) fn is_under_way(&self, number: u64) -> bool
         ensures { result ≡ is_under_way self.now number }
     {
         self.under_way.is_under_way(number)
     }
 
     /// Cuts the links that `change` names, or heals all.
-    pub fn change(&mut self, change: &LinkChange)
+    pub(crate) fn change(&mut self, change: &LinkChange)
         ensures { self.new ≡ relinked change.now self.old }
     {
         self.links.change(change);
@@ -133,7 +133,7 @@ impl InFlight {
     }
 
     /// Returns `false` only for the delivery of a parcel over a cut link.
-    pub fn can_pass<C: Exclusion>(&self, event: &Event, cluster: &Cluster<C>) -> bool
+    pub(crate) fn can_pass<C: Exclusion>(&self, event: &Event, cluster: &Cluster<C>) -> bool
         ensures { result ≡ can_pass self.now cluster.now.sent event.now }
     {
         match event {
@@ -153,7 +153,7 @@ impl InFlight {
     }
 
     /// Whether a parcel is under way, and in this scope.
-    pub fn is_waiting<C: Exclusion>(&self, cluster: &Cluster<C>, scope: &Scope, number: u64) -> bool
+    fn is_waiting<C: Exclusion>(&self, cluster: &Cluster<C>, scope: &Scope, number: u64) -> bool
         ensures { result ≡ is_waiting self.now cluster.now.sent scope.now number }
     {
         self.is_under_way(number) && is_in(cluster, scope, number)
@@ -207,7 +207,7 @@ impl InFlight {
     }
 
     /// Returns the parcel that was delivered last from one node to another, if one was.
-    pub fn last_between(&self, from: NodeId, to: NodeId) -> Option<u64>
+    pub(crate) fn last_between(&self, from: NodeId, to: NodeId) -> Option<u64>
         ensures { result ≡ slice_index_or self.now.last (link_of from to) None }
     {
         self.last[link(from, to)]

@@ -7,8 +7,7 @@ ghost use Rattle.mx_scripts.specs.Links.{link_of};
 ghost use Rattle.mx_scripts.specs.States.{Admits, Bars, IsAllowed};
 
 use crate::in_flight::Wanted;
-use crate::session_event::SessionEvent;
-use crate::state::State;
+use crate::state::{SessionEvent, State};
 use mx_lines::{LineFault, Order, Scope};
 use mx_network::Event;
 use mx_nodelaws::Exclusion;
@@ -204,7 +203,7 @@ impl<C: Exclusion> State<C> {
         if self.cluster.trace().len() >= MAX_EVENTS {
             return Err(LineFault::TooMany);
         }
-        if !self.can_pass(event) {
+        if !self.in_flight.can_pass(event, &self.cluster) {
             return Err(LineFault::LinkCut);
         }
         Ok(())

@@ -1,8 +1,7 @@
 //! Recorders, which are told of each event of a script.
 
 use crate::script_error::RefusedLine;
-use crate::session_event::SessionEvent;
-use crate::state::State;
+use crate::state::{SessionEvent, State};
 use mx_nodelaws::Exclusion;
 use mx_plan::Plan;
 use std::alloc::AllocError;
@@ -34,7 +33,7 @@ pub trait Recorder<R> {
 
 /// A recorder that notes nothing.
 #[derive(Clone, Copy)]
-pub struct NoRecorder;
+pub(crate) struct NoRecorder;
 
 impl<C: Exclusion> Recorder<State<C>> for NoRecorder {
     fn event(

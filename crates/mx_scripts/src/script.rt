@@ -2,20 +2,17 @@
 
 ghost use Rattle.std.specs.Prelude.{◌≡◌, ◌⊎◌, ℕ, List, [], string_bytes, IfErr, IfOk, OnOk};
 ghost use Rattle.std.specs.Str.Lines.{lines};
-ghost use Rattle.mx_scripts.specs.Files.{file_text};
 ghost use Rattle.mx_scripts.specs.Lines.{Does, DoesAll, DoesText, IsNotDone, Misreads, Performs, Reads, StopsAfter, StopsBy, StopsWithin};
-ghost use Rattle.mx_scripts.specs.Played.{events_of};
 ghost use Rattle.mx_scripts.specs.ScriptFiles.{IsFileOfScript, IsScriptFile, IsShort, StopsFrom, StopsInPlan};
 ghost use Rattle.mx_scripts.specs.Scripts.{IsErrorAt};
 ghost use Rattle.mx_scripts.specs.States.{Brings, IsAllowed, IsNotApplied, before_any};
 ghost use Rattle.mx_scripts.specs.declared.script_error.LineFailure.{LineFailure};
-ghost use Rattle.mx_scripts.specs.declared.session_event.SessionEvent.{SessionEvent};
+ghost use Rattle.mx_scripts.specs.declared.state.SessionEvent.{SessionEvent};
 
 use crate::files::file_of;
 use crate::recorder::Recorder;
 use crate::script_error::{LineFailure, ScriptError};
-use crate::session_event::SessionEvent;
-use crate::state::State;
+use crate::state::{SessionEvent, State};
 use mx_cli::CommandError;
 use mx_commands::by_shape;
 use mx_lines::{Line, LineFault, Order, read_line, words_in};
@@ -61,25 +58,8 @@ fn file_of_script<C: Exclusion, K: Recorder<State<C>>>(
     ensures err { IfErr result (λ error. IsShort error
         ⊎ StopsFrom C.core plan.now state.old.cluster script.now error) }
 {
-    file_after(alloc, plan, script, state, recorder)
-}
-
-/// Does the lines of a script, and returns the file of all events so far.
-fn file_after<C: Exclusion, K: Recorder<State<C>>>(
-    alloc: Global,
-    plan: &Plan,
-    script: &str,
-    state: &mut State<C>,
-    recorder: &mut K,
-) -> Result<String, ScriptError>
-    ensures does { OnOk result (DoesAll C.core plan.now (lines script.now) state.old state.new) }
-    ensures file { IfOk result (λ text.
-        string_bytes text ≡ file_text plan.now (events_of state.new.cluster.trace)) }
-    ensures err { IfErr result (λ error. IsShort error
-        ⊎ StopsBy C.core plan.now (lines script.now) state.old error) }
-{
     do_script(alloc, plan, script, state, recorder)?;
-    let text = file_of(alloc, plan, state.trace())?;
+    let text = file_of(alloc, plan, state.cluster().trace())?;
     Ok(text)
 }
 

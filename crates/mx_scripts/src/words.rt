@@ -11,8 +11,8 @@ use mx_walks::{Conditions, conditions_in};
 use std::alloc::Global;
 
 /// The file of events that a command line asks for.
-#[derive(Clone, Copy, Debug, PartialEq, Eq)]
-pub enum Request<'a> {
+#[derive(Clone, Copy)]
+pub(crate) enum Request<'a> {
     /// The events of `explore`.
     Draw(Exploration<'a>),
     /// The events of a walk, with how parcels are lost, repeated and kept in order.
