@@ -24,8 +24,6 @@ use mx_scripts::{LineFailure, add_file};
 use std::alloc::{AllocError, Global};
 use std::str;
 
-/// Executes the command of `line`, and appends what it prints. If that can't be done, returns why;
-/// then the session is as before, and nothing is printed.
 pub(crate) fn execute<C: Exclusion + Knowledge>(
     setting: &Setting<'_, C>,
     command: &SessionCommand,
@@ -68,8 +66,6 @@ where
     }
 }
 
-/// Does a line of a script, and appends the lines of its events. If a part of it fails, returns
-/// why; then nothing changes.
 fn do_line<C: Exclusion>(
     setting: &Setting<'_, C>,
     line: &Line,
@@ -102,8 +98,6 @@ where
     }
 }
 
-/// Notes that a line is done and can be undone, and drops what could be redone. `before` is how
-/// many events came before the line.
 fn commit<C: Exclusion>(before: usize, session: &mut Session<C>) -> Result<(), AllocError>
     ensures state { session.new.state ≡ session.old.state }
     ensures done { session.new.done ≡ session.old.done }
@@ -115,7 +109,6 @@ fn commit<C: Exclusion>(before: usize, session: &mut Session<C>) -> Result<(), A
     Ok(())
 }
 
-/// Appends what `mark` prints: `mark` and the word.
 fn add_mark(word: &str, text: &mut String) -> Result<(), AllocError>
     ensures { OnOk result (string_bytes text.new ≡ string_bytes text.old ++ mark_line word.now) }
 {
@@ -134,7 +127,6 @@ fn second_word(alloc: Global, line: &[u8]) -> Result<&str, AllocError>
     }
 }
 
-/// Returns the second word of a text, or `""` if it has fewer words.
 fn second_in(alloc: Global, text: &str) -> Result<&str, AllocError>
     ensures { IfOk result (λ word. IsSecondWord text.now word.now) }
 {
@@ -142,7 +134,6 @@ fn second_in(alloc: Global, text: &str) -> Result<&str, AllocError>
     Ok(second_of(words.as_slice()))
 }
 
-/// Returns the second of these words, or `""` if there are fewer.
 fn second_of<'a>(words: &[&'a str]) -> &'a str
     ensures { result.now ≡ second_of (texts_of words.now) }
 {

@@ -6,10 +6,8 @@ use mx_scripts::{LineFailure, message_of};
 use std::alloc::{AllocError, Global};
 use std::{fmt, str};
 
-/// Why a line of a session does nothing.
 #[derive(Clone, Copy)]
 pub(crate) enum InputFault {
-    /// It is not in UTF-8.
     NotText,
     /// One of its words is wrong, or what it asks for can't be done.
     Line(LineFailure),
@@ -17,7 +15,6 @@ pub(crate) enum InputFault {
     TooLong,
     /// `undo` asks for more lines than were done: only this many were.
     TooFew(usize),
-    /// `redo` finds nothing undone that can be redone.
     NoUndo,
 }
 
@@ -43,8 +40,6 @@ pub(crate) struct InputFaultLine {
 }
 
 impl InputFaultLine {
-    /// Creates the report of a fault in line `number`, with the bytes `line`, of a session over
-    /// this plan.
     pub(crate) fn of(
         alloc: Global,
         plan: &Plan,
@@ -67,8 +62,6 @@ impl fmt::Display for InputFaultLine {
     }
 }
 
-/// Returns a colon and a message about the line, if its fault is `InputFault::Line`: a word is
-/// wrong, or a script line can't be done. Returns an empty text for other faults.
 fn message_about(
     alloc: Global,
     plan: &Plan,

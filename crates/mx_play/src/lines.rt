@@ -1,5 +1,3 @@
-//! Where the lines of a session come from.
-
 ghost use Rattle.std.specs.Prelude.{List, Option, Some, None, ℕ, IfOk, IfSome};
 ghost use Rattle.std.specs.Str.Lines.{lines};
 ghost use Rattle.mx_play.specs.Lines.{ReadsNext, lines_of};
@@ -37,7 +35,6 @@ pub trait Lines {
     fn are_typed(&self) -> bool;
 }
 
-/// The lines of a text that are still to be read.
 #[derive(Clone, Copy)]
 pub(crate) struct Listed<'a> {
     pub(crate) rest: &'a [u8],

@@ -10,7 +10,6 @@ use mx_scripts::{SessionEvent, State};
 use std::alloc::{AllocError, Global};
 use std::marker::Model;
 
-/// The plan of a session, and the shape of its cluster.
 #[derive(Clone, Copy)]
 pub(crate) struct Setting<'a, C: Exclusion> {
     pub(crate) alloc: Global,
@@ -18,7 +17,6 @@ pub(crate) struct Setting<'a, C: Exclusion> {
     pub(crate) shape: &'a C::Shape,
 }
 
-/// A session: its cluster and parcels as they are now, what has happened, and what can be redone.
 #[derive(Drop)]
 pub(crate) struct Session<C: Exclusion> {
     pub(crate) state: State<C>,
@@ -43,7 +41,6 @@ impl<C: Exclusion> Model for Session<C> {
     } };
 }
 
-/// Creates the session, before any line.
 pub(crate) fn first_session<C: Exclusion>(
     setting: &Setting<'_, C>,
 ) -> Result<Session<C>, AllocError>

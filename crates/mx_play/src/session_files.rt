@@ -13,7 +13,6 @@ use mx_io::Source;
 use mx_plan::Plan;
 use std::alloc::Global;
 
-/// Reads the plan, and the script if one is named.
 pub(crate) fn fetch_start<S: Source, L: Lines>(
     alloc: Global,
     request: &Request<'_>,
@@ -33,8 +32,6 @@ pub(crate) fn fetch_start<S: Source, L: Lines>(
     Ok(PlanAndText { plan, text })
 }
 
-/// Reads the plan of this name. If the name is `-`, standard input, the plan is the next of
-/// `lines`.
 fn plan_of<S: Source, L: Lines>(
     alloc: Global,
     name: &str,
@@ -53,7 +50,6 @@ fn plan_of<S: Source, L: Lines>(
     }
 }
 
-/// Reads the plan that stands in the next line.
 fn first_plan<L: Lines>(alloc: Global, lines: &mut L) -> Result<Plan, CommandError>
     ensures plan { IfOk result (IsLinePlan (L.rest lines.old)) }
     ensures left { IfOk result (λ _.
@@ -87,7 +83,6 @@ fn script_of<S: Source>(
     fetch(alloc, source, name, Named::Events)
 }
 
-/// Whether a name is `-`, which stands for standard input.
 fn is_dash(name: &str) -> bool
     ensures { result ≡ is_dash name.now }
 {

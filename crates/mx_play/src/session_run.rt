@@ -22,8 +22,6 @@ use mx_knowledge::Knowledge;
 use mx_nodelaws::Exclusion;
 use std::alloc::AllocError;
 
-/// Runs the lines of a script and then `lines`, until one ends the session or none is left; then
-/// prints the closing lines. Returns the status.
 pub(crate) fn run_session<C: Exclusion + Knowledge, L: Lines, O: Output, E: Output>(
     setting: &Setting<'_, C>,
     script: &[u8],
@@ -48,7 +46,6 @@ where
     finish(setting, session, out)
 }
 
-/// Runs `lines`, numbered from `next` on. Does nothing if `next` is `None`: the session has ended.
 fn run_rest<C: Exclusion + Knowledge, L: Lines, O: Output, E: Output>(
     setting: &Setting<'_, C>,
     next: Option<u64>,
@@ -76,8 +73,6 @@ where
     }
 }
 
-/// Runs lines, numbered from `first`, until there are no more, or one ends the session. Returns the
-/// number of the next line if the session goes on.
 fn run_lines<C: Exclusion + Knowledge, L: Lines, O: Output, E: Output>(
     setting: &Setting<'_, C>,
     first: u64,
@@ -109,8 +104,6 @@ where
     Err(CommandError::Fault(Fault::CannotRead(Named::Events)))
 }
 
-/// Executes what line `number` asks for, prints the result, and reports what is wrong with the
-/// line, if something is.
 fn turn<C: Exclusion + Knowledge, O: Output, E: Output>(
     setting: &Setting<'_, C>,
     number: u64,
@@ -135,8 +128,6 @@ where
     report(setting, number, &fault, line, err)
 }
 
-/// Executes what a line asks for, then prints and flushes the result. Returns the fault of the
-/// line, if it has one.
 fn execute_and_print<C: Exclusion + Knowledge, O: Output>(
     setting: &Setting<'_, C>,
     input: &Input,
@@ -161,8 +152,6 @@ where
     Ok(fault)
 }
 
-/// Executes what a line asks for, and appends what it prints. Returns the fault of the line, if it
-/// has one.
 fn execute_input<C: Exclusion + Knowledge>(
     setting: &Setting<'_, C>,
     input: &Input,
@@ -188,7 +177,6 @@ where
     }
 }
 
-/// Prints a text, and flushes the output.
 fn print<O: Output>(text: &str, out: &mut O) -> Result<(), CommandError>
     ensures printed { OnOk result (Appends (O.written out.old) (O.written out.new) text.now) }
     ensures passed { OnOk result (O.keeps_back out.new ≡ false) }
@@ -198,7 +186,6 @@ fn print<O: Output>(text: &str, out: &mut O) -> Result<(), CommandError>
     Ok(())
 }
 
-/// Reports what is wrong with the line of this number, if something is.
 fn report<C: Exclusion, E: Output>(
     setting: &Setting<'_, C>,
     number: u64,
@@ -215,7 +202,6 @@ fn report<C: Exclusion, E: Output>(
     Ok(())
 }
 
-/// Prints the closing lines and the verdict. Returns the status.
 fn finish<C: Exclusion, O: Output>(
     setting: &Setting<'_, C>,
     session: &Session<C>,

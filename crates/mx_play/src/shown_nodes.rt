@@ -14,7 +14,6 @@ use mx_nodelaws::Exclusion;
 use mx_stamps::{MAX_NODES, NodeId};
 use std::alloc::AllocError;
 
-/// Appends the lines of the node `to`, or of all nodes if `to` is `None`.
 pub(crate) fn add_standing<C: Exclusion + Knowledge>(
     setting: &Setting<'_, C>,
     to: &Option<NodeId>,
@@ -31,7 +30,6 @@ pub(crate) fn add_standing<C: Exclusion + Knowledge>(
     }
 }
 
-/// Appends the lines of each node.
 fn add_each<C: Exclusion + Knowledge>(
     setting: &Setting<'_, C>,
     cluster: &Cluster<C>,
@@ -47,7 +45,6 @@ fn add_each<C: Exclusion + Knowledge>(
     Ok(())
 }
 
-/// Appends the lines of the node of this index.
 fn add_member<C: Exclusion + Knowledge>(
     setting: &Setting<'_, C>,
     cluster: &Cluster<C>,
@@ -70,7 +67,6 @@ fn add_member<C: Exclusion + Knowledge>(
     }
 }
 
-/// Appends the line of a node, and the line of what it knows.
 fn add_shown<C: Exclusion + Knowledge>(
     setting: &Setting<'_, C>,
     node: NodeId,
@@ -84,7 +80,6 @@ fn add_shown<C: Exclusion + Knowledge>(
     add_known(setting, member, text)
 }
 
-/// Appends the line of what a node knows.
 fn add_known<C: Exclusion + Knowledge>(
     setting: &Setting<'_, C>,
     member: &Member<C>,
@@ -97,7 +92,6 @@ fn add_known<C: Exclusion + Knowledge>(
     add_facts_line(setting.plan, &facts, text)
 }
 
-/// Appends the lines of one node.
 fn add_one<C: Exclusion + Knowledge>(
     setting: &Setting<'_, C>,
     node: NodeId,

@@ -22,8 +22,6 @@ pub(crate) struct Undone {
     pub(crate) marks: Vec<usize>,
 }
 
-/// Undoes the last `count` lines that were done. If there are fewer, changes nothing, and returns
-/// the fault.
 pub(crate) fn undo_lines<C: Exclusion>(
     setting: &Setting<'_, C>,
     count: u64,
@@ -47,7 +45,6 @@ pub(crate) fn undo_lines<C: Exclusion>(
     Ok(None)
 }
 
-/// Keeps the marks of the first `left` lines, and stores what was undone for `redo`.
 fn keep_undone<C: Exclusion>(
     left: usize,
     undone: Undone,
@@ -63,7 +60,6 @@ fn keep_undone<C: Exclusion>(
     Ok(())
 }
 
-/// Redoes what was undone last. If nothing was undone, changes nothing, and returns the fault.
 pub(crate) fn redo_lines<C: Exclusion>(
     setting: &Setting<'_, C>,
     session: &mut Session<C>,
@@ -82,7 +78,6 @@ pub(crate) fn redo_lines<C: Exclusion>(
     }
 }
 
-/// Removes and returns what was undone last.
 fn pop_undone<C: Exclusion>(session: &mut Session<C>) -> Option<Undone>
     ensures state { session.new.state ≡ session.old.state }
     ensures done { session.new.done ≡ session.old.done }
@@ -94,7 +89,6 @@ fn pop_undone<C: Exclusion>(session: &mut Session<C>) -> Option<Undone>
     session.undone.pop()
 }
 
-/// Does again what was undone.
 fn redo<C: Exclusion>(undone: &Undone, session: &mut Session<C>) -> Result<(), AllocError>
     requires leads { CanLead C.core session.old.state undone.now.done.items }
     ensures leads { OnOk result
@@ -109,7 +103,6 @@ fn redo<C: Exclusion>(undone: &Undone, session: &mut Session<C>) -> Result<(), A
     Ok(())
 }
 
-/// Drops all that happened after the first `count` events.
 pub(crate) fn truncate<C: Exclusion>(
     setting: &Setting<'_, C>,
     count: usize,
@@ -130,7 +123,6 @@ pub(crate) fn truncate<C: Exclusion>(
     reapply_all(session.done.as_slice(), &mut session.state)
 }
 
-/// Applies these events in order. All of them have happened before, from the same state.
 fn reapply_all<C: Exclusion>(
     events: &[SessionEvent],
     state: &mut State<C>,
@@ -148,8 +140,6 @@ fn reapply_all<C: Exclusion>(
     Ok(())
 }
 
-/// Copies what happened after the first `events` events, and the marks after the first `marks`
-/// ones.
 fn tail_of<C: Exclusion>(
     alloc: Global,
     session: &Session<C>,
@@ -164,7 +154,6 @@ fn tail_of<C: Exclusion>(
     Ok(Undone { done, marks })
 }
 
-/// Copies the items of a list from `place` on.
 fn items_from<T: Copy>(alloc: Global, items: &[T], place: usize) -> Result<Vec<T>, AllocError>
     ensures { IfOk result (λ tail. tail.items ≡ drop place items.now) }
 {
@@ -174,7 +163,6 @@ fn items_from<T: Copy>(alloc: Global, items: &[T], place: usize) -> Result<Vec<T
     }
 }
 
-/// How many lines were done.
 fn line_count<C: Exclusion>(session: &Session<C>) -> usize
     ensures { result ≡ length session.now.marks }
 {
@@ -188,8 +176,6 @@ pub(crate) fn event_count<C: Exclusion>(session: &Session<C>) -> usize
     session.done.len()
 }
 
-/// Returns how many events came before this line, counted from 0; or how many there are, if there
-/// is no such line.
 fn events_before<C: Exclusion>(session: &Session<C>, line: usize) -> usize
     ensures { result
         ≡ slice_index_or session.now.marks line (length session.now.done) }

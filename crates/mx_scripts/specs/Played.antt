@@ -16,7 +16,6 @@ use Rattle.mx_explorer.specs.Drawn.{IsDrawn}
 use Rattle.mx_commands.specs.Runs.{at_rest}
 use Rattle.mx_scripts.specs.Files.{file_text}
 
--- the events of a trace, without their outcomes
 abbrev pub events_of : List Entry → List Event
 events_of = map (λ entry. entry.event)
 

@@ -23,12 +23,7 @@ For more information, try '--help'.
 ";
 
 /// Runs a command line whose first argument is `draw` or `script`, without the program's name, and
-/// prints a file of events. Returns the exit status:
-///
-/// - 0 on success, or if help was requested;
-/// - 1 for an error in a plan, a script, a file or an output;
-/// - 2 for wrong arguments;
-/// - 5 if memory ran out.
+/// prints a file of events. Returns the exit status.
 pub fn event_file<S: Source, O: Output, E: Output>(
     alloc: Global,
     words: &[&str],
@@ -57,7 +52,6 @@ pub fn event_file<S: Source, O: Output, E: Output>(
     }
 }
 
-/// Reports that an option of `draw` needs `--walk`. Returns the status.
 fn need_walk<E: Output>(err: &mut E) -> u8
     ensures { result ≡ 2 }
 {
@@ -65,7 +59,6 @@ fn need_walk<E: Output>(err: &mut E) -> u8
     2
 }
 
-/// Prints the file of events that is asked for, or reports why there is none. Returns the status.
 fn run_request<S: Source, O: Output, E: Output>(
     alloc: Global,
     request: &Request<'_>,

@@ -16,7 +16,6 @@ use mx_stamps::NodeId;
 use std::alloc::{AllocError, Global};
 use std::fmt;
 
-/// A word in quotes.
 #[derive(Clone, Copy)]
 struct Quoted<'a>(&'a str);
 
@@ -81,7 +80,6 @@ pub fn reads_back(plan: &Plan, events: &[Event])
         → events_at plan.now (file_text plan.now events.now) ≡ Ok events.now }
 {}
 
-/// The file of the events of a trace.
 pub(crate) fn file_of(alloc: Global, plan: &Plan, trace: &[Entry]) -> Result<String, AllocError>
     ensures { IfOk result (λ text.
         string_bytes text ≡ file_text plan.now (events_of trace.now)) }
@@ -108,7 +106,6 @@ pub fn add_file(plan: &Plan, trace: &[Entry], text: &mut String) -> Result<(), A
     text.push_str("\n]\n")
 }
 
-/// Appends the events after the first of a file, each on a line of its own.
 fn add_next(plan: &Plan, trace: &[Entry], text: &mut String) -> Result<(), AllocError>
     ensures { OnOk result (string_bytes text.new
         ≡ string_bytes text.old ++ each_text (λ entry. next_text plan.now entry.event) trace.now) }

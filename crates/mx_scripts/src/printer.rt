@@ -20,7 +20,6 @@ use mx_io::{Output, Source};
 use mx_walks::Conditions;
 use std::alloc::Global;
 
-/// Prints the events of `explore` as a file for `replay`, or reports why not. Returns the status.
 pub(crate) fn run_draw<S: Source, O: Output, E: Output>(
     alloc: Global,
     exploration: &Exploration<'_>,
@@ -44,7 +43,6 @@ pub(crate) fn run_draw<S: Source, O: Output, E: Output>(
     close(alloc, ended, &names, out, err)
 }
 
-/// Prints the events of a walk as a file for `replay`, or reports why not. Returns the status.
 pub(crate) fn run_walk<S: Source, O: Output, E: Output>(
     alloc: Global,
     exploration: &Exploration<'_>,
@@ -66,7 +64,6 @@ pub(crate) fn run_walk<S: Source, O: Output, E: Output>(
     close(alloc, ended, &names, out, err)
 }
 
-/// Prints the events of a script as a file for `replay`, or reports why not. Returns the status.
 pub(crate) fn run_script<S: Source, O: Output, E: Output>(
     alloc: Global,
     names: &Names<'_>,
@@ -96,7 +93,6 @@ fn plan_alone<'a>(exploration: &Exploration<'a>) -> Names<'a>
     }
 }
 
-/// Reads the plan, and prints the events of `explore` as a file. Returns the status.
 fn draw_file<S: Source, O: Output>(
     alloc: Global,
     exploration: &Exploration<'_>,
@@ -116,7 +112,6 @@ fn draw_file<S: Source, O: Output>(
     draw_schedule(alloc, &plan, exploration.seed, exploration.steps, out)
 }
 
-/// Reads the plan, and prints the events of a walk as a file. Returns the status.
 fn print_walk<S: Source, O: Output>(
     alloc: Global,
     exploration: &Exploration<'_>,
@@ -141,7 +136,6 @@ fn print_walk<S: Source, O: Output>(
     print(file.as_bytes(), out)
 }
 
-/// Reads a plan and a script, and prints the events of the script as a file. Returns the status.
 fn print_script<S: Source, O: Output>(
     alloc: Global,
     names: &Names<'_>,
@@ -161,7 +155,6 @@ fn print_script<S: Source, O: Output>(
     }
 }
 
-/// Prints a file. Returns the status.
 fn print_file<O: Output>(file: &String, out: &mut O) -> Result<u8, ScriptError>
     ensures done { IfOk result (λ _.
         Appends (O.written out.old) (O.written out.new) (string_bytes file.now)) }

@@ -1,5 +1,3 @@
-//! Recorders, which are told of each event of a script.
-
 use crate::script_error::RefusedLine;
 use crate::state::{SessionEvent, State};
 use mx_nodelaws::Exclusion;
@@ -31,7 +29,6 @@ pub trait Recorder<R> {
     fn refused(&mut self, plan: &Plan, line: &RefusedLine, state: &R) -> Result<(), AllocError>;
 }
 
-/// A recorder that notes nothing.
 #[derive(Clone, Copy)]
 pub(crate) struct NoRecorder;
 

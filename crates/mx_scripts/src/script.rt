@@ -23,7 +23,6 @@ use mx_raymond::Raymond;
 use mx_ricart::Ricart;
 use std::alloc::Global;
 
-/// Runs a script by the plan's algorithm, and returns the file of its events.
 pub(crate) fn script_file<K>(
     alloc: Global,
     plan: &Plan,
@@ -43,7 +42,6 @@ where
     })
 }
 
-/// Runs a script in a state before any event, and returns the file of its events.
 fn file_of_script<C: Exclusion, K: Recorder<State<C>>>(
     alloc: Global,
     plan: &Plan,
@@ -63,7 +61,6 @@ fn file_of_script<C: Exclusion, K: Recorder<State<C>>>(
     Ok(text)
 }
 
-/// Does what each line of a script asks for, in turn. A fault names its line, counted from 1.
 fn do_script<C: Exclusion, K: Recorder<State<C>>>(
     alloc: Global,
     plan: &Plan,
@@ -105,7 +102,6 @@ fn record_error<C: Exclusion, K: Recorder<State<C>>>(
     }
 }
 
-/// Does what the line of this number asks for.
 fn do_line<C: Exclusion, K: Recorder<State<C>>>(
     alloc: Global,
     plan: &Plan,
@@ -123,7 +119,6 @@ fn do_line<C: Exclusion, K: Recorder<State<C>>>(
     }
 }
 
-/// Returns what a line asks for; `None` if it has no words.
 fn line_in(alloc: Global, plan: &Plan, line: &str) -> Result<Option<Line>, LineFailure>
     ensures ok { IfOk result (Reads plan.now line.now) }
     ensures err { IfErr result (λ why.
@@ -136,7 +131,6 @@ fn line_in(alloc: Global, plan: &Plan, line: &str) -> Result<Option<Line>, LineF
     }
 }
 
-/// Does what the line of this number asks for, as often as it says.
 fn repeat<C: Exclusion, K: Recorder<State<C>>>(
     plan: &Plan,
     number: u64,
@@ -154,7 +148,6 @@ fn repeat<C: Exclusion, K: Recorder<State<C>>>(
     Ok(())
 }
 
-/// Does, once, all events that an order asks for. `number` is that of its line.
 fn perform<C: Exclusion, K: Recorder<State<C>>>(
     plan: &Plan,
     number: u64,
@@ -177,7 +170,6 @@ fn perform<C: Exclusion, K: Recorder<State<C>>>(
     Err(LineFailure::Refused(LineFault::TooMany))
 }
 
-/// Does an event that line `number` asks for, and tells the recorder of it.
 fn do_event<C: Exclusion, K: Recorder<State<C>>>(
     plan: &Plan,
     number: u64,

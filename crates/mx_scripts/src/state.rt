@@ -1,5 +1,3 @@
-//! A cluster, which of its parcels are under way, and which links are cut.
-
 ghost use Rattle.std.specs.Prelude.{◌≡◌, IfErr, IfOk, IsTrue, OnOk};
 ghost use Rattle.mx_commands.specs.Runs.{at_rest};
 ghost use Rattle.mx_scripts.specs.Fates.{can_pass, is_under_way};
@@ -53,7 +51,6 @@ impl<C: Exclusion> State<C> {
         })
     }
 
-    /// Creates the state of a cluster before any parcel was sent.
     pub(crate) fn of(alloc: Global, cluster: Cluster<C>) -> Self
         ensures { result ≡ before_any cluster }
     {
@@ -107,7 +104,6 @@ impl<C: Exclusion> State<C> {
         }
     }
 
-    /// Applies an event to the cluster, and notes which parcels it sent and delivered.
     fn advance(&mut self, event: &Event) -> Result<(), LineFailure>
         requires { IsTrue (can_pass self.old.fates self.old.cluster.sent event.now) }
         ensures ok { OnOk result
