@@ -1,7 +1,6 @@
 //! What `show` prints of the nodes.
 
 ghost use Rattle.std.specs.Prelude.{◌≡◌, ◌+◌, ◌<◌, ◌++◌, drop, length, string_bytes, OnOk, Some, None};
-ghost use Rattle.mx_format.specs.FactTexts.{facts_line};
 ghost use Rattle.mx_format.specs.Lines.{texts_from};
 ghost use Rattle.mx_play.specs.Views.{node_shown, standing_lines};
 
@@ -77,17 +76,6 @@ fn add_shown<C: Exclusion + Knowledge>(
         ++ node_shown C.core C.knows setting.now.plan.now node member.now) }
 {
     add_member_line(setting.plan, node, member, text)?;
-    add_known(setting, member, text)
-}
-
-fn add_known<C: Exclusion + Knowledge>(
-    setting: &Setting<'_, C>,
-    member: &Member<C>,
-    text: &mut String,
-) -> Result<(), AllocError>
-    ensures { OnOk result (string_bytes text.new ≡ string_bytes text.old
-        ++ facts_line setting.now.plan.now (C.knows member.now.core)) }
-{
     let facts = member.core().facts(setting.alloc)?;
     add_facts_line(setting.plan, &facts, text)
 }
