@@ -1,15 +1,12 @@
 pub mod Files
 pub mod Played
-pub mod Readable
 pub mod Drawn
 pub mod Scripts
 pub mod Links
 pub mod Fates
-pub mod UnderWay
 pub mod States
 pub mod Lines
 pub mod ScriptFiles
-pub mod Requests
 pub mod Printed
 pub mod Ended
 pub mod Words

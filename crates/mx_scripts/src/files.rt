@@ -6,8 +6,7 @@ ghost use Rattle.mx_plan.specs.Fields.{IsPlan};
 ghost use Rattle.mx_format.specs.EventTexts.{name_of, register_name_of};
 ghost use Rattle.mx_format.specs.Lines.{each_text};
 ghost use Rattle.mx_scripts.specs.Files.{file_text, item_text, next_text, quoted};
-ghost use Rattle.mx_scripts.specs.Played.{events_of};
-ghost use Rattle.mx_scripts.specs.Readable.{AreReadable};
+ghost use Rattle.mx_scripts.specs.Played.{events_of, AreReadable};
 
 use mx_format::{name_of, register_name_of};
 use mx_network::{Entry, Event};

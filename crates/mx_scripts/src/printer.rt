@@ -7,7 +7,7 @@ ghost use Rattle.mx_cli.specs.Closed.{IsRunStatus, PassesOn};
 ghost use Rattle.mx_commands.specs.Ran.{RanOn};
 ghost use Rattle.mx_scripts.specs.Printed.{DrawsPlan, HasDone, draw_job};
 ghost use Rattle.mx_scripts.specs.Ended.{EndsScript, IsPrintError, ScriptsOf};
-ghost use Rattle.mx_scripts.specs.Requests as wants;
+ghost use Rattle.mx_scripts.specs.Printed as wants;
 
 use crate::drawn_file::draw_schedule;
 use crate::recorder::NoRecorder;

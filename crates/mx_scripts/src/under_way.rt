@@ -1,8 +1,7 @@
 //! The parcels under way, as a list in the order in which they were sent.
 
 ghost use Rattle.std.specs.Prelude.{◌≡◌, ◌+◌, ◌<◌, ◌^◌, ◌-◌, ◌++◌, ◌∷◌, [], List, Bool, false, true, not, IsTrue, OnOk, slice_index_or, slice_set};
-ghost use Rattle.mx_scripts.specs.Fates.{grown};
-ghost use Rattle.mx_scripts.specs.UnderWay.{AreGone, AreGoneBetween, AreSkipped};
+ghost use Rattle.mx_scripts.specs.Fates.{grown, AreGone, AreGoneBetween, AreSkipped};
 
 use std::alloc::{AllocError, Global};
 use std::marker::Model;
@@ -25,7 +24,7 @@ pub(crate) struct UnderWay {
 
 impl Model for UnderWay {
     ghost use Rattle.std.specs.Prelude.{List, Bool};
-    ghost use Rattle.mx_scripts.specs.UnderWay.{AreGone, AreSkipped};
+    ghost use Rattle.mx_scripts.specs.Fates.{AreGone, AreSkipped};
 
     ghost Value = { List Bool };
 
