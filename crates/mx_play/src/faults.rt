@@ -33,26 +33,10 @@ impl fmt::Display for InputFault {
 /// What is reported of a faulty line of a session. Lines are counted from 1.
 #[derive(Drop)]
 pub(crate) struct InputFaultLine {
-    number: u64,
-    fault: InputFault,
+    pub(crate) number: u64,
+    pub(crate) fault: InputFault,
     /// What is printed after the fault: a colon and a message about the line, or nothing.
-    message: String,
-}
-
-impl InputFaultLine {
-    pub(crate) fn of(
-        alloc: Global,
-        plan: &Plan,
-        number: u64,
-        fault: InputFault,
-        line: &[u8],
-    ) -> Result<InputFaultLine, AllocError> {
-        Ok(InputFaultLine {
-            number,
-            fault,
-            message: message_about(alloc, plan, &fault, line)?,
-        })
-    }
+    pub(crate) message: String,
 }
 
 impl fmt::Display for InputFaultLine {
@@ -62,7 +46,7 @@ impl fmt::Display for InputFaultLine {
     }
 }
 
-fn message_about(
+pub(crate) fn message_about(
     alloc: Global,
     plan: &Plan,
     fault: &InputFault,

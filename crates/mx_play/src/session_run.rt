@@ -10,7 +10,7 @@ ghost use Rattle.mx_play.specs.Sessions.{IsSession, at_start};
 ghost use Rattle.mx_play.specs.Turns.{HasRun, HasTurned, IsPlayed, PrintsTurn, RunsOn};
 
 use crate::commands::execute;
-use crate::faults::{InputFault, InputFaultLine};
+use crate::faults::{InputFault, InputFaultLine, message_about};
 use crate::input::{Input, greet, is_end, read_input};
 use crate::lines::{Lines, Listed};
 use crate::session::{Session, Setting};
@@ -196,8 +196,13 @@ fn report<C: Exclusion, E: Output>(
     let Some(fault) = fault else {
         return Ok(());
     };
-    let message = InputFaultLine::of(setting.alloc, setting.plan, number, *fault, line)?;
-    write_line(setting.alloc, err, message)?;
+    let message = message_about(setting.alloc, setting.plan, fault, line)?;
+    let said = InputFaultLine {
+        number,
+        fault: *fault,
+        message,
+    };
+    write_line(setting.alloc, err, said)?;
     err.flush()?;
     Ok(())
 }
