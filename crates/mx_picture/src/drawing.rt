@@ -4,7 +4,6 @@
 ghost use Rattle.std.specs.Prelude.{◌<◌, length};
 ghost use Rattle.mx_commands.specs.Runs.{silent};
 
-use crate::journals::ShownJournals;
 use crate::omissions::{Subject, is_shown, pass_over, phase_after, subject_of};
 use crate::parcels::{draw_delivery, draw_sent};
 use crate::part::Part;
@@ -30,8 +29,6 @@ pub(crate) struct Drawing {
     pub(crate) label: String,
     /// The part of the run that is shown.
     pub(crate) part: Part,
-    /// The size of each node's journal when it was last shown.
-    journals: ShownJournals,
     /// Whether events were left out since the last row, and a row with `..` has to say so.
     has_skipped: bool,
 }
@@ -50,7 +47,6 @@ impl Drawing {
             arriving,
             label: String::new(alloc),
             part: *part,
-            journals: ShownJournals::new(),
             has_skipped: false,
         })
     }
@@ -143,28 +139,9 @@ where
             let side = side_of_act(cluster, node, before);
             write_act(plan, entry, &mut drawing.label)?;
             describe_section(&entry.outcome, drawing)?;
-            write_journal(cluster, node, drawing)?;
             drawing.sheet.text(node, side, drawing.label.as_str())?;
             draw_outcome(node, &entry.outcome, drawing)
         }
-    }
-}
-
-/// Appends the contents of the node's journal to the label, if journals are shown and this one has
-/// changed.
-pub(crate) fn write_journal<C: Exclusion>(
-    cluster: &Cluster<C>,
-    node: NodeId,
-    drawing: &mut Drawing,
-) -> Result<(), AllocError> {
-    if !drawing.part.has_journals {
-        return Ok(());
-    }
-    match cluster.member(node) {
-        Some(member) => drawing
-            .journals
-            .add_changed(node, member.journal(), &mut drawing.label),
-        None => Ok(()),
     }
 }
 

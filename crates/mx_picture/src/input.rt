@@ -73,7 +73,6 @@ fn part_of(plan: &Plan, request: &Request<'_>) -> Result<Part, CommandError>
         from: request.from,
         to: request.to,
         node,
-        has_journals: request.has_journals,
         only_letters: request.only_letters,
     })
 }

@@ -9,7 +9,6 @@ mod drawing;
 mod flights;
 mod heading;
 mod input;
-mod journals;
 mod labels;
 mod lanes;
 mod legend;

@@ -1,6 +1,6 @@
 //! The drawing of parcels: as arrows to their delivery, or lost in the air.
 
-use crate::drawing::{Drawing, write_end, write_journal, write_parcel, write_route};
+use crate::drawing::{Drawing, write_end, write_parcel, write_route};
 use crate::omissions::{concerns, sends_original};
 use crate::route::Route;
 use crate::side::Side;
@@ -27,7 +27,6 @@ where
     };
     draw_arrow(plan, number, &sent, drawing)?;
     write_delivery(plan, number, &sent, drawing)?;
-    write_journal(cluster, sent.to, drawing)?;
     let side = Side::after(Route::new(&sent).is_left());
     drawing.sheet.mark(sent.to, side, drawing.label.as_str())
 }

@@ -2,14 +2,13 @@
 
 use mx_stamps::NodeId;
 
-/// The events from the index `from` to `to`, which is included, of all nodes or of one. Journals
-/// are shown too if `has_journals`, and only letters and phases if `only_letters`.
+/// The events from the index `from` to `to`, which is included, of all nodes or of one. Only
+/// letters and phases are shown if `only_letters`.
 #[derive(Clone, Copy)]
 pub(crate) struct Part {
     pub(crate) from: u64,
     pub(crate) to: u64,
     pub(crate) node: Option<NodeId>,
-    pub(crate) has_journals: bool,
     pub(crate) only_letters: bool,
 }
 

@@ -10,14 +10,13 @@ use mx_cli::{CommandId, Names, is_given, matches_in, names_at, number_at, text_a
 use std::alloc::Global;
 
 /// What a command line requests: the names of the plan and the events, the first and the last
-/// index, the node if only one is shown, and whether journals are shown, or only letters.
+/// index, the node if only one is shown, and whether only letters are.
 #[derive(Clone, Copy)]
 pub(crate) struct Request<'a> {
     pub(crate) names: Names<'a>,
     pub(crate) from: u64,
     pub(crate) to: u64,
     pub(crate) node: Option<&'a str>,
-    pub(crate) has_journals: bool,
     pub(crate) only_letters: bool,
 }
 
@@ -57,7 +56,6 @@ fn picture_in<'a>(matches: &ArgMatches<'a>) -> Option<Request<'a>>
         from: number_at(matches, "from").unwrap_or(0),
         to: number_at(matches, "to").unwrap_or(u64::MAX),
         node: text_at(matches, "node"),
-        has_journals: is_given(matches, "journals"),
         only_letters: is_given(matches, "letters"),
     })
 }
