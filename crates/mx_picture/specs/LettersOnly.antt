@@ -28,7 +28,6 @@ is_first (Some flight) = flight.is_original && not flight.is_delivered
 abbrev pub is_first_delivery : ℕ → List Flight → Bool
 is_first_delivery number flights = is_first (slice_get flights number)
 
--- a node asked, entered, left or cancelled
 abbrev pub changes_phase : Outcome → Bool
 changes_phase (outcome.Asked stamp) = true
 changes_phase (outcome.Entered number) = true

@@ -24,14 +24,12 @@ pub(crate) struct Arrow {
 }
 
 impl Arrow {
-    /// Returns the line of the arrow.
     pub(crate) fn segment(&self, columns: &Columns) -> Segment {
         let from = columns.x_of(self.route.from);
         let to = columns.x_of(self.route.to);
         Segment::new(from, to, self.y, self.down)
     }
 
-    /// Appends the arrow.
     pub(crate) fn add_to(&self, columns: &Columns, text: &mut String) -> Result<(), AllocError> {
         let class = class_of(self.route.style);
         let again = again(self.is_repeat);
@@ -45,7 +43,6 @@ impl Arrow {
     }
 }
 
-/// Returns the class that an arrow has besides its own if the parcel was delivered before.
 fn again(is_repeat: bool) -> &'static str {
     if is_repeat { " again" } else { "" }
 }
@@ -87,14 +84,12 @@ pub(crate) struct Piece {
 }
 
 impl Piece {
-    /// Appends the piece.
     pub(crate) fn add_to(&self, columns: &Columns, text: &mut String) -> Result<(), AllocError> {
         self.add_path(columns, text)?;
         add_title(self.title.as_str(), text)?;
         text.push_str("</path>\n")
     }
 
-    /// Appends the start tag of the piece.
     fn add_path(&self, columns: &Columns, text: &mut String) -> Result<(), AllocError> {
         let class = class_of(self.route.style);
         let (back, aside) = if self.route.is_left() {

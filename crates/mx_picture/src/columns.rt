@@ -30,8 +30,6 @@ struct Room {
 }
 
 impl Room {
-    /// Finds the room for the names of the plan's nodes, and for these texts on the sides that they
-    /// prefer.
     fn new(plan: &Plan, labels: &[Label]) -> Self {
         let mut room = Room {
             names: [0; MAX_NODES as usize],
@@ -43,7 +41,6 @@ impl Room {
         room
     }
 
-    /// Adds the room for half of each name.
     fn add_names(&mut self, plan: &Plan) {
         for index in 0..MAX_NODES {
             let name = plan.node_name(index).unwrap_or("");
@@ -51,7 +48,6 @@ impl Room {
         }
     }
 
-    /// Adds the room for these texts on the sides that they prefer.
     fn add_labels(&mut self, labels: &[Label]) {
         for label in labels {
             let index = usize::from(label.node.get());
@@ -64,7 +60,6 @@ impl Room {
         }
     }
 
-    /// Returns the distance that names and texts want between the lines of two neighbours.
     fn between(&self, left: NodeId, right: NodeId) -> u64 {
         let left = usize::from(left.get());
         let right = usize::from(right.get());
@@ -77,13 +72,9 @@ impl Room {
 /// The horizontal positions of the lines of nodes, in pixels from the first line.
 #[derive(Clone, Copy)]
 pub(crate) struct Columns {
-    /// The nodes that have a line.
     lanes: Lanes,
-    /// The greatest distance between the lines of neighbours.
     widest: u64,
-    /// The position of each node's line.
     places: [u64; MAX_NODES as usize],
-    /// The position of the last line.
     pub(crate) last: u64,
 }
 
@@ -100,7 +91,6 @@ impl Columns {
         }
     }
 
-    /// Places the lines of these nodes at most `widest` pixels apart.
     fn within(widest: u64, lanes: &Lanes, room: &Room) -> Self {
         let mut columns = Columns {
             lanes: *lanes,
@@ -120,7 +110,6 @@ impl Columns {
         columns
     }
 
-    /// Places the line of a node: at the right of the line of `before`, or first if that is `None`.
     fn add(&mut self, before: Option<NodeId>, node: NodeId, room: &Room) {
         if let Some(before) = before {
             let width = column_width(room.between(before, node), self.widest);
@@ -129,12 +118,10 @@ impl Columns {
         self.places[usize::from(node.get())] = self.last;
     }
 
-    /// Returns whether the picture has a lane for this node.
     pub(crate) fn has(&self, node: NodeId) -> bool {
         self.lanes.has(node)
     }
 
-    /// Returns the position of the node's line.
     pub(crate) fn x_of(&self, node: NodeId) -> u64 {
         self.places[usize::from(node.get())]
     }
@@ -149,8 +136,6 @@ fn widest_column(lines: u64) -> u64
     MAX_COLUMN.min(MAX_SPAN / columns)
 }
 
-/// Returns the distance between two lines whose texts want `room` between them: at most `widest`,
-/// but at least `MIN_COLUMN`.
 fn column_width(room: u64, widest: u64) -> u64
     ensures least { 60 ≤ result }
     ensures most { result ≤ max 60 widest }

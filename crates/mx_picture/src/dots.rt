@@ -16,7 +16,6 @@ pub(crate) struct Dot {
 }
 
 impl Dot {
-    /// Appends the dot.
     pub(crate) fn add_to(&self, columns: &Columns, text: &mut String) -> Result<(), AllocError> {
         let x = columns.x_of(self.node);
         let y = self.y;

@@ -1,5 +1,4 @@
-//! Draws a run. A `Drawing` is a sink, which is told of each event: it gives each event shown a row
-//! of the sheet, and prints nothing.
+//! Draws a run: a `Drawing` is a sink that gives each event shown a row of the sheet.
 
 ghost use Rattle.std.specs.Prelude.{◌<◌, length};
 ghost use Rattle.mx_commands.specs.Runs.{silent};
@@ -19,7 +18,6 @@ use mx_stamps::NodeId;
 use std::alloc::{AllocError, Global};
 use std::collections::HashSet;
 
-/// A drawing in progress.
 #[derive(Drop)]
 pub(crate) struct Drawing {
     pub(crate) sheet: Sheet,
@@ -27,14 +25,12 @@ pub(crate) struct Drawing {
     pub(crate) arriving: HashSet<u64>,
     /// The text that is drawn next, beside a node or as a title.
     pub(crate) label: String,
-    /// The part of the run that is shown.
     pub(crate) part: Part,
     /// Whether events were left out since the last row, and a row with `..` has to say so.
     has_skipped: bool,
 }
 
 impl Drawing {
-    /// Creates the drawing of a part of these events. Nothing is drawn yet.
     pub(crate) fn new(alloc: Global, events: &[Event], part: &Part) -> Result<Self, AllocError> {
         let mut arriving = HashSet::new(alloc);
         for event in events {
@@ -58,8 +54,6 @@ where
 {
     ghost texts = { λ _ _. silent };
 
-    /// Draws the newest event of the cluster. The event has this index, and sent the parcels from
-    /// `before` on.
     fn event(
         &mut self,
         plan: &Plan,
@@ -86,8 +80,6 @@ where
     }
 }
 
-/// Draws the newest event and the parcels that it sent, if the event is shown, and otherwise only
-/// notes them. The event has this index, and its parcels have the numbers from `before` on.
 fn draw_row<C: Exclusion>(
     plan: &Plan,
     index: u64,
@@ -121,8 +113,6 @@ fn add_gap(drawing: &mut Drawing) -> Result<(), AllocError> {
     Ok(())
 }
 
-/// Draws the newest event, `entry`, at its node, or a delivery at the addressee. The event sent the
-/// parcels from `before` on.
 fn draw_event_at_node<C: Exclusion>(
     plan: &Plan,
     before: u64,
@@ -145,9 +135,8 @@ where
     }
 }
 
-/// Returns the side of this node for the text of an event that sent the parcels from `before` on.
-/// It is the left if there are such parcels and all go to the right, so that no arrow runs under
-/// the text.
+/// Returns the left if the event sent parcels, from `before` on, and all go to the right, so that no
+/// arrow runs under its text.
 fn side_of_act<C: Exclusion>(cluster: &Cluster<C>, node: NodeId, before: u64) -> Side {
     let mut to_left = false;
     let mut to_right = false;
@@ -167,7 +156,6 @@ fn side_of_act<C: Exclusion>(cluster: &Cluster<C>, node: NodeId, before: u64) ->
     }
 }
 
-/// Replaces the label by the text of an event and its outcome.
 fn write_act(plan: &Plan, entry: &Entry, label: &mut String) -> Result<(), AllocError> {
     let done = EventText {
         plan,
@@ -178,7 +166,6 @@ fn write_act(plan: &Plan, entry: &Entry, label: &mut String) -> Result<(), Alloc
     write!(label, "{done}: {outcome}")
 }
 
-/// Replaces the label by the number and the text of a parcel.
 pub(crate) fn write_parcel<M: Letter>(
     plan: &Plan,
     number: u64,
@@ -190,7 +177,6 @@ pub(crate) fn write_parcel<M: Letter>(
     add_parcel(plan, parcel, label)
 }
 
-/// Appends `word`, which is `from` or `to`, and the name of the node at that end of a parcel's way.
 pub(crate) fn write_end(
     plan: &Plan,
     word: &str,
@@ -201,7 +187,6 @@ pub(crate) fn write_end(
     write!(label, " {word} {name}")
 }
 
-/// Replaces the label by the number, the text, the sender and the addressee of a parcel.
 pub(crate) fn write_route<M: Letter>(
     plan: &Plan,
     number: u64,
@@ -213,7 +198,6 @@ pub(crate) fn write_route<M: Letter>(
     write_end(plan, "to", sent.to, label)
 }
 
-/// Adds the label to the description of the picture, if a node entered or left a section.
 fn describe_section(outcome: &Outcome, drawing: &mut Drawing) -> Result<(), AllocError> {
     match outcome {
         Outcome::Entered(_) | Outcome::Left(_) => drawing.sheet.describe(drawing.label.as_str()),
@@ -221,8 +205,8 @@ fn describe_section(outcome: &Outcome, drawing: &mut Drawing) -> Result<(), Allo
     }
 }
 
-/// Draws the outcome of an event at its node: a dot, and the new phase if the phase changes. An
-/// entry has no dot: its place is taken by the number of the section.
+/// Draws a dot, and the new phase if the phase changes. An entry has no dot: its place is taken by
+/// the number of the section.
 fn draw_outcome(node: NodeId, outcome: &Outcome, drawing: &mut Drawing) -> Result<(), AllocError> {
     let title = drawing.label.as_str();
     match phase_after(outcome) {

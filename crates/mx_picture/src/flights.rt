@@ -1,5 +1,3 @@
-//! The parcels of a run that were sent.
-
 /// A parcel that was sent: the row of its sending, and what else is known of it.
 #[derive(Clone, Copy)]
 pub(crate) struct Flight {

@@ -7,8 +7,6 @@ use crate::title::add_escaped;
 use mx_plan::Plan;
 use std::alloc::AllocError;
 
-/// Appends the description for readers who cannot see the picture. `story` tells who entered and
-/// left which section, event by event.
 pub(crate) fn add_story(story: &str, text: &mut String) -> Result<(), AllocError> {
     text.push_str("<desc>Time goes down, and each event is told beside its node. Sections:")?;
     if story.is_empty() {
@@ -18,8 +16,6 @@ pub(crate) fn add_story(story: &str, text: &mut String) -> Result<(), AllocError
     text.push_str("</desc>\n")
 }
 
-/// Returns the heading: the algorithm, the number of nodes, the number of sections entered, which
-/// part of the run is shown, and whether that part is empty.
 pub(crate) fn heading_of(plan: &Plan, part: &Part, sheet: &Sheet) -> Result<String, AllocError> {
     let mut text = String::new(sheet.shapes.alloc);
     add_heading(plan, part, sheet, &mut text)?;
@@ -47,8 +43,6 @@ fn add_heading(
     Ok(())
 }
 
-/// Appends the index at which the part begins and the one at which it ends, each only if the part
-/// is limited there.
 fn add_range(part: &Part, text: &mut String) -> Result<(), AllocError> {
     if part.from > 0 {
         let from = part.from;
@@ -61,8 +55,6 @@ fn add_range(part: &Part, text: &mut String) -> Result<(), AllocError> {
     Ok(())
 }
 
-/// Appends the node, if only one node's events are shown, and that only letters are shown, if they
-/// are.
 fn add_choice(plan: &Plan, part: &Part, text: &mut String) -> Result<(), AllocError> {
     if let Some(node) = part.node {
         text.push_str(", node ")?;

@@ -1,5 +1,3 @@
-//! The rows of a picture that repeat the names of the nodes.
-
 use crate::columns::Columns;
 use crate::phases::PhaseSpan;
 use crate::title::add_escaped;
@@ -19,7 +17,6 @@ pub(crate) struct NameRow {
 }
 
 impl NameRow {
-    /// Creates the row at the height `y`, for nodes in these phases.
     pub(crate) fn new(y: u64, phases: &[PhaseSpan; MAX_NODES as usize]) -> Self {
         let mut is_inside = [false; MAX_NODES as usize];
         for index in 0..MAX_NODES as usize {
@@ -28,7 +25,6 @@ impl NameRow {
         NameRow { y, is_inside }
     }
 
-    /// Appends the names to `text`, the SVG.
     pub(crate) fn add_to(
         &self,
         plan: &Plan,
@@ -46,7 +42,6 @@ impl NameRow {
         Ok(())
     }
 
-    /// Appends the name of a node whose line is at `x`.
     fn add_name(
         &self,
         plan: &Plan,

@@ -19,7 +19,6 @@ pub(crate) enum Subject {
     Parcel(u64),
 }
 
-/// Returns the parcel of a delivery, or the node of any other event.
 pub(crate) fn subject_of(event: &Event) -> Subject {
     match event {
         Event::Deliver(number) => Subject::Parcel(*number),
@@ -27,10 +26,8 @@ pub(crate) fn subject_of(event: &Event) -> Subject {
     }
 }
 
-/// Returns whether the newest event, `entry`, is shown. The event has this index, and sent the
-/// parcels from `before` on. It has to be in the drawn part, and to be an event of a shown node, or
-/// to send or deliver a parcel from or to such a node. If only letters are shown, `is_drawn` has to
-/// allow it too.
+/// Returns whether the newest event, `entry`, is shown: it is in the drawn part, and an event of a
+/// shown node, or sends or delivers a parcel from or to such a node.
 pub(crate) fn is_shown<C: Exclusion>(
     index: u64,
     before: u64,
@@ -49,14 +46,10 @@ pub(crate) fn is_shown<C: Exclusion>(
     is_own || (before..cluster.sent()).any(|number| concerns(cluster, number, part))
 }
 
-/// Returns whether an event may be shown: all may, or only those that `is_drawn` allows if only
-/// letters are shown.
 fn is_allowed(entry: &Entry, part: &Part, sheet: &Sheet) -> bool {
     !part.only_letters || is_drawn(&entry.event, &entry.outcome, sheet.flights())
 }
 
-/// Returns whether the parcel of this number is from or to a shown node, and is a letter if only
-/// letters are shown.
 pub(crate) fn concerns<C: Exclusion>(cluster: &Cluster<C>, number: u64, part: &Part) -> bool {
     match cluster.sent_parcel(number) {
         Some(sent) => {
@@ -67,9 +60,7 @@ pub(crate) fn concerns<C: Exclusion>(cluster: &Cluster<C>, number: u64, part: &P
     }
 }
 
-/// Takes note of the newest event, which is not shown: of its delivery or new phase, and of the
-/// parcels that it sent. The event has this index, and its parcels have the numbers from `before`
-/// on. An event after the drawn part changes no phase.
+/// Takes note of the newest event, which is not shown. After the drawn part it changes no phase.
 pub(crate) fn pass_over<C: Exclusion>(
     plan: &Plan,
     index: u64,
@@ -97,8 +88,6 @@ where
     Ok(())
 }
 
-/// Returns whether the parcel of this number, which the event sent, is a letter, and the event is
-/// no tick.
 pub(crate) fn sends_original<C: Exclusion>(
     cluster: &Cluster<C>,
     number: u64,
@@ -110,7 +99,6 @@ pub(crate) fn sends_original<C: Exclusion>(
     }
 }
 
-/// Takes note of a delivery that is not shown: that of the parcel of this number.
 fn pass_delivery<C: Exclusion>(
     plan: &Plan,
     cluster: &Cluster<C>,
@@ -130,7 +118,6 @@ where
     drawing.sheet.cut_off(number, Route::new(&sent), title)
 }
 
-/// Changes the phase of a node if the outcome of its event, which is not shown, leads to another.
 fn pass_outcome(node: NodeId, outcome: &Outcome, sheet: &mut Sheet) -> Result<(), AllocError> {
     match phase_after(outcome) {
         Some(Phase::Inside(number)) => sheet.enter(node, number),
@@ -139,7 +126,6 @@ fn pass_outcome(node: NodeId, outcome: &Outcome, sheet: &mut Sheet) -> Result<()
     }
 }
 
-/// Returns the phase to which an outcome leads, or `None` if the phase stays.
 pub(crate) fn phase_after(outcome: &Outcome) -> Option<Phase> {
     match outcome {
         Outcome::Entered(number) => Some(Phase::Inside(*number)),

@@ -53,7 +53,6 @@ struct Frame {
 }
 
 impl Frame {
-    /// Finds the size for these columns, for texts of this extent, and for this heading.
     fn new(columns: &Columns, extent: Extent, heading: &str, bottom: u64) -> Self {
         let left = extent
             .left
@@ -76,7 +75,6 @@ impl Frame {
         }
     }
 
-    /// Returns the first line of the SVG.
     fn opening(&self) -> OpeningLine {
         OpeningLine {
             corner: Corner {
@@ -97,7 +95,6 @@ fn heading_width(heading: &str) -> u64 {
     width_of(heading).saturating_mul(5) / 4 + 2 * INDENT
 }
 
-/// What a page shows, and the places of the nodes' lines on it.
 #[derive(Drop)]
 struct Page<'a> {
     plan: &'a Plan,
@@ -106,14 +103,12 @@ struct Page<'a> {
     frame: Frame,
 }
 
-/// The SVG of a page below its title, and the size of the page.
 #[derive(Drop)]
 struct Body {
     frame: Frame,
     svg: String,
 }
 
-/// Returns the whole SVG of a part of a run. `events` is the number of events of the run.
 pub(crate) fn page_of(
     plan: &Plan,
     events: u64,
@@ -126,7 +121,6 @@ pub(crate) fn page_of(
     whole_page(sheet.shapes.alloc, plan, events, &body)
 }
 
-/// Returns the whole SVG: its first line, its title and this body.
 fn whole_page(alloc: Global, plan: &Plan, events: u64, body: &Body) -> Result<String, AllocError>
     ensures { IfOk result (λ page. IsPicture plan.now events (string_bytes page)) }
 {
@@ -138,7 +132,6 @@ fn whole_page(alloc: Global, plan: &Plan, events: u64, body: &Body) -> Result<St
     Ok(text)
 }
 
-/// Returns the SVG of a part of a run below the title, and the size of its page.
 fn body_of(plan: &Plan, part: &Part, sheet: &Sheet) -> Result<Body, AllocError> {
     let shapes = &sheet.shapes;
     let columns = columns_of(plan, part, shapes);
@@ -169,8 +162,6 @@ fn columns_of(plan: &Plan, part: &Part, shapes: &Shapes) -> Columns {
     Columns::new(plan, &lanes, shapes.labels.as_slice())
 }
 
-/// Appends the description, and what the shapes are drawn over: the styles, the legend, the
-/// heading, guides, indices and the lines of nodes.
 fn add_top(page: &Page<'_>, heading: &str, text: &mut String) -> Result<(), AllocError> {
     add_story(page.shapes.story.as_str(), text)?;
     add_head(&page.frame, text)?;
@@ -180,20 +171,17 @@ fn add_top(page: &Page<'_>, heading: &str, text: &mut String) -> Result<(), Allo
     add_lanes(page, text)
 }
 
-/// Appends bars, boxes and arrows, and over them the rows that repeat the names of the nodes.
 fn add_lines(page: &Page<'_>, text: &mut String) -> Result<(), AllocError> {
     page.shapes.add_lines(&page.columns, text)?;
     page.shapes
         .add_repeated_names(page.plan, &page.columns, text)
 }
 
-/// Appends dots, numbers of sections, and `texts`, the SVG of the texts beside nodes.
 fn add_marks(page: &Page<'_>, texts: &str, text: &mut String) -> Result<(), AllocError> {
     page.shapes.add_marks(&page.columns, text)?;
     text.push_str(texts)
 }
 
-/// Appends the styles, the white background and the legend.
 fn add_head(frame: &Frame, text: &mut String) -> Result<(), AllocError> {
     let left = frame.left;
     let width = frame.width;
@@ -208,7 +196,6 @@ fn add_head(frame: &Frame, text: &mut String) -> Result<(), AllocError> {
     text.push_str("</g>\n</g>\n")
 }
 
-/// Appends the heading.
 fn add_heading_text(frame: &Frame, heading: &str, text: &mut String) -> Result<(), AllocError> {
     let aside = frame.left.saturating_sub(INDENT);
     write!(text, "<text class=\"heading\" x=\"-{aside}\" y=\"-66\">")?;
@@ -216,7 +203,6 @@ fn add_heading_text(frame: &Frame, heading: &str, text: &mut String) -> Result<(
     text.push_str("</text>\n")
 }
 
-/// Appends the guides: lines across the page at each tenth event.
 fn add_guides(page: &Page<'_>, text: &mut String) -> Result<(), AllocError> {
     let left = page.frame.left;
     let width = page.frame.width;
@@ -227,7 +213,6 @@ fn add_guides(page: &Page<'_>, text: &mut String) -> Result<(), AllocError> {
     text.push_str("\"/>\n")
 }
 
-/// Appends the indices of the events, at the left edge and at the right one.
 fn add_indices(page: &Page<'_>, text: &mut String) -> Result<(), AllocError> {
     let aside = page.frame.left.saturating_sub(INDEX_END);
     write!(
@@ -239,7 +224,6 @@ fn add_indices(page: &Page<'_>, text: &mut String) -> Result<(), AllocError> {
     write!(text, "</g>\n<use href=\"#indices\" x=\"{across}\"/>\n")
 }
 
-/// Appends the line of each node that is shown, with its name above and below.
 fn add_lanes(page: &Page<'_>, text: &mut String) -> Result<(), AllocError> {
     for index in 0..MAX_NODES {
         if let Some(node) = NodeId::of(index)
@@ -252,8 +236,6 @@ fn add_lanes(page: &Page<'_>, text: &mut String) -> Result<(), AllocError> {
     Ok(())
 }
 
-/// Appends the line of a node at `x`, down to the height `bottom`, with the node's name above and
-/// below.
 fn add_lane(name: &str, x: u64, bottom: u64, text: &mut String) -> Result<(), AllocError> {
     write!(text, "<path class=\"node\" d=\"M{x}-12V{bottom}\"/>\n")?;
     write!(text, "<text class=\"name\" x=\"{x}\" y=\"-18\">")?;

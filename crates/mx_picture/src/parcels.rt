@@ -11,8 +11,6 @@ use mx_nodelaws::Exclusion;
 use mx_plan::Plan;
 use std::alloc::AllocError;
 
-/// Draws the delivery of the parcel of this number: its arrow, and a dot and a text at the
-/// addressee.
 pub(crate) fn draw_delivery<C: Exclusion>(
     plan: &Plan,
     cluster: &Cluster<C>,
@@ -31,8 +29,6 @@ where
     drawing.sheet.mark(sent.to, side, drawing.label.as_str())
 }
 
-/// Replaces the label by the number and the text of a parcel that is delivered now, and by its
-/// sender if the arrow is long or its start is not shown.
 fn write_delivery<M: Letter>(
     plan: &Plan,
     number: u64,
@@ -47,8 +43,6 @@ fn write_delivery<M: Letter>(
     }
 }
 
-/// Draws the arrow of a parcel to its delivery. The title of the arrow has the text, the sender and
-/// the addressee of the parcel.
 fn draw_arrow<M: Letter>(
     plan: &Plan,
     number: u64,
@@ -60,8 +54,6 @@ fn draw_arrow<M: Letter>(
     drawing.sheet.arrow(number, Route::new(sent), title)
 }
 
-/// Notes the parcels that the newest event sent, from `before` on, and draws those of the drawn
-/// part that no event delivers.
 pub(crate) fn draw_sent<C: Exclusion>(
     plan: &Plan,
     cluster: &Cluster<C>,
@@ -83,7 +75,6 @@ where
     Ok(())
 }
 
-/// Draws the parcel of this number, which no event delivers, in a new row.
 fn draw_loss<C: Exclusion>(
     plan: &Plan,
     cluster: &Cluster<C>,
@@ -104,7 +95,6 @@ where
     drawing.sheet.text(route.from, side, drawing.label.as_str())
 }
 
-/// Replaces the label by the number, the text and the addressee of a parcel.
 fn write_loss<M: Letter>(
     plan: &Plan,
     number: u64,

@@ -21,7 +21,6 @@ pub(crate) struct Bar {
 }
 
 impl Bar {
-    /// Appends the bar of a node that waits, or the box of one that is inside, on the line at `x`.
     pub(crate) fn add_to(&self, x: u64, text: &mut String) -> Result<(), AllocError> {
         let y = self.y;
         let down = self.down;
@@ -38,7 +37,6 @@ impl Bar {
         }
     }
 
-    /// Appends the number of the section in the box of a node that is inside, on the line at `x`.
     pub(crate) fn add_number(&self, x: u64, text: &mut String) -> Result<(), AllocError> {
         let y = self.y;
         match self.phase {

@@ -1,5 +1,3 @@
-//! The routes of parcels.
-
 use crate::style::style_of;
 use mx_format::{Letter, Style};
 use mx_member::SentParcel;
@@ -14,7 +12,6 @@ pub(crate) struct Route {
 }
 
 impl Route {
-    /// Returns the route of a parcel.
     pub(crate) fn new<M: Letter>(sent: &SentParcel<'_, M>) -> Self {
         Route {
             from: sent.from,
@@ -23,7 +20,6 @@ impl Route {
         }
     }
 
-    /// Returns whether the parcel goes to the left.
     pub(crate) fn is_left(&self) -> bool {
         self.to.get() < self.from.get()
     }

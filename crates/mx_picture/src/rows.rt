@@ -5,7 +5,6 @@ ghost use Rattle.std.specs.Prelude.{◌≡◌, ◌≤◌, ◌*◌};
 /// The distance between two rows, in pixels.
 pub(crate) const ROW: u64 = 13;
 
-/// The greatest number of rows in a picture.
 pub(crate) const MAX_ROWS: u64 = 1_000_000_000_000;
 
 /// Returns the height of this many rows, which is also the vertical position of the row of this

@@ -18,8 +18,7 @@ pub(crate) struct Segment {
 }
 
 impl Segment {
-    /// Creates the line from the node at `from`, at the height `y`, to the node at `to`, `down`
-    /// pixels below. The bow of an arrow to its own node counts as a line at the left of the node.
+    /// The bow of an arrow to its own node counts as a line at the left of the node.
     pub(crate) fn new(from: u64, to: u64, y: u64, down: u64) -> Self {
         let aside = if to == from { SHIFT - BOW } else { SHIFT };
         Segment {
@@ -30,7 +29,6 @@ impl Segment {
         }
     }
 
-    /// Returns the horizontal position of the line at the height `y`.
     fn across(&self, y: u64) -> u64 {
         let down = self.bottom.saturating_sub(self.top).max(1);
         let part = y.saturating_sub(self.top);
@@ -42,7 +40,6 @@ impl Segment {
         }
     }
 
-    /// Returns whether the line runs through a rectangle.
     pub(crate) fn crosses(&self, rect: &Rect) -> bool {
         let top = rect.top.max(self.top);
         let bottom = rect.bottom.min(self.bottom);

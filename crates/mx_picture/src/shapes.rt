@@ -16,7 +16,6 @@ use mx_plan::Plan;
 use mx_stamps::NodeId;
 use std::alloc::{AllocError, Global};
 
-/// The texts beside nodes as SVG, and how far they extend.
 #[derive(Drop)]
 pub(crate) struct Texts {
     pub(crate) svg: String,
@@ -32,7 +31,6 @@ pub(crate) struct Shapes {
     arrows: Vec<Arrow>,
     names: Vec<NameRow>,
     dots: Vec<Dot>,
-    /// The texts beside nodes, one or more for each event that is shown.
     pub(crate) labels: Vec<Label>,
     /// The SVG of the events' indices, which both edges show.
     pub(crate) indices: String,
@@ -40,7 +38,6 @@ pub(crate) struct Shapes {
     pub(crate) guides: Vec<u64>,
     /// The entries and exits in words, for readers who cannot see the picture.
     pub(crate) story: String,
-    /// The nodes that act or receive in the picture.
     pub(crate) lanes: Lanes,
 }
 
@@ -71,8 +68,6 @@ impl Shapes {
         Ok(())
     }
 
-    /// Adds the index of an event at the height `y`, or `..` for events that are not shown if there
-    /// is no index.
     pub(crate) fn add_index(&mut self, y: u64, index: Option<u64>) -> Result<(), AllocError> {
         write!(self.indices, "<text y=\"{y}\" dy=\"4\">")?;
         match index {
@@ -81,8 +76,6 @@ impl Shapes {
         }
     }
 
-    /// Adds a line across the page at the height `y`, if the index of the event is a multiple of
-    /// 10.
     pub(crate) fn add_guide(&mut self, y: u64, index: u64) -> Result<(), AllocError> {
         if index % 10 == 0 {
             self.guides.push(y)?;
@@ -90,7 +83,6 @@ impl Shapes {
         Ok(())
     }
 
-    /// Adds the dot of an event.
     pub(crate) fn add_dot(
         &mut self,
         node: NodeId,
@@ -108,8 +100,7 @@ impl Shapes {
         Ok(())
     }
 
-    /// Adds a text beside a node, at the height `y`. No arrow that was added before ends in a lower
-    /// row.
+    /// No arrow that was added before ends in a lower row.
     pub(crate) fn add_label(
         &mut self,
         node: NodeId,
@@ -130,8 +121,6 @@ impl Shapes {
         Ok(())
     }
 
-    /// Adds an arrow that begins at the height `y` and goes `down` pixels down. No arrow that was
-    /// added before ends in a lower row.
     pub(crate) fn add_arrow(
         &mut self,
         route: Route,
@@ -151,7 +140,6 @@ impl Shapes {
         Ok(())
     }
 
-    /// Adds the start or the tip of an arrow whose other end is not drawn.
     pub(crate) fn add_piece(
         &mut self,
         route: Route,
@@ -169,19 +157,16 @@ impl Shapes {
         Ok(())
     }
 
-    /// Appends this text, about the event of this index, to the description of the picture.
     pub(crate) fn describe(&mut self, index: u64, raw: &str) -> Result<(), AllocError> {
         write!(self.story, " {index} ")?;
         add_escaped(raw, &mut self.story)?;
         self.story.push('.')
     }
 
-    /// Returns whether no event is shown.
     pub(crate) fn is_empty(&self) -> bool {
         self.labels.is_empty()
     }
 
-    /// Returns the texts beside nodes, each on its side, as SVG.
     pub(crate) fn texts(&self, columns: &Columns) -> Result<Texts, AllocError> {
         let mut segments = Vec::new(self.alloc);
         for arrow in &self.arrows {
@@ -193,7 +178,6 @@ impl Shapes {
         Ok(Texts { svg, extent })
     }
 
-    /// Appends bars, boxes, arrows and pieces of arrows.
     pub(crate) fn add_lines(&self, columns: &Columns, text: &mut String) -> Result<(), AllocError> {
         self.add_bars(columns, text)?;
         self.add_pieces(columns, text)?;
@@ -223,7 +207,6 @@ impl Shapes {
         Ok(())
     }
 
-    /// Appends the names in the rows that repeat them.
     pub(crate) fn add_repeated_names(
         &self,
         plan: &Plan,
@@ -236,7 +219,6 @@ impl Shapes {
         Ok(())
     }
 
-    /// Appends dots, and the numbers of sections.
     pub(crate) fn add_marks(&self, columns: &Columns, text: &mut String) -> Result<(), AllocError> {
         for dot in &self.dots {
             dot.add_to(columns, text)?;

@@ -28,17 +28,13 @@ pub(crate) struct Sheet {
     pub(crate) shapes: Shapes,
     /// The last row that repeats the names of the nodes, or 0 before the first.
     named: u64,
-    /// The number of sections entered.
     pub(crate) entered: u64,
-    /// The current row.
     pub(crate) row: u64,
     /// The row of the current event.
     event: u64,
-    /// The index of the current event.
     index: u64,
     /// The parcels sent so far, by number.
     flights: Vec<Flight>,
-    /// The current phase of each node.
     phases: [PhaseSpan; MAX_NODES as usize],
     ghost short: { row ≤ 1000000000000 },
     ghost present: { event ≤ row },
@@ -64,7 +60,7 @@ impl Sheet {
         }
     }
 
-    /// Moves to the next row. Returns `AllocError` if the picture has `MAX_ROWS` rows.
+    /// Returns `AllocError` if the picture has `MAX_ROWS` rows.
     pub(crate) fn next_row(&mut self) -> Result<(), AllocError> {
         if self.row >= MAX_ROWS {
             return Err(AllocError);
@@ -73,8 +69,6 @@ impl Sheet {
         Ok(())
     }
 
-    /// Starts the event of this index in the current row. If the names of the nodes have to be
-    /// repeated, a row with them comes first.
     pub(crate) fn begin(&mut self, index: u64) -> Result<(), AllocError> {
         self.repeat_names()?;
         self.event = self.row;
@@ -84,8 +78,6 @@ impl Sheet {
         self.shapes.add_index(y, Some(index))
     }
 
-    /// Repeats the names of the nodes in a row of their own, if the last such row, or the top of
-    /// the picture before the first, is `NAMED_ROWS` rows or more above.
     fn repeat_names(&mut self) -> Result<(), AllocError> {
         if self.row.saturating_sub(self.named) < NAMED_ROWS {
             return Ok(());
@@ -96,20 +88,16 @@ impl Sheet {
         self.next_row()
     }
 
-    /// Adds a row with `..` as its index, for events that are not shown.
     pub(crate) fn skip(&mut self) -> Result<(), AllocError> {
         self.shapes.add_index(y_of(self.row), None)?;
         self.next_row()
     }
 
-    /// Counts the entry of a node into the section of this number, and changes the node's phase.
     pub(crate) fn enter(&mut self, node: NodeId, number: u64) -> Result<(), AllocError> {
         self.entered = self.entered.saturating_add(1);
         self.change(node, Phase::Inside(number))
     }
 
-    /// Draws the dot of an event at its node, in the current row. The dot has this title, and is
-    /// hollow if the event is refused.
     pub(crate) fn dot(
         &mut self,
         node: NodeId,
@@ -120,26 +108,20 @@ impl Sheet {
         self.shapes.add_dot(node, y, is_refused, title)
     }
 
-    /// Adds a text beside a node, in the current row.
     pub(crate) fn text(&mut self, node: NodeId, side: Side, text: &str) -> Result<(), AllocError> {
         let y = y_of(self.row);
         self.shapes.add_label(node, y, side, text)
     }
 
-    /// Draws the dot of an event at its node, with this text as its title and beside it.
     pub(crate) fn mark(&mut self, node: NodeId, side: Side, text: &str) -> Result<(), AllocError> {
         self.dot(node, false, text)?;
         self.text(node, side, text)
     }
 
-    /// Adds this text, about the current event, to the description of the picture.
     pub(crate) fn describe(&mut self, text: &str) -> Result<(), AllocError> {
         self.shapes.describe(self.index, text)
     }
 
-    /// Notes that the next parcel is sent, in the row of the current event. `is_shown` says whether
-    /// the picture shows the sending, and `is_original` whether the parcel is a letter that no tick
-    /// sends.
     pub(crate) fn send(&mut self, is_shown: bool, is_original: bool) -> Result<(), AllocError> {
         self.flights.push(Flight {
             row: self.event,
@@ -150,8 +132,6 @@ impl Sheet {
         Ok(())
     }
 
-    /// Draws the arrow of a parcel that the current event sent and that is never delivered. The
-    /// arrow ends in the air, in a new row.
     pub(crate) fn lose(&mut self, route: Route, title: &str) -> Result<(), AllocError> {
         self.next_row()?;
         let y = y_of(self.event);
@@ -159,8 +139,6 @@ impl Sheet {
         self.shapes.add_piece(route, end, y, title)
     }
 
-    /// Draws the arrow of the parcel of this number, which is delivered in the current row. Only
-    /// the tip is drawn if the sending is not shown.
     pub(crate) fn arrow(
         &mut self,
         number: u64,
@@ -182,7 +160,6 @@ impl Sheet {
         }
     }
 
-    /// Draws the whole arrow of a parcel, from the row of its sending to the current one.
     fn join(&mut self, flight: Flight, route: Route, title: &str) -> Result<(), AllocError>
         requires { flight.row ≤ self.old.row }
     {
@@ -206,13 +183,11 @@ impl Sheet {
         }
     }
 
-    /// Returns the parcels that were sent, by number.
     pub(crate) fn flights(&self) -> &[Flight] {
         self.flights.as_slice()
     }
 
-    /// Returns whether only the start of a parcel's arrow is drawn, if its delivery now is not
-    /// shown: the sending is shown, and the parcel was not delivered before.
+    /// Returns whether only the start of a parcel's arrow is drawn, if its delivery now is not shown.
     pub(crate) fn is_cut(&self, number: u64) -> bool {
         match self.flights.get(number as usize) {
             Some(flight) => flight.is_shown && !flight.is_delivered,
@@ -220,8 +195,6 @@ impl Sheet {
         }
     }
 
-    /// Notes that the parcel of this number is delivered by an event that is not shown. Draws the
-    /// start of its arrow if the sending is shown and the parcel was not delivered before.
     pub(crate) fn cut_off(
         &mut self,
         number: u64,
@@ -240,7 +213,7 @@ impl Sheet {
             .add_piece(route, End::Sending, y_of(flight.row), title)
     }
 
-    /// Notes that the parcel of this number is delivered, and returns what was known of it before.
+    /// Returns what was known of the parcel before.
     fn deliver(&mut self, index: usize) -> Flight
         requires { index < length self.old.flights.items }
         ensures { result.row ≤ self.new.row }
@@ -255,8 +228,6 @@ impl Sheet {
         flight
     }
 
-    /// Changes the phase of a node in the current row, and draws the phase that ends, if that began
-    /// in a row above.
     pub(crate) fn change(&mut self, node: NodeId, phase: Phase) -> Result<(), AllocError> {
         let index = usize::from(node.get());
         let span = self.phases[index];
@@ -270,7 +241,6 @@ impl Sheet {
         self.end(node, span)
     }
 
-    /// Draws a phase of a node that ends in the current row.
     fn end(&mut self, node: NodeId, span: PhaseSpan) -> Result<(), AllocError>
         requires { span.since ≤ self.old.row }
     {
@@ -282,7 +252,6 @@ impl Sheet {
         })
     }
 
-    /// Draws the dot of an event at its node, with this title, and changes the node's phase.
     pub(crate) fn turn(
         &mut self,
         node: NodeId,
@@ -293,7 +262,6 @@ impl Sheet {
         self.change(node, phase)
     }
 
-    /// Ends all phases at the end of the picture.
     pub(crate) fn close(&mut self) -> Result<(), AllocError> {
         for index in 0..MAX_NODES {
             if let Some(node) = NodeId::of(index) {

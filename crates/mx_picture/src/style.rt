@@ -1,9 +1,6 @@
-//! The styles of parcels: requests, grants, and all others.
-
 use mx_format::{Letter, Style};
 use mx_member::Parcel;
 
-/// Returns the style of a parcel.
 pub(crate) fn style_of<M: Letter>(parcel: &Parcel<M>) -> Style {
     match parcel {
         Parcel::Guard(letter) => letter.parts().style,

@@ -2,7 +2,6 @@
 
 use std::alloc::{AllocError, Global};
 
-/// Returns a text with each `&`, `<` and `>` escaped for XML.
 pub(crate) fn escaped(alloc: Global, raw: &str) -> Result<String, AllocError> {
     let mut text = String::new(alloc);
     add_escaped(raw, &mut text)?;
@@ -17,7 +16,6 @@ pub(crate) fn add_escaped(raw: &str, text: &mut String) -> Result<(), AllocError
     Ok(())
 }
 
-/// Appends a character, escaped if it is `&`, `<` or `>`.
 fn add_character(character: char, text: &mut String) -> Result<(), AllocError> {
     match character {
         '&' => text.push_str("&amp;"),
