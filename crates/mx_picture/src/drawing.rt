@@ -3,16 +3,15 @@
 ghost use Rattle.std.specs.Prelude.{◌<◌, length};
 ghost use Rattle.mx_commands.specs.Runs.{silent};
 
-use crate::omissions::{Subject, is_shown, pass_over, phase_after, subject_of};
+use crate::omissions::{change_phase, is_shown, pass_over};
 use crate::parcels::{draw_delivery, draw_sent};
 use crate::part::Part;
 use crate::sheet::Sheet;
 use crate::side::Side;
 use mx_commands::{Sink, newest};
-use mx_format::{EventText, Letter, OutcomeText, add_parcel};
-use mx_member::{Parcel, SentParcel};
+use mx_format::{EventText, Letter, OutcomeText};
 use mx_network::{Cluster, Entry, Event, Outcome};
-use mx_nodelaws::{Exclusion, Phase};
+use mx_nodelaws::Exclusion;
 use mx_plan::Plan;
 use mx_stamps::NodeId;
 use std::alloc::{AllocError, Global};
@@ -94,12 +93,13 @@ where
     let entry = newest(cluster.trace());
     if !is_shown(index, before, entry, cluster, drawing) {
         drawing.has_skipped |= !(drawing.part.only_letters && drawing.part.has_index(index));
-        return pass_over(plan, index, before, cluster, drawing);
+        pass_over(plan, index, entry, cluster, drawing)?;
+        return draw_sent(plan, cluster, before, &entry.event, false, drawing);
     }
     add_gap(drawing)?;
     drawing.sheet.begin(index)?;
     draw_event_at_node(plan, before, entry, cluster, drawing)?;
-    draw_sent(plan, cluster, before, &entry.event, drawing)?;
+    draw_sent(plan, cluster, before, &entry.event, true, drawing)?;
     drawing.sheet.next_row()
 }
 
@@ -123,16 +123,42 @@ fn draw_event_at_node<C: Exclusion>(
 where
     C::Msg: Letter,
 {
-    match subject_of(&entry.event) {
-        Subject::Parcel(number) => draw_delivery(plan, cluster, number, drawing),
-        Subject::Node(node) => {
+    match &entry.event {
+        Event::Deliver(number) => draw_delivery(plan, cluster, *number, drawing),
+        event => {
+            let node = event.node().unwrap_or_default();
             let side = side_of_act(cluster, node, before);
-            write_act(plan, entry, &mut drawing.label)?;
-            describe_section(&entry.outcome, drawing)?;
-            drawing.sheet.text(node, side, drawing.label.as_str())?;
-            draw_outcome(node, &entry.outcome, drawing)
+            draw_act(plan, node, side, entry, drawing)
         }
     }
+}
+
+/// Draws an event and its outcome. An entry has no dot: its place is taken by the number of the
+/// section.
+fn draw_act(
+    plan: &Plan,
+    node: NodeId,
+    side: Side,
+    entry: &Entry,
+    drawing: &mut Drawing,
+) -> Result<(), AllocError> {
+    let done = EventText {
+        plan,
+        event: &entry.event,
+    };
+    let outcome = OutcomeText(&entry.outcome);
+    drawing.label.clear();
+    write!(drawing.label, "{done}: {outcome}")?;
+    let label = drawing.label.as_str();
+    if let Outcome::Entered(_) | Outcome::Left(_) = entry.outcome {
+        drawing.sheet.describe(label)?;
+    }
+    drawing.sheet.text(node, side, label)?;
+    if !matches!(entry.outcome, Outcome::Entered(_)) {
+        let is_refused = matches!(entry.outcome, Outcome::Refused(_));
+        drawing.sheet.dot(node, is_refused, label)?;
+    }
+    change_phase(node, &entry.outcome, &mut drawing.sheet)
 }
 
 /// Returns the left if the event sent parcels, from `before` on, and all go to the right, so that no
@@ -153,68 +179,5 @@ fn side_of_act<C: Exclusion>(cluster: &Cluster<C>, node: NodeId, before: u64) ->
         Side::Left
     } else {
         Side::Right
-    }
-}
-
-fn write_act(plan: &Plan, entry: &Entry, label: &mut String) -> Result<(), AllocError> {
-    let done = EventText {
-        plan,
-        event: &entry.event,
-    };
-    let outcome = OutcomeText(&entry.outcome);
-    label.clear();
-    write!(label, "{done}: {outcome}")
-}
-
-pub(crate) fn write_parcel<M: Letter>(
-    plan: &Plan,
-    number: u64,
-    parcel: &Parcel<M>,
-    label: &mut String,
-) -> Result<(), AllocError> {
-    label.clear();
-    write!(label, "#{number} ")?;
-    add_parcel(plan, parcel, label)
-}
-
-pub(crate) fn write_end(
-    plan: &Plan,
-    word: &str,
-    node: NodeId,
-    label: &mut String,
-) -> Result<(), AllocError> {
-    let name = plan.node_name(node.get()).unwrap_or("");
-    write!(label, " {word} {name}")
-}
-
-pub(crate) fn write_route<M: Letter>(
-    plan: &Plan,
-    number: u64,
-    sent: &SentParcel<'_, M>,
-    label: &mut String,
-) -> Result<(), AllocError> {
-    write_parcel(plan, number, sent.parcel, label)?;
-    write_end(plan, "from", sent.from, label)?;
-    write_end(plan, "to", sent.to, label)
-}
-
-fn describe_section(outcome: &Outcome, drawing: &mut Drawing) -> Result<(), AllocError> {
-    match outcome {
-        Outcome::Entered(_) | Outcome::Left(_) => drawing.sheet.describe(drawing.label.as_str()),
-        _ => Ok(()),
-    }
-}
-
-/// Draws a dot, and the new phase if the phase changes. An entry has no dot: its place is taken by
-/// the number of the section.
-fn draw_outcome(node: NodeId, outcome: &Outcome, drawing: &mut Drawing) -> Result<(), AllocError> {
-    let title = drawing.label.as_str();
-    match phase_after(outcome) {
-        Some(Phase::Inside(number)) => drawing.sheet.enter(node, number),
-        Some(phase) => drawing.sheet.turn(node, phase, title),
-        None => {
-            let is_refused = matches!(outcome, Outcome::Refused(_));
-            drawing.sheet.dot(node, is_refused, title)
-        }
     }
 }

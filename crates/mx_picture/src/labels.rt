@@ -65,14 +65,6 @@ impl Label {
             self.side
         }
     }
-
-    fn add_to(&self, x: u64, side: Side, text: &mut String) -> Result<(), AllocError> {
-        let y = self.y;
-        let attributes = side.attributes();
-        write!(text, "<text{attributes} x=\"{x}\" y=\"{y}\" dy=\"4\">")?;
-        text.push_str(self.text.as_str())?;
-        text.push_str("</text>\n")
-    }
 }
 
 /// How far texts extend to the left and to the right of the first node's line, in pixels, without
@@ -106,7 +98,13 @@ pub(crate) fn add_labels(
         let x = columns.x_of(label.node);
         let side = label.free_side(x, segments);
         extent = extent.with(label, x, side);
-        label.add_to(x, side, text)?;
+        let attributes = side.attributes();
+        let y = label.y;
+        let shown = label.text.as_str();
+        write!(
+            text,
+            "<text{attributes} x=\"{x}\" y=\"{y}\" dy=\"4\">{shown}</text>\n"
+        )?;
     }
     Ok(extent)
 }

@@ -3,7 +3,7 @@
 ghost use Rattle.std.specs.Prelude.{◌≡◌};
 ghost use Rattle.mx_picture.specs.LettersOnly.{changes_phase, is_drawn, is_first_delivery, is_letter, is_original};
 
-use crate::flights::Flight;
+use crate::sheet::Flight;
 use mx_member::Parcel;
 use mx_network::{Event, Outcome};
 

@@ -1,4 +1,20 @@
-//! The lines of arrows, and the rectangles of texts that they may cross.
+//! The heights of rows, the lines of arrows, and the rectangles of texts that they may cross.
+
+ghost use Rattle.std.specs.Prelude.{◌≡◌, ◌≤◌, ◌*◌};
+
+/// The distance between two rows, in pixels.
+pub(crate) const ROW: u64 = 13;
+
+pub(crate) const MAX_ROWS: u64 = 1_000_000_000_000;
+
+/// Returns the height of this many rows, which is also the vertical position of the row of this
+/// number, in pixels.
+pub(crate) fn y_of(rows: u64) -> u64
+    requires { rows ≤ 1000000000000 }
+    ensures { result ≡ 13 * rows }
+{
+    ROW * rows
+}
 
 /// How far lines and rectangles are moved to the right, in pixels, so that no position left of the
 /// first node is negative.

@@ -4,13 +4,14 @@ ghost use Rattle.std.specs.Prelude.{◌<◌, ◌≤◌, IsTrue, length, nat_le};
 ghost use Rattle.std.specs.List.{list_all};
 
 use crate::arrows::End;
-use crate::flights::Flight;
+use crate::labels::Label;
 use crate::name_rows::{NAMED_ROWS, NameRow};
 use crate::phases::{Bar, PhaseSpan};
 use crate::route::Route;
-use crate::rows::{MAX_ROWS, y_of};
-use crate::shapes::Shapes;
+use crate::segment::{MAX_ROWS, y_of};
+use crate::shapes::{Dot, Shapes};
 use crate::side::Side;
+use crate::text::{add_escaped, escaped, width_of};
 use mx_nodelaws::Phase;
 use mx_stamps::{MAX_NODES, NodeId};
 use std::alloc::{AllocError, Global};
@@ -21,6 +22,18 @@ const LONG_ROWS: u64 = 26;
 
 /// An arrow is also long if the numbers of its two nodes differ by this much or more.
 const LONG_NODES: u8 = 6;
+
+/// A parcel that was sent: the row of its sending, and what else is known of it.
+#[derive(Clone, Copy)]
+pub(crate) struct Flight {
+    pub(crate) row: u64,
+    /// Whether the picture shows the sending.
+    pub(crate) is_shown: bool,
+    /// Whether the parcel is a letter that no tick sent.
+    pub(crate) is_original: bool,
+    /// Whether an event so far delivered the parcel.
+    pub(crate) is_delivered: bool,
+}
 
 /// The shapes of a picture, and what has to be known of the rows above.
 #[derive(Drop)]
@@ -34,7 +47,7 @@ pub(crate) struct Sheet {
     event: u64,
     index: u64,
     /// The parcels sent so far, by number.
-    flights: Vec<Flight>,
+    pub(crate) flights: Vec<Flight>,
     phases: [PhaseSpan; MAX_NODES as usize],
     ghost short: { row ≤ 1000000000000 },
     ghost present: { event ≤ row },
@@ -74,8 +87,13 @@ impl Sheet {
         self.event = self.row;
         self.index = index;
         let y = y_of(self.row);
-        self.shapes.add_guide(y, index)?;
-        self.shapes.add_index(y, Some(index))
+        if index % 10 == 0 {
+            self.shapes.guides.push(y)?;
+        }
+        write!(
+            self.shapes.indices,
+            "<text y=\"{y}\" dy=\"4\">{index}</text>\n"
+        )
     }
 
     fn repeat_names(&mut self) -> Result<(), AllocError> {
@@ -84,12 +102,13 @@ impl Sheet {
         }
         self.named = self.row;
         let row = NameRow::new(y_of(self.row), &self.phases);
-        self.shapes.add_names(row)?;
+        self.shapes.names.push(row)?;
         self.next_row()
     }
 
     pub(crate) fn skip(&mut self) -> Result<(), AllocError> {
-        self.shapes.add_index(y_of(self.row), None)?;
+        let y = y_of(self.row);
+        write!(self.shapes.indices, "<text y=\"{y}\" dy=\"4\">..</text>\n")?;
         self.next_row()
     }
 
@@ -104,22 +123,36 @@ impl Sheet {
         is_refused: bool,
         title: &str,
     ) -> Result<(), AllocError> {
-        let y = y_of(self.row);
-        self.shapes.add_dot(node, y, is_refused, title)
+        let title = escaped(self.shapes.alloc, title)?;
+        self.shapes.dots.push(Dot {
+            node,
+            y: y_of(self.row),
+            is_refused,
+            title,
+        })?;
+        Ok(())
     }
 
-    pub(crate) fn text(&mut self, node: NodeId, side: Side, text: &str) -> Result<(), AllocError> {
-        let y = y_of(self.row);
-        self.shapes.add_label(node, y, side, text)
+    pub(crate) fn text(&mut self, node: NodeId, side: Side, raw: &str) -> Result<(), AllocError> {
+        let text = escaped(self.shapes.alloc, raw)?;
+        self.shapes.lanes.add(node);
+        self.shapes.labels.push(Label {
+            node,
+            y: y_of(self.row),
+            side,
+            width: width_of(raw),
+            arrows: self.shapes.arrows.len(),
+            text,
+        })?;
+        Ok(())
     }
 
-    pub(crate) fn mark(&mut self, node: NodeId, side: Side, text: &str) -> Result<(), AllocError> {
-        self.dot(node, false, text)?;
-        self.text(node, side, text)
-    }
-
-    pub(crate) fn describe(&mut self, text: &str) -> Result<(), AllocError> {
-        self.shapes.describe(self.index, text)
+    /// Appends this text, about the current event, to the description of the picture.
+    pub(crate) fn describe(&mut self, raw: &str) -> Result<(), AllocError> {
+        let index = self.index;
+        write!(self.shapes.story, " {index} ")?;
+        add_escaped(raw, &mut self.shapes.story)?;
+        self.shapes.story.push('.')
     }
 
     pub(crate) fn send(&mut self, is_shown: bool, is_original: bool) -> Result<(), AllocError> {
@@ -136,13 +169,16 @@ impl Sheet {
         self.next_row()?;
         let y = y_of(self.event);
         let end = End::Loss(y_of(self.row - self.event));
-        self.shapes.add_piece(route, end, y, title)
+        self.shapes.add_arrow(route, end, y, title)
     }
 
-    pub(crate) fn arrow(
+    /// Notes that the parcel of this number is delivered now, and draws what is seen of its arrow.
+    /// `is_shown` says whether the picture shows the delivery.
+    pub(crate) fn arrive(
         &mut self,
         number: u64,
         route: Route,
+        is_shown: bool,
         title: &str,
     ) -> Result<(), AllocError> {
         let index = number as usize;
@@ -150,23 +186,22 @@ impl Sheet {
             return Ok(());
         }
         let flight = self.deliver(index);
-        if flight.is_shown {
-            self.join(flight, route, title)
-        } else {
-            let y = y_of(self.row);
-            let is_repeat = flight.is_delivered;
-            self.shapes
-                .add_piece(route, End::Delivery { is_repeat }, y, title)
-        }
-    }
-
-    fn join(&mut self, flight: Flight, route: Route, title: &str) -> Result<(), AllocError>
-        requires { flight.row ≤ self.old.row }
-    {
+        let is_repeat = flight.is_delivered;
         let y = y_of(flight.row);
-        let down = y_of(self.row - flight.row);
-        self.shapes
-            .add_arrow(route, flight.is_delivered, y, down, title)
+        match (flight.is_shown, is_shown) {
+            (true, true) => {
+                let down = y_of(self.row - flight.row);
+                self.shapes
+                    .add_arrow(route, End::Whole { is_repeat, down }, y, title)
+            }
+            (false, true) => {
+                let y = y_of(self.row);
+                self.shapes
+                    .add_arrow(route, End::Delivery { is_repeat }, y, title)
+            }
+            (true, false) if !is_repeat => self.shapes.add_arrow(route, End::Sending, y, title),
+            _ => Ok(()),
+        }
     }
 
     /// Returns whether the arrow of the parcel of this number, delivered in the current row, is
@@ -183,34 +218,12 @@ impl Sheet {
         }
     }
 
-    pub(crate) fn flights(&self) -> &[Flight] {
-        self.flights.as_slice()
-    }
-
     /// Returns whether only the start of a parcel's arrow is drawn, if its delivery now is not shown.
     pub(crate) fn is_cut(&self, number: u64) -> bool {
         match self.flights.get(number as usize) {
             Some(flight) => flight.is_shown && !flight.is_delivered,
             None => false,
         }
-    }
-
-    pub(crate) fn cut_off(
-        &mut self,
-        number: u64,
-        route: Route,
-        title: &str,
-    ) -> Result<(), AllocError> {
-        let index = number as usize;
-        if index >= self.flights.len() {
-            return Ok(());
-        }
-        let flight = self.deliver(index);
-        if !flight.is_shown || flight.is_delivered {
-            return Ok(());
-        }
-        self.shapes
-            .add_piece(route, End::Sending, y_of(flight.row), title)
     }
 
     /// Returns what was known of the parcel before.
@@ -220,10 +233,8 @@ impl Sheet {
     {
         let flight = self.flights[index];
         self.flights[index] = Flight {
-            row: flight.row,
-            is_shown: flight.is_shown,
-            is_original: flight.is_original,
             is_delivered: true,
+            ..flight
         };
         flight
     }
@@ -244,22 +255,13 @@ impl Sheet {
     fn end(&mut self, node: NodeId, span: PhaseSpan) -> Result<(), AllocError>
         requires { span.since ≤ self.old.row }
     {
-        self.shapes.add_bar(Bar {
+        self.shapes.bars.push(Bar {
             node,
             y: y_of(span.since),
             down: y_of(self.row - span.since),
             phase: span.phase,
-        })
-    }
-
-    pub(crate) fn turn(
-        &mut self,
-        node: NodeId,
-        phase: Phase,
-        title: &str,
-    ) -> Result<(), AllocError> {
-        self.dot(node, false, title)?;
-        self.change(node, phase)
+        })?;
+        Ok(())
     }
 
     pub(crate) fn close(&mut self) -> Result<(), AllocError> {

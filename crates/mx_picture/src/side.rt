@@ -1,6 +1,6 @@
 /// The place of a text: to the left or right of its node, or on that side beside the end of a lost
 /// parcel's arrow (in the air).
-#[derive(Clone, Copy, PartialEq, Eq)]
+#[derive(Clone, Copy)]
 pub(crate) enum Side {
     Left,
     Right,
@@ -9,18 +9,6 @@ pub(crate) enum Side {
 }
 
 impl Side {
-    pub(crate) fn after(is_left: bool) -> Side {
-        if is_left { Side::Left } else { Side::Right }
-    }
-
-    pub(crate) fn in_air(is_left: bool) -> Side {
-        if is_left {
-            Side::LeftInAir
-        } else {
-            Side::RightInAir
-        }
-    }
-
     pub(crate) fn other(self) -> Side {
         match self {
             Side::Left => Side::Right,
