@@ -24,7 +24,6 @@ use mx_nodelaws::Exclusion;
 use mx_plan::Plan;
 use std::alloc::{AllocError, Global};
 
-/// Where the events of a run come from.
 #[derive(Clone, Copy)]
 pub enum EventSource {
     /// A file lists them. The delivery of a parcel that was not sent is a fault.
@@ -34,18 +33,14 @@ pub enum EventSource {
     Drawn,
 }
 
-/// How counts are printed, and where their events come from.
 #[derive(Clone, Copy)]
 pub struct Options {
     pub source: EventSource,
-    /// Whether JSON is printed, in place of lines.
     pub is_json: bool,
     /// Whether only the numbers of events, sections and parcels are printed, and the verdict.
     pub is_brief: bool,
 }
 
-/// Runs the events by the plan's algorithm, and appends their counts and the verdict. Returns the
-/// exit status.
 pub(crate) fn add_counts_of(
     alloc: Global,
     plan: &Plan,
@@ -64,8 +59,6 @@ pub(crate) fn add_counts_of(
     )
 }
 
-/// Runs the events in this cluster, and appends their counts and the verdict. Returns the exit
-/// status.
 fn add_counts_after<C: Exclusion>(
     alloc: Global,
     plan: &Plan,
@@ -84,8 +77,6 @@ where
     add_counts(alloc, plan, &cluster, events.len() as u64, options, text)
 }
 
-/// Applies the events in order. A given event that is not possible is a fault; a drawn one is
-/// passed over.
 fn apply_events<C: Exclusion>(
     cluster: &mut Cluster<C>,
     events: &[Event],
@@ -99,7 +90,6 @@ fn apply_events<C: Exclusion>(
     }
 }
 
-/// Applies the events of a file in order. Fails at the first whose node or parcel does not exist.
 fn run_given<C: Exclusion>(cluster: &mut Cluster<C>, events: &[Event]) -> Result<(), CommandError>
     ensures { OnOk result (RunsTo C.core cluster.old events.now cluster.new) }
 {
@@ -110,7 +100,6 @@ fn run_given<C: Exclusion>(cluster: &mut Cluster<C>, events: &[Event]) -> Result
     }
 }
 
-/// Returns the error of the command for a run that stopped at an event.
 fn stop_at(stopped: RunFault) -> CommandError {
     match stopped.fault {
         StepFault::Memory => CommandError::Memory,
@@ -120,8 +109,6 @@ fn stop_at(stopped: RunFault) -> CommandError {
     }
 }
 
-/// Appends the counts of a cluster after `steps` events, those of its nodes, and the verdict.
-/// Returns the exit status.
 fn add_counts<C: Exclusion>(
     alloc: Global,
     plan: &Plan,
@@ -143,7 +130,6 @@ where
     Ok(verdict_status(verdict))
 }
 
-/// Appends the counts of a whole cluster after `steps` events.
 fn add_cluster<C: Exclusion>(
     alloc: Global,
     cluster: &Cluster<C>,
@@ -162,8 +148,6 @@ where
     add_counts_end(options.is_json, text)
 }
 
-/// Appends the numbers of events, sections and parcels: for given events in the form of `count`,
-/// for drawn ones in that of `explore`.
 fn add_first(
     options: Options,
     events: u64,
@@ -180,7 +164,6 @@ fn add_first(
     }
 }
 
-/// Appends the numbers of events, sections and parcels, in the form of `count`.
 fn add_head(
     is_json: bool,
     events: u64,
@@ -196,7 +179,6 @@ fn add_head(
     add_tally_line(is_json, "", "parcels", parcels, text)
 }
 
-/// Appends the numbers of steps, sections entered and parcels sent, in the form of `explore`.
 fn add_explored(
     is_json: bool,
     steps: u64,
@@ -217,7 +199,6 @@ fn add_explored(
     })
 }
 
-/// Begins a JSON object with the numbers of steps, sections entered and parcels sent.
 fn add_explored_members(
     steps: u64,
     entered: u64,
@@ -232,8 +213,6 @@ fn add_explored_members(
     add_number("sent", sent, text)
 }
 
-/// Appends the counts after those of events, sections and parcels, unless the options are brief.
-/// `entered` is the number of sections entered.
 fn add_details<C: Exclusion>(
     alloc: Global,
     cluster: &Cluster<C>,
@@ -252,8 +231,6 @@ where
     add_tallies(alloc, cluster, options.is_json, entered, text)
 }
 
-/// Appends the counts of parcels and of refusals, and how long requests took. `entered` is the
-/// number of sections entered.
 fn add_tallies<C: Exclusion>(
     alloc: Global,
     cluster: &Cluster<C>,
@@ -274,7 +251,6 @@ where
     add_times(alloc, cluster, is_json, text)
 }
 
-/// Appends the longest wait, the response time and the synchronization delay.
 fn add_times<C: Exclusion>(
     alloc: Global,
     cluster: &Cluster<C>,
@@ -290,7 +266,6 @@ fn add_times<C: Exclusion>(
     add_measure(alloc, cluster, is_json, Measure::Delay, text)
 }
 
-/// Appends the counts of the nodes, unless the counts are brief.
 fn add_nodes<C: Exclusion>(
     plan: &Plan,
     cluster: &Cluster<C>,

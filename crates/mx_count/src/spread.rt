@@ -11,7 +11,6 @@ use mx_network::Cluster;
 use mx_nodelaws::Exclusion;
 use std::alloc::{AllocError, Global};
 
-/// Appends the name of a measure, and the least, the mean and the greatest of its times in letters.
 pub(crate) fn add_measure<C: Exclusion>(
     alloc: Global,
     cluster: &Cluster<C>,
@@ -28,7 +27,6 @@ pub(crate) fn add_measure<C: Exclusion>(
     add_value_end(is_json, text)
 }
 
-/// Returns the name of a measure.
 fn measure_name(measure: Measure) -> &'static str
     ensures { result.now ≡ measure_name measure }
 {
@@ -38,7 +36,6 @@ fn measure_name(measure: Measure) -> &'static str
     }
 }
 
-/// Appends the least, the mean and the greatest of numbers, or that there are none.
 fn add_numbers(is_json: bool, numbers: &[u64], text: &mut String) -> Result<(), AllocError>
     ensures { OnOk result (string_bytes text.new
         ≡ string_bytes text.old ++ numbers_text is_json numbers.now) }
@@ -49,7 +46,6 @@ fn add_numbers(is_json: bool, numbers: &[u64], text: &mut String) -> Result<(), 
     add_spread(is_json, *first, rest, text)
 }
 
-/// Appends the least, the mean and the greatest of a number and others.
 fn add_spread(is_json: bool, first: u64, rest: &[u64], text: &mut String) -> Result<(), AllocError>
     ensures { OnOk result (string_bytes text.new
         ≡ string_bytes text.old ++ spread_text is_json first rest.now) }
@@ -60,14 +56,12 @@ fn add_spread(is_json: bool, first: u64, rest: &[u64], text: &mut String) -> Res
     add_measure_end(is_json, text)
 }
 
-/// Returns the text before the least number.
 fn least_start(is_json: bool) -> &'static str
     ensures { result.now ≡ least_start is_json }
 {
     if is_json { "{\"least\":" } else { "least " }
 }
 
-/// Appends the mean of a number and others.
 fn add_mean(is_json: bool, first: u64, rest: &[u64], text: &mut String) -> Result<(), AllocError>
     ensures { OnOk result (string_bytes text.new ≡ string_bytes text.old
         ++ (mean_start is_json ++ quotient_text (sum_from first rest.now) (length rest.now + 1))) }
@@ -76,14 +70,12 @@ fn add_mean(is_json: bool, first: u64, rest: &[u64], text: &mut String) -> Resul
     add_quotient(sum_of(first, rest), rest.len() as u64 + 1, text)
 }
 
-/// Returns the text before the mean.
 fn mean_start(is_json: bool) -> &'static str
     ensures { result.now ≡ mean_start is_json }
 {
     if is_json { ",\"mean\":" } else { ", mean " }
 }
 
-/// Returns the text before the greatest number.
 fn greatest_start(is_json: bool) -> &'static str
     ensures { result.now ≡ greatest_start is_json }
 {
@@ -94,7 +86,6 @@ fn greatest_start(is_json: bool) -> &'static str
     }
 }
 
-/// Ends the object of a measure.
 fn add_measure_end(is_json: bool, text: &mut String) -> Result<(), AllocError>
     ensures { OnOk result (string_bytes text.new ≡ string_bytes text.old ++ measure_end is_json) }
 {
@@ -104,7 +95,6 @@ fn add_measure_end(is_json: bool, text: &mut String) -> Result<(), AllocError>
     Ok(())
 }
 
-/// Returns the least of a number and others.
 fn least_of(first: u64, rest: &[u64]) -> u64
     ensures { result ≡ least_from first rest.now }
 {
@@ -115,7 +105,6 @@ fn least_of(first: u64, rest: &[u64]) -> u64
     least
 }
 
-/// Returns the greatest of a number and others.
 fn greatest_of(first: u64, rest: &[u64]) -> u64
     ensures { result ≡ greatest_from first rest.now }
 {
@@ -126,7 +115,6 @@ fn greatest_of(first: u64, rest: &[u64]) -> u64
     greatest
 }
 
-/// Returns the sum of a number and others.
 fn sum_of(first: u64, rest: &[u64]) -> u128
     ensures { result ≡ sum_from first rest.now }
 {

@@ -1,5 +1,3 @@
-//! Why there is no verdict.
-
 use crate::faults::TraceFault;
 use mx_cli::CommandError;
 

@@ -13,12 +13,6 @@ use mx_stamps::{NodeId, Stamp};
 use mx_trace::{Cause, Outcome};
 use serde_json::Value;
 
-/// Reads the outcome of `event` from its JSON object: a refusal, or the outcome of this kind of
-/// event if it is not refused.
-///
-/// # Errors
-///
-/// Returns `Wrong` with the first member that is missing or wrong.
 pub(crate) fn outcome_in(event: &Event, value: &Value) -> Result<Outcome, ItemFault>
     ensures { result ≡ spec.outcome_of event.now (view value.now) }
 {
@@ -32,7 +26,6 @@ pub(crate) fn outcome_in(event: &Event, value: &Value) -> Result<Outcome, ItemFa
     Err(ItemFault::Wrong(Member::Outcome))
 }
 
-/// Returns the first word of the outcome of an event that was not refused.
 fn word_of_done(kind: EventKind) -> &'static str
     ensures { result.now ≡ spec.word_of_done kind }
 {
@@ -50,7 +43,6 @@ fn word_of_done(kind: EventKind) -> &'static str
     }
 }
 
-/// Reads the outcome of an event that was not refused.
 fn done(event: &Event, value: &Value) -> Result<Outcome, ItemFault>
     ensures { result ≡ spec.done event.now (view value.now) }
 {
@@ -70,7 +62,6 @@ fn done(event: &Event, value: &Value) -> Result<Outcome, ItemFault>
     }
 }
 
-/// Reads the outcome of an ask: the stamp of this node's request.
 fn asked(node: NodeId, value: &Value) -> Result<Outcome, ItemFault>
     ensures { result ≡ spec.asked node (view value.now) }
 {
@@ -78,8 +69,7 @@ fn asked(node: NodeId, value: &Value) -> Result<Outcome, ItemFault>
     Ok(Outcome::Asked(Stamp { number, node }))
 }
 
-/// Reads the outcome of a leave. Its receipt has no reads and no writes, since the judge does not
-/// use them.
+/// The receipt has no reads and no writes, since the judge does not use them.
 fn left(node: NodeId, value: &Value) -> Result<Outcome, ItemFault>
     ensures { result ≡ spec.left node (view value.now) }
 {
@@ -92,14 +82,12 @@ fn left(node: NodeId, value: &Value) -> Result<Outcome, ItemFault>
     }))
 }
 
-/// Reads a refusal, by its cause.
 fn refusal(value: &Value) -> Result<Outcome, ItemFault>
     ensures { result ≡ spec.refusal (view value.now) }
 {
     Ok(Outcome::Refused(cause_in(value)?))
 }
 
-/// Reads the cause of a refusal. The causes `gap` and `below` have a number.
 fn cause_in(value: &Value) -> Result<Cause, ItemFault>
     ensures { result ≡ spec.cause_in (view value.now) }
 {

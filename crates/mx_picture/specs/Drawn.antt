@@ -14,8 +14,6 @@ use Rattle.mx_io.specs.Outputs.{Held}
 use Rattle.mx_picture.specs.declared.opening.Corner.{Corner}
 use Rattle.mx_picture.specs.declared.opening.Size.{Size}
 
--- ---- the first line
-
 abbrev pub size_text : Size → Text
 size_text size =
     codes "width=\"" ++ decimal size.width ++ codes "\" height=\"" ++ decimal size.height
@@ -33,8 +31,6 @@ abbrev pub opening_line : Corner → Size → Text
 opening_line corner size =
     codes "<svg xmlns=\"http://www.w3.org/2000/svg\" role=\"img\" " ++ size_text size ++ codes " "
     ++ view_text corner size ++ codes ">\n"
-
--- ---- the title
 
 abbrev pub algorithm_name : Shape → Text
 algorithm_name (Ricart count) = codes "Ricart and Agrawala's"
@@ -57,8 +53,6 @@ title_end events = codes ", events: " ++ decimal events ++ codes "</title>\n"
 abbrev pub title_line : Fields → ℕ → Text
 title_line p events =
     title_start (algorithm_name p.shape) ++ names_text p ++ title_end events
-
--- ---- the whole picture
 
 -- a picture of a run of this many events: its first line opens it, its second is its title, and its
 -- last closes it

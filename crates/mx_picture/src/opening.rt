@@ -9,7 +9,6 @@ use mx_stamps::{MAX_NODES, NodeId};
 use std::alloc::AllocError;
 use std::fmt;
 
-/// The first line of a picture.
 #[derive(Clone, Copy)]
 pub(crate) struct OpeningLine {
     pub(crate) corner: Corner,
@@ -81,8 +80,7 @@ impl fmt::Display for View {
     }
 }
 
-/// Appends the title: the algorithm, the names of the nodes, and the number of events. Names need
-/// no escapes: a plan allows no character in them that XML escapes.
+/// Appends the title. Names need no escapes: a plan allows no character in them that XML escapes.
 pub(crate) fn add_title_line(plan: &Plan, events: u64, text: &mut String) -> Result<(), AllocError>
     ensures { OnOk result (string_bytes text.new
         ≡ string_bytes text.old ++ title_line plan.now events) }
@@ -92,7 +90,6 @@ pub(crate) fn add_title_line(plan: &Plan, events: u64, text: &mut String) -> Res
     text.write(TitleEnd(events))
 }
 
-/// The title up to the names of the nodes, with the name of the algorithm.
 #[derive(Clone, Copy)]
 struct TitleStart<'a>(&'a str);
 
@@ -104,7 +101,6 @@ impl fmt::Display for TitleStart<'_> {
     }
 }
 
-/// The title after the names of the nodes, with the number of events.
 #[derive(Clone, Copy)]
 struct TitleEnd(u64);
 
@@ -116,7 +112,6 @@ impl fmt::Display for TitleEnd {
     }
 }
 
-/// Returns the name of the plan's algorithm, in the form `Maekawa's`.
 pub(crate) fn algorithm_of(plan: &Plan) -> &'static str
     ensures { result.now ≡ algorithm_name plan.now.shape }
 {
@@ -127,7 +122,6 @@ pub(crate) fn algorithm_of(plan: &Plan) -> &'static str
     }
 }
 
-/// Appends the names of all nodes, each after a space.
 fn add_names(plan: &Plan, text: &mut String) -> Result<(), AllocError>
     ensures { OnOk result (string_bytes text.new ≡ string_bytes text.old ++ names_text plan.now) }
 {
@@ -137,7 +131,6 @@ fn add_names(plan: &Plan, text: &mut String) -> Result<(), AllocError>
     Ok(())
 }
 
-/// Appends a space and the name of node `i`.
 fn add_name(plan: &Plan, i: u8, text: &mut String) -> Result<(), AllocError>
     requires { i < MAX_NODES }
     ensures { OnOk result (string_bytes text.new ≡ string_bytes text.old ++ name_text plan.now i) }

@@ -17,7 +17,6 @@ use mx_nodelaws::Exclusion;
 use mx_stamps::{MAX_NODES, NodeId};
 use std::alloc::{AllocError, Global};
 
-/// Appends the lines of the nodes that are shown and of the verdict. Returns the verdict.
 pub(crate) fn add_closing<C: Exclusion + Knowledge>(
     alloc: Global,
     selection: &Selection<'_>,
@@ -36,7 +35,6 @@ pub(crate) fn add_closing<C: Exclusion + Knowledge>(
     Ok(verdict)
 }
 
-/// Appends the lines of the nodes that are shown.
 fn add_nodes<C: Exclusion + Knowledge>(
     alloc: Global,
     selection: &Selection<'_>,
@@ -55,7 +53,6 @@ fn add_nodes<C: Exclusion + Knowledge>(
     Ok(())
 }
 
-/// Appends the lines of the node of this index, if the node is shown.
 fn add_node<C: Exclusion + Knowledge>(
     alloc: Global,
     selection: &Selection<'_>,
@@ -79,7 +76,6 @@ fn add_node<C: Exclusion + Knowledge>(
     }
 }
 
-/// Appends the lines of a node, if the node is shown.
 fn add_member<C: Exclusion + Knowledge>(
     alloc: Global,
     selection: &Selection<'_>,
@@ -96,7 +92,6 @@ fn add_member<C: Exclusion + Knowledge>(
     add_shown(alloc, selection, node, member, text)
 }
 
-/// Appends the JSON object of a node, or its lines.
 fn add_shown<C: Exclusion + Knowledge>(
     alloc: Global,
     selection: &Selection<'_>,
@@ -113,7 +108,6 @@ fn add_shown<C: Exclusion + Knowledge>(
     add_lines(alloc, selection, node, member, text)
 }
 
-/// Appends the line of a node, and, if it is asked for, the line of what the node knows.
 fn add_lines<C: Exclusion + Knowledge>(
     alloc: Global,
     selection: &Selection<'_>,
@@ -129,7 +123,6 @@ fn add_lines<C: Exclusion + Knowledge>(
     add_state(alloc, selection, member, text)
 }
 
-/// Appends the line of what a node knows, if the view asks for it.
 fn add_state<C: Exclusion + Knowledge>(
     alloc: Global,
     selection: &Selection<'_>,

@@ -1,4 +1,4 @@
-//! `check` with `--json`, with its file read from a source and its texts printed to two outputs.
+//! `check` with `--json`.
 
 ghost use Rattle.std.specs.Prelude.{◌≡◌, ◌++◌, true, IsSome, IfSome, IfOk, OnOk, string_bytes};
 ghost use Rattle.std.specs.Io.KnownBytes.{Appends};
@@ -18,12 +18,7 @@ use mx_plan::Plan;
 use std::alloc::{AllocError, Global};
 
 /// Runs `check` with `--json`. `words` is the command line without the program's name. Returns the
-/// exit status:
-///
-/// - 0 on success, or if help was requested;
-/// - 1 for an error in the plan, a file or an output;
-/// - 2 for wrong arguments;
-/// - 5 if memory ran out.
+/// exit status.
 pub fn check_objects<S: Source, O: Output, E: Output>(
     alloc: Global,
     words: &[&str],
@@ -47,8 +42,6 @@ pub fn check_objects<S: Source, O: Output, E: Output>(
     }
 }
 
-/// Prints what `request` asks for, then flushes `out` and reports an error as `close` does. Returns
-/// the exit status.
 fn check_and_close<S: Source, O: Output, E: Output>(
     alloc: Global,
     request: &PlanRequest<'_>,
@@ -66,7 +59,6 @@ fn check_and_close<S: Source, O: Output, E: Output>(
     close(alloc, ended, &request.names(), out, err)
 }
 
-/// Reads a plan, and prints its JSON objects. Returns the exit status.
 fn check_plan<S: Source, O: Output>(
     alloc: Global,
     request: &PlanRequest<'_>,
@@ -81,8 +73,6 @@ fn check_plan<S: Source, O: Output>(
     print_objects(alloc, &plan, request.has_asks, out)
 }
 
-/// Prints the JSON objects of a plan, and, if `has_asks`, those that say which nodes each node
-/// asks. Returns the exit status.
 fn print_objects<O: Output>(
     alloc: Global,
     plan: &Plan,
@@ -98,8 +88,6 @@ fn print_objects<O: Output>(
     print(text.as_bytes(), out)
 }
 
-/// Appends the JSON objects of a plan, and, if `has_asks`, those that say which nodes each node
-/// asks.
 fn add_objects(plan: &Plan, has_asks: bool, text: &mut String) -> Result<(), AllocError>
     ensures { OnOk result (string_bytes text.new
         ≡ string_bytes text.old ++ objects_of has_asks plan.now) }
@@ -110,7 +98,6 @@ fn add_objects(plan: &Plan, has_asks: bool, text: &mut String) -> Result<(), All
     add_plan_json(plan, text)
 }
 
-/// Appends the JSON objects of a plan, and those that say which nodes each node asks.
 fn add_all_objects(plan: &Plan, text: &mut String) -> Result<(), AllocError>
     ensures { OnOk result (string_bytes text.new
         ≡ string_bytes text.old ++ plan_asks_text_by true plan.now) }

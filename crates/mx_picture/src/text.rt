@@ -1,7 +1,28 @@
-//! The widths of texts in Helvetica or Arial.
+//! Texts in an SVG: their escapes, and their widths in Helvetica or Arial.
+
+use std::alloc::{AllocError, Global};
 
 /// The height of texts, in pixels.
 const HEIGHT: u64 = 12;
+
+/// Returns a text with each `&`, `<` and `>` escaped for XML.
+pub(crate) fn escaped(alloc: Global, raw: &str) -> Result<String, AllocError> {
+    let mut text = String::new(alloc);
+    add_escaped(raw, &mut text)?;
+    Ok(text)
+}
+
+pub(crate) fn add_escaped(raw: &str, text: &mut String) -> Result<(), AllocError> {
+    for character in raw.chars() {
+        match character {
+            '&' => text.push_str("&amp;")?,
+            '<' => text.push_str("&lt;")?,
+            '>' => text.push_str("&gt;")?,
+            _ => text.push(character)?,
+        }
+    }
+    Ok(())
+}
 
 /// Returns the width of a text, in whole pixels, rounded up.
 pub(crate) fn width_of(text: &str) -> u64 {
