@@ -13,7 +13,7 @@ use Rattle.mx_commands.specs.Jobs.{HoldsOfReport, job_of, names_in}
 use Rattle.mx_commands.specs.Ran.{end_text, status_of}
 use Rattle.mx_cli.specs.Closed.{FallsShort}
 use Rattle.mx_scripts.specs.Ended.{ScriptsOf}
-use Rattle.mx_diagnostics.specs.Reports.{AreShown, last_line, nothing_at_fault}
+use Rattle.mx_explain.specs.Reports.{AreShown, last_line, nothing_at_fault}
 use Rattle.mx_explain.specs.Asked.{ExplainRequest, run, script}
 
 -- the status is that of this report, and standard error got the line of its fault, if it has one

@@ -1,4 +1,4 @@
-//! The replay that is explained, and the warnings of its run.
+//! The replay that is explained, and what it notes.
 
 ghost use Rattle.std.specs.Prelude.{◌≡◌, None, IfOk, true};
 ghost use Rattle.mx_cli.specs.Words.{names_of};
@@ -6,12 +6,13 @@ ghost use Rattle.mx_cli.specs.Words as wants;
 ghost use Rattle.mx_commands.specs.Jobs.{report_of_events};
 ghost use Rattle.mx_commands.specs.Ran.{Ran, RanOf};
 ghost use Rattle.mx_commands.specs.Runs.{silent};
-ghost use Rattle.mx_diagnostics.specs.Reports.{IsLonger};
 
-use crate::warnings::Warnings;
+use crate::location::Part;
+use crate::notes::Notes;
+use crate::path::offset_of;
+use crate::report::Report;
 use mx_cli::{CommandError, Fault, Names, fetch_both};
 use mx_commands::{Sink, observe};
-use mx_diagnostics::{EventOffsets, FileReport, Report};
 use mx_events::Event;
 use mx_io::Source;
 use mx_knowledge::Knowledge;
@@ -21,17 +22,17 @@ use mx_plan::{Plan, read_events};
 use std::alloc::{AllocError, Global};
 use std::fmt;
 
-/// The warnings of a replay: which events are refused, and which parcel was not sent.
+/// What a replay notes: which events are refused, and which parcel was not sent.
 #[derive(Drop)]
-pub(crate) struct ReplayWarnings {
-    refused: Warnings,
+pub(crate) struct ReplayNotes {
+    refused: Notes,
     /// How many parcels were sent.
     sent: u64,
     /// The event that ends the run, if it delivers a parcel that was not sent.
     unsent: Option<Unsent>,
 }
 
-impl<C: Exclusion + Knowledge> Sink<Cluster<C>> for ReplayWarnings {
+impl<C: Exclusion + Knowledge> Sink<Cluster<C>> for ReplayNotes {
     ghost texts = { λ _ _. silent };
 
     fn event(
@@ -57,11 +58,10 @@ impl<C: Exclusion + Knowledge> Sink<Cluster<C>> for ReplayWarnings {
     }
 }
 
-impl ReplayWarnings {
-    /// Creates the warnings of a replay before its first event.
+impl ReplayNotes {
     pub(crate) fn new(alloc: Global) -> Self {
-        ReplayWarnings {
-            refused: Warnings::new(alloc),
+        ReplayNotes {
+            refused: Notes::new(alloc),
             sent: 0,
             unsent: None,
         }
@@ -81,40 +81,19 @@ impl ReplayWarnings {
         }
     }
 
-    /// Returns whether no event was refused, and none delivers a parcel that was not sent.
-    fn is_empty(&self) -> bool {
-        self.refused.shown().is_empty() && self.unsent.is_none()
-    }
-
-    /// Adds all warnings to a report. They have their places in `text`, the text of the events,
-    /// which is the end of the file, after `above` lines.
-    pub(crate) fn explain<'a>(
-        &self,
-        report: &mut Report,
-        file: &'a str,
-        text: &'a [u8],
-        above: usize,
-    ) -> Result<(), AllocError>
-        ensures { IsLonger report.old report.new }
-    {
-        if self.is_empty() {
-            return Ok(());
+    /// Reports all notes, each at its event in the text of the events.
+    pub(crate) fn explain(&self, report: &mut Report, part: &Part<'_>) -> Result<(), AllocError> {
+        for note in &self.refused.kept {
+            let offset = offset_of(report.alloc(), part.text, &[note.number as usize])?;
+            report.warn_at(part, offset, note.text.as_str())?;
         }
-        let mut lines = FileReport::new(report.alloc(), file);
-        lines.look_at(text, above);
-        let offsets = EventOffsets::read(report.alloc(), text)?;
-        self.add_to(&mut lines, &offsets)?;
-        report.add(lines)
-    }
-
-    /// Adds all warnings to the lines of a file, each at its event.
-    fn add_to(&self, lines: &mut FileReport<'_>, offsets: &EventOffsets) -> Result<(), AllocError> {
-        for warning in self.refused.shown() {
-            lines.warn_at(offsets.event(warning.number), warning.text.as_str())?;
-        }
-        lines.count_warnings(self.refused.more());
+        report.count(part.file, self.refused.more)?;
         match self.unsent {
-            Some(unsent) => lines.fault_at(offsets.argument(unsent.index), unsent),
+            Some(unsent) => {
+                let indices = [unsent.index as usize, 1];
+                let offset = offset_of(report.alloc(), part.text, &indices)?;
+                report.fault_at(part, offset, unsent)
+            }
             None => Ok(()),
         }
     }
@@ -127,14 +106,14 @@ pub(crate) fn replay<S: Source>(
     alloc: Global,
     names: &Names<'_>,
     source: &mut S,
-    warnings: &mut ReplayWarnings,
+    notes: &mut ReplayNotes,
 ) -> Result<u8, CommandError>
     ensures ran { RanOf true None None (S.told source.old) (wants.replay (names_of names.now))
         result }
     ensures zero { IfOk result (λ status. status ≡ 0) }
 {
     let both = fetch_both(alloc, source, names)?;
-    replay_events(alloc, &both.plan, both.text.as_slice(), warnings)
+    replay_events(alloc, &both.plan, both.text.as_slice(), notes)
 }
 
 /// Reads the events in `text`, and replays them in the cluster of the plan. Ends as `replay` does.
@@ -142,16 +121,16 @@ fn replay_events(
     alloc: Global,
     plan: &Plan,
     text: &[u8],
-    warnings: &mut ReplayWarnings,
+    notes: &mut ReplayNotes,
 ) -> Result<u8, CommandError>
     ensures ran { Ran true None None (report_of_events text.now plan.now) result }
     ensures zero { IfOk result (λ status. status ≡ 0) }
 {
     let events = read_events(alloc, text, plan)?;
-    match observe(alloc, plan, events.as_slice(), warnings) {
+    match observe(alloc, plan, events.as_slice(), notes) {
         Ok(()) => Ok(0),
         Err(error) => {
-            warnings.note_end(events.as_slice(), &error);
+            notes.note_end(events.as_slice(), &error);
             Err(error)
         }
     }
