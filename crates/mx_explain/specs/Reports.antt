@@ -1,5 +1,5 @@
 -- The lines of a report, and its text.
-use Rattle.std.specs.Prelude.{◌≡◌, ◌==◌, ◌||◌, ◌++◌, ◌⊎◌, ℕ, Bool, true, false, List, [], ◌∷◌, Option, IfSome, codes, if◌then◌else◌}
+use Rattle.std.specs.Prelude.{◌≡◌, ◌==◌, ◌||◌, ◌++◌, ◌⊎◌, ℕ, Bool, true, false, List, [], ◌∷◌, codes, if◌then◌else◌}
 use Rattle.mx_plan.specs.Text.{Text}
 use Rattle.mx_lines.specs.Escapes.{ArePrintable, IsPrintable, shown}
 
@@ -24,13 +24,9 @@ abbrev pub lines_text : List Text → Text
 lines_text [] = []
 lines_text (l ∷ ls) = l ++ 10 ∷ lines_text ls
 
--- the text is a line about this file, and a line feed; if the message is known, the line is the
--- file, a colon and the message, with control characters escaped
-pub record IsLineOf (file : Text) (message : Option Text) (text : Text) : Type 0 where
-  pub line : Text
-  pub is_line : IsLine line
-  pub ended : text ≡ line ++ 10 ∷ []
-  pub said : IfSome message (λ m. line ≡ shown file ++ codes ":" ++ shown m)
+-- a line of a report: the file, a colon and the message, with control characters escaped
+abbrev pub line_text : Text → Text → Text
+line_text file message = shown file ++ codes ":" ++ shown message
 
 -- ---- reports
 
@@ -41,10 +37,8 @@ pub record IsReport (text : Text) : Type 0 where
   pub are : text ≡ lines_text lines
 
 -- a line about this file is added, and the earlier ones stay
-pub record AddsLine (file : Text) (message : Option Text) (old new : Text) : Type 0 where
-  pub added : Text
-  pub line : IsLineOf file message added
-  pub longer : new ≡ old ++ added
+abbrev pub AddsLine : Text → Text → Text → Text → Type 0
+AddsLine file message old new = new ≡ old ++ line_text file message ++ 10 ∷ []
 
 -- ---- texts
 

@@ -1,11 +1,10 @@
 //! Where a text stops being JSON.
 
-use crate::location::{Location, Part};
+use crate::location::Part;
 use crate::report::Report;
-use json::{Reader, Scratch, Token, Value, is_number};
-use std::alloc::{AllocError, AllocFailed, Global};
-use std::fmt;
-use std::fmt::Display;
+use arrayvec::ArrayVec;
+use json::{Scratch, Value, is_valid};
+use std::alloc::{AllocError, Global};
 
 /// The greatest number of brackets that may be open at once.
 const MAX_DEPTH: usize = 127;
@@ -16,58 +15,49 @@ const MAX_SHOWN: usize = 24;
 const STRING: &str =
     "a text in one line without control characters, each \\ of which begins an escape of a whole character";
 
-/// Why a text is not JSON. A number is a byte of the text.
+/// Why a text is not JSON.
 #[derive(Clone, Copy)]
-enum JsonFault {
-    /// Something else is expected here.
-    Misfit(usize, &'static str),
-    /// What is said in these words stands here.
-    Stands(usize, &'static str),
-    /// The text ends before what opens here is closed, or has no value at all.
-    Cut(Option<usize>),
-    Memory,
+enum Cause {
+    /// This is expected here.
+    Expected(&'static str),
+    /// What these words say stands here.
+    Stands(&'static str),
+    /// The text ends here, before what opens at this byte is closed.
+    Cut(usize),
 }
 
-impl From<AllocError> for JsonFault {
-    fn from(_e: AllocError) -> JsonFault {
-        JsonFault::Memory
-    }
-}
-
-impl<T: Drop> From<AllocFailed<T>> for JsonFault {
-    fn from(_e: AllocFailed<T>) -> JsonFault {
-        JsonFault::Memory
-    }
+/// The byte of a text at which it stops being JSON.
+#[derive(Clone, Copy)]
+struct BadToken {
+    offset: usize,
+    cause: Cause,
 }
 
 /// Reports the first token by which a text is not JSON.
 pub(crate) fn report_bad_token(report: &mut Report, part: &Part<'_>) -> Result<(), AllocError> {
+    let alloc = report.alloc();
     let (text, is_utf8) = valid_start(part.text);
-    let fault = match read_tokens(report.alloc(), text) {
-        Err(JsonFault::Memory) => return Err(AllocError),
-        Ok(()) | Err(JsonFault::Cut(_)) if !is_utf8 => {
-            JsonFault::Stands(text.len(), "bytes that are not UTF-8 stand here")
-        }
-        Ok(()) => return Ok(()),
-        Err(fault) => fault,
+    let bad = match first_bad_token(alloc, text)? {
+        Some(bad) if is_utf8 || bad.offset < text.len() => bad,
+        None if is_utf8 => return Ok(()),
+        _ => BadToken {
+            offset: text.len(),
+            cause: Cause::Stands("bytes that are not UTF-8 stand here"),
+        },
     };
-    match fault {
-        JsonFault::Misfit(offset, expected) => {
-            let rest = rest_of(text, offset).lines().next().unwrap_or("");
-            report.fault_at(part, offset, NotJson::Misfit(expected, rest))
+    let said = match bad.cause {
+        Cause::Expected(expected) => {
+            let rest = shown_of(rest_of(text, bad.offset));
+            format!(in alloc; "expected {expected} where this stands: {rest}")?
         }
-        JsonFault::Stands(offset, words) => report.fault_at(part, offset, NotJson::Stands(words)),
-        JsonFault::Cut(None) => report.fault_at(
-            part,
-            text.len(),
-            NotJson::Stands("the text ends here, expected a value"),
-        ),
-        JsonFault::Cut(Some(opened)) => {
+        Cause::Stands(words) => String::from_str(alloc, words)?,
+        Cause::Cut(opened) => {
             let opened = part.location(opened);
-            report.fault_at(part, text.len(), NotJson::Cut(opened))
+            format!(in alloc; "the text ends here, and what opens at {opened} is not closed")?
         }
-        JsonFault::Memory => Err(AllocError),
-    }
+    };
+    let message = format!(in alloc; " not JSON: {}", said.as_str())?;
+    report.add_at(part, bad.offset, message.as_str())
 }
 
 /// Returns the longest prefix that is UTF-8, and whether that is the whole text.
@@ -81,39 +71,20 @@ fn valid_start(text: &[u8]) -> (&str, bool) {
     }
 }
 
-/// The message that a text is not JSON.
-#[derive(Clone, Copy)]
-enum NotJson<'a> {
-    /// These words are expected in place of the rest of the line.
-    Misfit(&'static str, &'a str),
-    Stands(&'static str),
-    Cut(Location),
+/// Returns the first line of a text, as far as it is shown.
+fn shown_of(text: &str) -> &str {
+    let line = text.lines().next().unwrap_or("");
+    if line.is_empty() {
+        return "the end of the line";
+    }
+    match line.char_indices().nth(MAX_SHOWN) {
+        Some((end, _)) => line.get(..end).unwrap_or(line),
+        None => line,
+    }
 }
 
-impl Display for NotJson<'_> {
-    fn fmt<W: fmt::Write>(&self, f: &mut fmt::Formatter<W>) -> fmt::Result {
-        f.write_str(" not JSON: ")?;
-        match self {
-            NotJson::Misfit(expected, "") => {
-                write!(
-                    f,
-                    "expected {expected} where this stands: the end of the line"
-                )
-            }
-            NotJson::Misfit(expected, rest) => {
-                write!(f, "expected {expected} where this stands: ")?;
-                for character in rest.chars().take(MAX_SHOWN) {
-                    f.write_char(character)?;
-                }
-                Ok(())
-            }
-            NotJson::Stands(words) => f.write_str(words),
-            NotJson::Cut(opened) => write!(
-                f,
-                "the text ends here, and what opens at {opened} is not closed"
-            ),
-        }
-    }
+fn rest_of(text: &str, offset: usize) -> &str {
+    text.get(offset..).unwrap_or("")
 }
 
 /// What may come next in a text.
@@ -123,268 +94,175 @@ enum Next {
     ValueOrSquare,
     Key,
     KeyOrCurly,
-    /// What comes after a value: a comma or a closing bracket, or the end of the text.
+    Colon,
+    /// A comma or a closing bracket, or the end of the text.
     AfterValue,
 }
 
-#[derive(Clone, Copy, PartialEq, Eq)]
-enum Bracket {
-    Square,
-    Curly,
-}
-
-/// How far the tokens of a text were read.
+/// How far a text was read.
 #[derive(Drop)]
-struct TokenReader<'a> {
-    text: &'a str,
-    /// The brackets that are open and their bytes, the outermost first.
-    open: Vec<(Bracket, usize)>,
+struct Scanner {
     next: Next,
+    /// The brackets that are open and their bytes, the outermost first.
+    open: ArrayVec<(u8, usize), MAX_DEPTH>,
 }
 
-/// Reads all tokens of a text, up to the first that does not fit. Each has a byte or more, which
+/// Returns the first token that does not fit, if there is one. Each has a byte or more, which
 /// bounds the loop.
-fn read_tokens(alloc: Global, text: &str) -> Result<(), JsonFault> {
+fn first_bad_token(alloc: Global, text: &str) -> Result<Option<BadToken>, AllocError> {
     if text.starts_with("\u{feff}") {
-        return Err(JsonFault::Stands(0, "a byte order mark stands here"));
+        let cause = Cause::Stands("a byte order mark stands here");
+        return Ok(Some(BadToken { offset: 0, cause }));
     }
     let mut scratch = Scratch::new(alloc);
-    let mut tokens = Reader::new(text, &mut scratch)?;
-    let mut reader = TokenReader {
-        text,
-        open: Vec::new(alloc),
+    let mut scanner = Scanner {
         next: Next::Value,
+        open: ArrayVec::new(),
     };
+    let mut offset = 0usize;
     for _ in 0..text.len().saturating_add(1) {
-        let offset = tokens.offset();
-        let Some(token) = tokens.next() else {
-            return reader.end();
-        };
-        reader.take(offset, token, tokens.offset())?;
+        let rest = rest_of(text, offset).trim_start_matches(is_blank);
+        offset = text.len().saturating_sub(rest.len());
+        let token = token_of(rest);
+        let is_good = is_valid(token, &mut scratch)?;
+        match scanner.take(token, is_good, offset) {
+            Some(Cause::Cut(opened)) => {
+                return Ok(Some(BadToken {
+                    offset: text.len(),
+                    cause: Cause::Cut(opened),
+                }));
+            }
+            Some(cause) => return Ok(Some(BadToken { offset, cause })),
+            None if token.is_empty() => return Ok(None),
+            None => offset = offset.saturating_add(token.len()),
+        }
     }
-    Ok(())
+    Ok(None)
 }
 
-impl TokenReader<'_> {
-    fn end(&self) -> Result<(), JsonFault> {
-        match (self.next, self.open.is_empty()) {
-            (Next::AfterValue, true) => Ok(()),
-            _ => Err(self.cut()),
-        }
-    }
-
-    /// Takes the token at the byte `offset`. The next one begins at `after`.
-    fn take(&mut self, offset: usize, token: Token<'_>, after: usize) -> Result<(), JsonFault> {
-        match token {
-            Token::BeginObject => self.take_opening(offset, Bracket::Curly, Next::KeyOrCurly),
-            Token::BeginArray => self.take_opening(offset, Bracket::Square, Next::ValueOrSquare),
-            Token::EndObject => self.take_closing(offset, Bracket::Curly, Next::KeyOrCurly, after),
-            Token::EndArray => {
-                self.take_closing(offset, Bracket::Square, Next::ValueOrSquare, after)
-            }
-            Token::Key(_) => self.take_key(offset, after),
-            Token::String(_) if self.wants_key() => Err(self.lacks_colon(after)),
-            Token::Number(text) if is_too_large(text) => {
-                Err(JsonFault::Stands(offset, "too large a number stands here"))
-            }
-            Token::String(_) | Token::Number(_) | Token::Bool(_) | Token::Null => {
-                self.take_scalar(offset, after)
-            }
-            Token::Bad => Err(self.fault_at(offset)),
-        }
-    }
-
-    fn wants_value(&self) -> bool {
-        matches!(self.next, Next::Value | Next::ValueOrSquare)
-    }
-
-    fn wants_key(&self) -> bool {
-        matches!(self.next, Next::Key | Next::KeyOrCurly)
-    }
-
-    fn take_opening(
-        &mut self,
-        offset: usize,
-        bracket: Bracket,
-        next: Next,
-    ) -> Result<(), JsonFault> {
-        if !self.wants_value() {
-            return Err(self.misfit(offset));
-        }
-        if self.open.len() >= MAX_DEPTH {
-            return Err(JsonFault::Stands(offset, "brackets nest deeper than 127 here"));
-        }
-        self.open.push((bracket, offset))?;
-        self.next = next;
-        Ok(())
-    }
-
-    /// Takes a closing bracket, which may come after a value, or in place of `empty`.
-    fn take_closing(
-        &mut self,
-        offset: usize,
-        bracket: Bracket,
-        empty: Next,
-        after: usize,
-    ) -> Result<(), JsonFault> {
-        let closes = self.next == empty || self.next == Next::AfterValue;
-        if !closes || self.innermost() != Some(bracket) {
-            return Err(self.misfit(offset));
-        }
-        let _ = self.open.pop();
-        self.end_value(after)
-    }
-
-    fn take_key(&mut self, offset: usize, after: usize) -> Result<(), JsonFault> {
-        if self.wants_key() {
-            self.next = Next::Value;
-            return Ok(());
-        }
-        if !self.wants_value() {
-            return Err(self.misfit(offset));
-        }
-        // a value, and a colon that may not follow it
-        let colon = mark_before(self.text, after, b':').unwrap_or(offset);
-        Err(JsonFault::Misfit(colon, self.expected_after_value()))
-    }
-
-    fn take_scalar(&mut self, offset: usize, after: usize) -> Result<(), JsonFault> {
-        if !self.wants_value() {
-            return Err(self.misfit(offset));
-        }
-        self.end_value(after)
-    }
-
-    /// Ends a value, and takes the comma that may follow it. The next token begins at `after`.
-    fn end_value(&mut self, after: usize) -> Result<(), JsonFault> {
-        self.next = Next::AfterValue;
-        let Some(comma) = mark_before(self.text, after, b',') else {
-            return Ok(());
-        };
-        match self.innermost() {
-            Some(Bracket::Curly) => self.next = Next::Key,
-            Some(Bracket::Square) => self.next = Next::Value,
-            None => return Err(self.misfit(comma)),
-        }
-        Ok(())
-    }
-
-    fn innermost(&self) -> Option<Bracket> {
-        let (bracket, _) = self.open.last()?;
-        Some(*bracket)
-    }
-
-    fn cut(&self) -> JsonFault {
-        match self.open.last() {
-            Some((_, opened)) => JsonFault::Cut(Some(*opened)),
-            None => JsonFault::Cut(None),
-        }
-    }
-
-    fn misfit(&self, offset: usize) -> JsonFault {
-        let expected = match self.next {
-            Next::Value => "a value",
-            Next::ValueOrSquare => "a value or ]",
-            Next::Key => "a key in double quotes",
-            Next::KeyOrCurly => "a key in double quotes or }",
-            Next::AfterValue => self.expected_after_value(),
-        };
-        JsonFault::Misfit(offset, expected)
-    }
-
-    fn expected_after_value(&self) -> &'static str {
-        match self.innermost() {
-            Some(Bracket::Square) => "a comma or ]",
-            Some(Bracket::Curly) => "a comma or }",
-            None => "the end of the text",
-        }
-    }
-
-    /// Returns the fault of a string without a colon where a key is expected. The next token begins
-    /// at `after`.
-    fn lacks_colon(&self, after: usize) -> JsonFault {
-        let offset = mark_before(self.text, after, b',').unwrap_or(after);
-        if offset >= self.text.len() {
-            return self.cut();
-        }
-        JsonFault::Misfit(offset, "a colon")
-    }
-
-    /// Returns the fault of what stands at `offset` and is no token or may not come next.
-    fn fault_at(&self, offset: usize) -> JsonFault {
-        let rest = rest_of(self.text, offset);
-        match rest.as_bytes().first() {
-            None => self.cut(),
-            Some(b'"') if self.wants_value() || self.wants_key() => {
-                if is_open_string(rest) {
-                    JsonFault::Cut(Some(offset))
-                } else {
-                    JsonFault::Misfit(offset, STRING)
-                }
-            }
-            Some(_) if self.wants_value() && is_value(word_of(rest)) => {
-                // a string follows the word without a comma
-                let end = offset.saturating_add(word_of(rest).len());
-                JsonFault::Misfit(end, self.expected_after_value())
-            }
-            Some(_) => self.misfit(offset),
-        }
-    }
+/// Returns the token with which a text begins: a mark, a string with its quotes, or a word. Returns
+/// an empty text at the end, and the whole text for a string that is not closed.
+fn token_of(text: &str) -> &str {
+    let bytes = text.as_bytes();
+    let end = match bytes.first() {
+        Some(b'{' | b'}' | b'[' | b']' | b':' | b',') => 1,
+        Some(b'"') => string_end(bytes).unwrap_or(bytes.len()),
+        _ => text.find(ends_word).unwrap_or(text.len()),
+    };
+    text.get(..end).unwrap_or(text)
 }
 
-fn rest_of(text: &str, offset: usize) -> &str {
-    text.get(offset..).unwrap_or("")
-}
-
-/// Returns the byte at which `mark` stands, if it is the last before `place` apart from blanks.
-fn mark_before(text: &str, place: usize, mark: u8) -> Option<usize> {
-    let before = text.as_bytes().get(..place)?;
-    for (offset, byte) in before.iter().enumerate().rev() {
-        if !is_blank(*byte) {
-            return if *byte == mark { Some(offset) } else { None };
+/// Returns the byte behind the string with which a text begins, if it is closed.
+fn string_end(text: &[u8]) -> Option<usize> {
+    let mut is_escaped = true;
+    for (offset, byte) in text.iter().enumerate() {
+        if *byte == b'"' && !is_escaped {
+            return Some(offset.saturating_add(1));
         }
+        is_escaped = *byte == b'\\' && !is_escaped;
     }
     None
 }
 
-fn is_blank(byte: u8) -> bool {
-    matches!(byte, b' ' | b'\t' | b'\r' | b'\n')
+fn is_blank(character: char) -> bool {
+    matches!(character, ' ' | '\t' | '\r' | '\n')
 }
 
-/// Returns the number or the word, such as `true`, with which a text begins.
-fn word_of(text: &str) -> &str {
-    let is_end = |byte: &u8| {
-        is_blank(*byte) || matches!(*byte, b'"' | b'{' | b'}' | b'[' | b']' | b':' | b',')
-    };
-    match text.as_bytes().iter().position(is_end) {
-        Some(end) => text.get(..end).unwrap_or(""),
-        None => text,
-    }
+fn ends_word(character: char) -> bool {
+    is_blank(character) || matches!(character, '"' | '{' | '}' | '[' | ']' | ':' | ',')
 }
 
-fn is_value(word: &str) -> bool {
-    matches!(word, "true" | "false" | "null") || is_number(word)
-}
-
-/// Returns whether the string with which a text begins is not closed, and has no control
-/// characters.
-fn is_open_string(text: &str) -> bool {
-    let mut is_escaped = false;
-    for byte in text.as_bytes().iter().skip(1) {
-        match byte {
-            0..=31 => return false,
-            b'"' if !is_escaped => return false,
-            _ => is_escaped = *byte == b'\\' && !is_escaped,
+impl Scanner {
+    /// Takes the token at the byte `offset`, or returns why it may not come next. `is_good` says
+    /// whether it is a value.
+    fn take(&mut self, token: &str, is_good: bool, offset: usize) -> Option<Cause> {
+        let next = match (token, self.next) {
+            ("", _) => return self.end(),
+            ("{", Next::Value | Next::ValueOrSquare) => self.open(b'{', offset),
+            ("[", Next::Value | Next::ValueOrSquare) => self.open(b'[', offset),
+            ("}", Next::KeyOrCurly | Next::AfterValue) => self.close(b'{'),
+            ("]", Next::ValueOrSquare | Next::AfterValue) => self.close(b'['),
+            (":", Next::Colon) => Ok(Next::Value),
+            (",", Next::AfterValue) => match self.innermost() {
+                Some(b'{') => Ok(Next::Key),
+                Some(_) => Ok(Next::Value),
+                None => Err(self.misfit()),
+            },
+            (_, Next::Colon | Next::AfterValue) => Err(self.misfit()),
+            _ if token.starts_with("\"") && !is_good => Err(bad_string(token, offset)),
+            (_, Next::Key | Next::KeyOrCurly) if token.starts_with("\"") => Ok(Next::Colon),
+            (_, Next::Value | Next::ValueOrSquare) if is_good => after_value(token),
+            _ => Err(self.misfit()),
+        };
+        match next {
+            Ok(next) => {
+                self.next = next;
+                None
+            }
+            Err(cause) => Some(cause),
         }
     }
-    true
+
+    fn end(&self) -> Option<Cause> {
+        match (self.open.as_slice().last(), self.next) {
+            (Some((_, opened)), _) => Some(Cause::Cut(*opened)),
+            (None, Next::AfterValue) => None,
+            _ => Some(Cause::Stands("the text ends here, expected a value")),
+        }
+    }
+
+    fn open(&mut self, bracket: u8, offset: usize) -> Result<Next, Cause> {
+        if self.open.try_push((bracket, offset)).is_err() {
+            return Err(Cause::Stands("brackets nest deeper than 127 here"));
+        }
+        match bracket {
+            b'{' => Ok(Next::KeyOrCurly),
+            _ => Ok(Next::ValueOrSquare),
+        }
+    }
+
+    fn close(&mut self, bracket: u8) -> Result<Next, Cause> {
+        if self.innermost() != Some(bracket) {
+            return Err(self.misfit());
+        }
+        let _ = self.open.pop();
+        Ok(Next::AfterValue)
+    }
+
+    fn innermost(&self) -> Option<u8> {
+        let (bracket, _) = self.open.as_slice().last()?;
+        Some(*bracket)
+    }
+
+    fn misfit(&self) -> Cause {
+        Cause::Expected(match (self.next, self.innermost()) {
+            (Next::Value, _) => "a value",
+            (Next::ValueOrSquare, _) => "a value or ]",
+            (Next::Key, _) => "a key in double quotes",
+            (Next::KeyOrCurly, _) => "a key in double quotes or }",
+            (Next::Colon, _) => "a colon",
+            (Next::AfterValue, Some(b'{')) => "a comma or }",
+            (Next::AfterValue, Some(_)) => "a comma or ]",
+            (Next::AfterValue, None) => "the end of the text",
+        })
+    }
 }
 
-/// Returns whether a number is too large for an `f64`.
-fn is_too_large(text: &str) -> bool {
-    let number: Value<'_, Global> = Value::Number(text);
+/// Returns why a string at the byte `offset` is no value: it is not closed, or malformed.
+fn bad_string(token: &str, offset: usize) -> Cause {
+    let bytes = token.as_bytes();
+    if string_end(bytes).is_some() || bytes.iter().any(|byte| *byte < 32) {
+        Cause::Expected(STRING)
+    } else {
+        Cause::Cut(offset)
+    }
+}
+
+/// Returns what may come after a string or a word, unless it is a number too large for an `f64`.
+fn after_value(token: &str) -> Result<Next, Cause> {
+    let number: Value<'_, Global> = Value::Number(token);
     match number.as_f64() {
-        Some(value) => value.is_infinite(),
-        None => false,
+        Some(value) if value.is_infinite() => Err(Cause::Stands("too large a number stands here")),
+        _ => Ok(Next::AfterValue),
     }
 }

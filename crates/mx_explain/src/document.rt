@@ -1,13 +1,17 @@
-//! A text of JSON with its value, and the faults at places in it.
+//! A text of JSON with its value, and reports on places in it.
 
+use crate::bad_token::report_bad_token;
 use crate::location::Part;
 use crate::path::{Path, offset_of};
 use crate::report::Report;
-use json::Value;
+use json::{Error, Scratch, Value};
 use mx_lines::{Nearest, Quoted, nearest};
-use std::alloc::{AllocError, Global};
+use std::alloc::AllocError;
 use std::fmt;
 use std::fmt::Display;
+
+/// The greatest length of a number that is shown.
+const MAX_BYTES: usize = 40;
 
 /// A text of JSON.
 #[derive(Drop)]
@@ -16,8 +20,8 @@ pub(crate) struct Document<'a> {
     pub(crate) root: Value<'a>,
 }
 
-/// A value that is wrong or missing, and what is expected there: one of the known words, if there
-/// are any.
+/// A place in a document where something else is expected: one of the known words, if there are
+/// any.
 #[derive(Clone, Copy)]
 pub(crate) struct Wrong<'a> {
     pub(crate) path: Path,
@@ -34,7 +38,6 @@ impl<'a> Wrong<'a> {
         }
     }
 
-    /// A name of one of these nodes is expected.
     pub(crate) fn node(path: Path, nodes: &'a [&'a str]) -> Wrong<'a> {
         Wrong {
             path,
@@ -44,44 +47,56 @@ impl<'a> Wrong<'a> {
     }
 }
 
-impl Document<'_> {
-    /// Reports what stands at a path, and what is expected there.
+impl<'a> Document<'a> {
+    /// Reads a text of JSON. If it is none, reports where it stops being JSON.
+    pub(crate) fn read(
+        report: &mut Report,
+        part: Part<'a>,
+        scratch: &'a mut Scratch,
+    ) -> Result<Option<Document<'a>>, AllocError> {
+        match Value::from_slice(report.alloc(), part.text, scratch) {
+            Ok(root) => Ok(Some(Document { part, root })),
+            Err(Error::OutOfMemory) => Err(AllocError),
+            Err(_) => {
+                report_bad_token(report, &part)?;
+                Ok(None)
+            }
+        }
+    }
+
+    /// Reports what stands at a place, and what is expected there.
     pub(crate) fn report_wrong(
         &self,
         report: &mut Report,
         wrong: &Wrong<'_>,
     ) -> Result<(), AllocError> {
-        let actual = wrong.path.find(&self.root);
+        let alloc = report.alloc();
+        let actual = wrong.path.find(&self.root).1;
         let word = text_of(actual);
-        let message = Misplaced {
-            actual,
-            expected: wrong.expected,
-            nearest: nearest(report.alloc(), word, wrong.known)?,
+        let nearest = Nearest(nearest(alloc, word, wrong.known)?);
+        let expected = wrong.expected;
+        let text = match actual {
+            Some(value) => {
+                let actual = Actual(value);
+                format!(in alloc; "{actual} stands here, expected {expected}{nearest}")?
+            }
+            None => format!(in alloc; "missing; expected {expected}{nearest}")?,
         };
-        self.report_at(report, wrong.path, message)
+        self.report_at(report, wrong.path, text.as_str())
     }
 
-    /// Reports a fault at a path. The message follows the path after a colon and a space.
-    pub(crate) fn report_at<D: Display + Drop>(
+    /// Reports a fault at a path.
+    pub(crate) fn report_at(
         &self,
         report: &mut Report,
         path: Path,
-        message: D,
+        message: &str,
     ) -> Result<(), AllocError> {
-        let offset = self.offset(report.alloc(), path)?;
-        report.fault_at(&self.part, offset, AtPath { path, message })
-    }
-
-    /// Returns the byte at which the value at a path begins, or the innermost value around it, if
-    /// there is none.
-    pub(crate) fn offset(&self, alloc: Global, path: Path) -> Result<usize, AllocError> {
-        let indices = path.indices(&self.root);
-        offset_of(alloc, self.part.text, indices.as_slice())
-    }
-
-    /// Returns the byte at which the value of the outermost object's member `index` begins.
-    pub(crate) fn member_offset(&self, alloc: Global, index: usize) -> Result<usize, AllocError> {
-        offset_of(alloc, self.part.text, &[index])
+        let alloc = report.alloc();
+        let (indices, _) = path.find(&self.root);
+        let offset = offset_of(alloc, self.part.text, indices.as_slice())?;
+        let text = format!(in alloc; " {path}: {message}")?;
+        report.add_at(&self.part, offset, text.as_str())
     }
 }
 
@@ -98,57 +113,20 @@ pub(crate) fn items_of<'v, 'a>(value: Option<&'v Value<'a>>) -> &'v [Value<'a>] 
     }
 }
 
-pub(crate) fn is_among(word: &str, words: &[&str]) -> bool {
-    index_in(word, words).is_some()
-}
-
 pub(crate) fn index_in(word: &str, words: &[&str]) -> Option<usize> {
     words.iter().position(|known| *known == word)
 }
 
-/// A message with the path to its place.
-#[derive(Drop)]
-struct AtPath<D: Display + Drop> {
-    path: Path,
-    message: D,
-}
-
-impl<D: Display + Drop> Display for AtPath<D> {
-    fn fmt<W: fmt::Write>(&self, f: &mut fmt::Formatter<W>) -> fmt::Result {
-        let path = self.path;
-        let message = &self.message;
-        write!(f, " {path}: {message}")
-    }
-}
-
-/// The message that a value is missing, or is not what is expected.
-#[derive(Clone, Copy)]
-struct Misplaced<'m, 'a> {
-    actual: Option<&'m Value<'a>>,
-    expected: &'m str,
-    nearest: Option<&'m str>,
-}
-
-impl Display for Misplaced<'_, '_> {
-    fn fmt<W: fmt::Write>(&self, f: &mut fmt::Formatter<W>) -> fmt::Result {
-        match self.actual {
-            Some(value) => write!(f, "{} stands here, ", Actual(value))?,
-            None => f.write_str("missing; ")?,
-        }
-        write!(f, "expected {}{}", self.expected, Nearest(self.nearest))
-    }
-}
-
 /// A value in short.
 #[derive(Clone, Copy)]
-pub(crate) struct Actual<'m, 'a>(pub(crate) &'m Value<'a>);
+struct Actual<'m, 'a>(&'m Value<'a>);
 
 impl Display for Actual<'_, '_> {
     fn fmt<W: fmt::Write>(&self, f: &mut fmt::Formatter<W>) -> fmt::Result {
         match self.0 {
             Value::Null => f.write_str("null"),
             Value::Bool(value) => write!(f, "{value}"),
-            Value::Number(text) if text.len() > 40 => {
+            Value::Number(text) if text.len() > MAX_BYTES => {
                 write!(f, "a number of {} bytes", text.len())
             }
             Value::Number(text) => f.write_str(text),

@@ -11,10 +11,11 @@ ghost use Rattle.std.specs.Io.KnownBytes.{Keeps};
 
 use crate::cached_source::{CachedSource, DetailedSource};
 use crate::files::{Second, print_files};
-use crate::replay::{ReplayNotes, replay};
+use crate::notes::Notes;
+use crate::replay::replay;
 use crate::request::{ExplainRequest, parse};
 use crate::scripts::explain_script;
-use mx_cli::{CommandError, Fault, Request, close, refuse};
+use mx_cli::{CommandError, Request, close, refuse};
 use mx_commands::{NullOutput, carry_out, names_in};
 use mx_io::{Output, Source};
 use std::alloc::Global;
@@ -69,33 +70,11 @@ fn explain_cached<S: Source + DetailedSource, O: Output, E: Output>(
         result }
     ensures status { IsRunStatus result }
 {
-    let mut cached = CachedSource {
-        source,
-        entries: Vec::new(alloc),
-    };
-    explain_cached_request(alloc, request, &mut cached, out, err)
-}
-
-/// Explains a check, a replay or a script, and returns the exit status.
-fn explain_cached_request<S: Source + DetailedSource, O: Output, E: Output>(
-    alloc: Global,
-    request: &ExplainRequest<'_>,
-    source: &mut S,
-    out: &mut O,
-    err: &mut E,
-) -> u8
-    ensures explains { ExplainsRequest (O.takes_all out.old) (E.takes_all err.old)
-        (S.told source.old) (explain_request_of request.now)
-        (E.written err.old) (E.written err.new) result }
-    ensures told { TellsLines (O.takes_all out.old && E.takes_all err.old) (O.written out.old)
-        (O.written out.new) (E.written err.old) (E.written err.new) result }
-    ensures passed { PassesOn (E.written err.old) (E.written err.new) (O.keeps_back out.new)
-        result }
-    ensures status { IsRunStatus result }
-{
+    let entries = Vec::new(alloc);
+    let mut cached = CachedSource { source, entries };
     match request {
-        ExplainRequest::Run(request) => explain_request(alloc, request, source, out, err),
-        ExplainRequest::Script(names) => explain_script(alloc, names, source, out, err),
+        ExplainRequest::Run(request) => explain_request(alloc, request, &mut cached, out, err),
+        ExplainRequest::Script(names) => explain_script(alloc, names, &mut cached, out, err),
     }
 }
 
@@ -133,7 +112,7 @@ fn carry_out_and_explain<S: Source + DetailedSource, O: Output>(
     ensures zero { IfOk result (λ status. status ≡ 0) }
     ensures stays { O.takes_all out.new ≡ O.takes_all out.old }
 {
-    let mut notes = ReplayNotes::new(alloc);
+    let mut notes = Notes::new(alloc);
     let ended = run(alloc, request, source, &mut notes);
     print_end(alloc, request, &ended, &notes, source, out)?;
     ended
@@ -145,7 +124,7 @@ fn run<S: Source>(
     alloc: Global,
     request: &Request<'_>,
     source: &mut S,
-    notes: &mut ReplayNotes,
+    notes: &mut Notes,
 ) -> Result<u8, CommandError>
     ensures ran { RanOf true None None (S.told source.old) (request_of request.now) result }
     ensures zero { IfOk result (λ status. status ≡ 0) }
@@ -164,7 +143,7 @@ fn print_end<S: Source + DetailedSource, O: Output>(
     alloc: Global,
     request: &Request<'_>,
     ended: &Result<u8, CommandError>,
-    notes: &ReplayNotes,
+    notes: &Notes,
     source: &mut S,
     out: &mut O,
 ) -> Result<(), CommandError>
@@ -174,26 +153,13 @@ fn print_end<S: Source + DetailedSource, O: Output>(
     ensures stays { O.takes_all out.new ≡ O.takes_all out.old }
 {
     let names = names_in(request);
-    match ended {
-        Ok(_) => {
-            let second = second_of(request, notes, None);
-            print_files(alloc, &names, &second, true, source, out)
-        }
-        Err(CommandError::Fault(fault)) => {
-            let second = second_of(request, notes, Some(*fault));
-            print_files(alloc, &names, &second, false, source, out)
-        }
-        Err(_) => Ok(()),
-    }
-}
-
-fn second_of<'a>(
-    request: &Request<'_>,
-    notes: &'a ReplayNotes,
-    fault: Option<Fault>,
-) -> Second<'a> {
-    match request {
-        Request::Replay(_) => Second::Events(notes, fault),
+    let second = match request {
+        Request::Replay(_) => Second::Events(notes),
         Request::Check(_) | Request::Asks(_) | Request::Explore(_) => Second::Nothing,
+    };
+    match ended {
+        Ok(_) => print_files(alloc, &names, &second, true, source, out),
+        Err(CommandError::Fault(_)) => print_files(alloc, &names, &second, false, source, out),
+        Err(_) => Ok(()),
     }
 }

@@ -16,10 +16,8 @@ mod replay;
 mod report;
 mod request;
 mod script_lines;
-mod script_notes;
 mod scripts;
 mod shape_fault;
-mod words;
 
 pub use cached_source::DetailedSource;
 pub use explanation::explain;

@@ -13,14 +13,20 @@ pub(crate) struct Part<'a> {
 
 impl Part<'_> {
     pub(crate) fn location(&self, offset: usize) -> Location {
-        let mut location = Location {
-            line: self.above.saturating_add(1),
-            column: 1,
-        };
+        let mut line = self.above.saturating_add(1);
+        let mut column = 1usize;
         for byte in self.text.iter().take(offset) {
-            location = location.after(*byte);
+            match byte {
+                b'\n' => {
+                    line = line.saturating_add(1);
+                    column = 1;
+                }
+                // the rest of a character of several bytes
+                0x80..=0xBF => {}
+                _ => column = column.saturating_add(1),
+            }
         }
-        location
+        Location { line, column }
     }
 
     /// Returns the byte at which a line begins, counted from 1, or the end of the text if there is
@@ -46,40 +52,8 @@ pub(crate) struct Location {
     column: usize,
 }
 
-impl Location {
-    fn after(self, byte: u8) -> Location {
-        match byte {
-            b'\n' => Location {
-                line: self.line.saturating_add(1),
-                column: 1,
-            },
-            // the rest of a character of several bytes
-            0x80..=0xBF => self,
-            _ => Location {
-                line: self.line,
-                column: self.column.saturating_add(1),
-            },
-        }
-    }
-}
-
 impl Display for Location {
     fn fmt<W: fmt::Write>(&self, f: &mut fmt::Formatter<W>) -> fmt::Result {
         write!(f, "{}:{}", self.line, self.column)
-    }
-}
-
-/// A message with its place.
-#[derive(Drop)]
-pub(crate) struct Located<D: Display + Drop> {
-    pub(crate) location: Location,
-    pub(crate) message: D,
-}
-
-impl<D: Display + Drop> Display for Located<D> {
-    fn fmt<W: fmt::Write>(&self, f: &mut fmt::Formatter<W>) -> fmt::Result {
-        let location = self.location;
-        let message = &self.message;
-        write!(f, "{location}:{message}")
     }
 }

@@ -6,7 +6,7 @@ use std::alloc::{AllocError, Global};
 use std::fmt;
 use std::fmt::Display;
 
-/// A step from a value into it: to the member of this key, or to an item, counted from 0.
+/// A step into a value: to the member of this key, or to an item, counted from 0.
 #[derive(Clone, Copy)]
 enum Step {
     Key(&'static str),
@@ -22,12 +22,6 @@ pub(crate) struct Path {
 }
 
 impl Path {
-    /// Creates the path to the member of this key.
-    pub(crate) fn key(key: &'static str) -> Path {
-        Path::whole("").with(Step::Key(key))
-    }
-
-    /// Creates the path to the outermost value, which has this name.
     pub(crate) fn whole(whole: &'static str) -> Path {
         Path {
             whole,
@@ -35,50 +29,40 @@ impl Path {
         }
     }
 
-    pub(crate) fn member(self, key: &'static str) -> Path {
-        self.with(Step::Key(key))
+    pub(crate) fn key(self, key: &'static str) -> Path {
+        self.then(Step::Key(key))
     }
 
     pub(crate) fn item(self, i: usize) -> Path {
-        self.with(Step::Item(i))
+        self.then(Step::Item(i))
     }
 
-    fn with(self, step: Step) -> Path {
-        let mut steps = self.steps;
-        if let Some(free) = steps.iter_mut().find(|step| step.is_none()) {
+    fn then(mut self, step: Step) -> Path {
+        if let Some(free) = self.steps.iter_mut().find(|step| step.is_none()) {
             *free = Some(step);
         }
-        Path {
-            whole: self.whole,
-            steps,
-        }
+        self
     }
 
-    /// Returns the value at this path.
-    pub(crate) fn find<'v, 'a>(&self, root: &'v Value<'a>) -> Option<&'v Value<'a>> {
-        let mut value = root;
-        for step in self.steps {
-            let Some(step) = step else {
-                return Some(value);
-            };
-            let (_, inner) = child_of(value, step)?;
-            value = inner;
-        }
-        Some(value)
-    }
-
-    /// Returns the index of each member or item on this path, as far as there is one.
-    pub(crate) fn indices(&self, root: &Value<'_>) -> ArrayVec<usize, 4> {
+    /// Returns the indices of the members and items on this path that are there, and the value at
+    /// its end, if that is there too.
+    pub(crate) fn find<'v, 'a>(
+        &self,
+        root: &'v Value<'a>,
+    ) -> (ArrayVec<usize, 4>, Option<&'v Value<'a>>) {
         let mut indices = ArrayVec::new();
         let mut value = root;
         for step in self.steps {
-            let Some((index, inner)) = child_at(value, step) else {
-                return indices;
+            let Some(step) = step else {
+                break;
+            };
+            let Some((index, child)) = child_of(value, step) else {
+                return (indices, None);
             };
             let _ = indices.try_push(index);
-            value = inner;
+            value = child;
         }
-        indices
+        (indices, Some(value))
     }
 }
 
@@ -90,15 +74,11 @@ impl Display for Path {
                 Some(Step::Key(key)) if k > 0 => write!(f, ".{key}")?,
                 Some(Step::Key(key)) => f.write_str(key)?,
                 Some(Step::Item(i)) => write!(f, "[{i}]")?,
-                None => return Ok(()),
+                None => {}
             }
         }
         Ok(())
     }
-}
-
-fn child_at<'v, 'a>(value: &'v Value<'a>, step: Option<Step>) -> Option<(usize, &'v Value<'a>)> {
-    child_of(value, step?)
 }
 
 /// Returns the member or the item to which a step leads, and how many come before it. Of members
@@ -106,33 +86,26 @@ fn child_at<'v, 'a>(value: &'v Value<'a>, step: Option<Step>) -> Option<(usize, 
 fn child_of<'v, 'a>(value: &'v Value<'a>, step: Step) -> Option<(usize, &'v Value<'a>)> {
     match (value, step) {
         (Value::Object(members), Step::Key(key)) => {
-            let mut found = None;
-            for (index, (name, member)) in members.iter().enumerate() {
-                if *name == key {
-                    found = Some((index, member));
-                }
-            }
-            found
+            let index = members.iter().rposition(|(name, _)| *name == key)?;
+            let (_, member) = members.get(index)?;
+            Some((index, member))
         }
         (Value::Array(items), Step::Item(i)) => Some((i, items.get(i)?)),
         _ => None,
     }
 }
 
-/// Returns the byte at which a value within a text of JSON begins. The indices are those of the
-/// members and items around it, from the outermost value on.
+/// Returns the byte at which a value in a text of JSON begins. The indices are those of the members
+/// and items around it and of its own, from the outermost value on.
 pub(crate) fn offset_of(
     alloc: Global,
     text: &[u8],
     indices: &[usize],
 ) -> Result<usize, AllocError> {
-    let text = str::from_utf8(text).unwrap_or("");
     let mut scratch = Scratch::new(alloc);
-    let mut reader = Reader::new(text, &mut scratch)?;
+    let mut reader = Reader::new(str::from_utf8(text).unwrap_or(""), &mut scratch)?;
     for index in indices {
-        if enter(&mut reader, *index).is_none() {
-            break;
-        }
+        let _ = enter(&mut reader, *index);
     }
     Ok(reader.offset())
 }

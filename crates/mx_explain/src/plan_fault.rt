@@ -1,18 +1,15 @@
 //! What is wrong in a plan.
 
 use crate::bad_token::report_bad_token;
-use crate::document::{Document, Wrong, is_among, items_of, text_of};
+use crate::document::{Document, Wrong, index_in, items_of, text_of};
 use crate::location::Part;
-use crate::path::Path;
+use crate::path::{Path, offset_of};
 use crate::report::{MAX_LINES, Report};
 use crate::shape_fault::{report_cycle, report_shape};
-use json::{Error, Scratch, Value};
+use json::{Scratch, Value};
 use mx_lines::{Nearest, Quoted, nearest};
 use mx_plan::{Place, Plan, PlanFault, is_name, read_plan};
-use mx_stamps::{MAX_NODES, MAX_REGISTERS};
 use std::alloc::{AllocError, Global};
-use std::fmt;
-use std::fmt::Display;
 
 const ALGORITHMS: [&str; 3] = ["ricart", "maekawa", "raymond"];
 
@@ -30,53 +27,32 @@ const KEYS: [&str; 8] = [
     "holder",
 ];
 
-/// What is expected where a malformed name stands.
-const NAME: &str = "a name: 1 to 16 of letters, digits, _ and -";
-
 /// What is expected where a number stands.
 pub(crate) const NUMBER: &str = "a whole number of 64 bits without a sign";
 
-/// Reads a plan, and reports its first fault, and the keys that it does not use. Returns the plan
-/// if it has no fault.
+/// Reads a plan, and reports its first fault, and the keys that no plan uses. Returns the plan if
+/// it has no fault.
 pub(crate) fn explain_plan(
     report: &mut Report,
     part: Part<'_>,
 ) -> Result<Option<Plan>, AllocError> {
-    let alloc = report.alloc();
-    let plan = match read_plan(alloc, part.text) {
-        Err(PlanFault::Memory) => return Err(AllocError),
-        plan => plan,
-    };
-    let mut scratch = Scratch::new(alloc);
-    let root = match Value::from_slice(alloc, part.text, &mut scratch) {
-        Err(Error::OutOfMemory) => return Err(AllocError),
-        root => root.ok(),
-    };
-    match (plan, root) {
-        (Err(PlanFault::NotJson), _) | (_, None) => {
-            report_bad_token(report, &part)?;
-            Ok(None)
-        }
-        (plan, Some(root)) => explain_value(report, &Document { part, root }, plan),
+    let read = read_plan(report.alloc(), part.text);
+    if let Err(PlanFault::Memory) = read {
+        return Err(AllocError);
     }
-}
-
-/// Reports the fault of a plan, and the keys that it does not use. Returns the plan if it has no
-/// fault.
-fn explain_value(
-    report: &mut Report,
-    document: &Document<'_>,
-    plan: Result<Plan, PlanFault>,
-) -> Result<Option<Plan>, AllocError> {
-    let plan = match plan {
-        Ok(plan) => Some(plan),
-        Err(fault) => {
-            report_fault(report, document, fault)?;
-            None
-        }
+    if let Err(PlanFault::NotJson) = read {
+        report_bad_token(report, &part)?;
+        return Ok(None);
+    }
+    let mut scratch = Scratch::new(report.alloc());
+    let Some(document) = Document::read(report, part, &mut scratch)? else {
+        return Ok(None);
     };
-    warn_of_unknown_keys(report, document)?;
-    Ok(plan)
+    if let Err(fault) = &read {
+        report_fault(report, &document, *fault)?;
+    }
+    warn_of_unknown_keys(report, &document)?;
+    Ok(read.ok())
 }
 
 fn report_fault(
@@ -86,11 +62,17 @@ fn report_fault(
 ) -> Result<(), AllocError> {
     let nodes = nodes_of(report.alloc(), &document.root)?;
     let nodes = nodes.as_slice();
-    match fault {
+    let place = match fault {
         PlanFault::NotPlan(place) | PlanFault::DoubleName(place) | PlanFault::UnknownName(place) =>
-            { report_place(report, document, place, nodes) }
-        PlanFault::BadShape(fault) => report_shape(report, document, fault, nodes),
-        PlanFault::NotJson | PlanFault::Memory => Ok(()),
+            { place }
+        PlanFault::BadShape(fault) => return report_shape(report, document, fault, nodes),
+        PlanFault::NotJson | PlanFault::Memory => return Ok(()),
+    };
+    match place {
+        Place::Holder if report_cycle(report, document, nodes)? => Ok(()),
+        Place::Nodes => report_names(report, document, "nodes", 21),
+        Place::Registers => report_names(report, document, "registers", 32),
+        _ => document.report_wrong(report, &wrong_at(&document.root, place, nodes)),
     }
 }
 
@@ -103,207 +85,142 @@ fn nodes_of<'a>(alloc: Global, plan: &Value<'a>) -> Result<Vec<&'a str>, AllocEr
     Ok(nodes)
 }
 
-/// Reports the first value that is wrong at a place of a plan, in the order of the text.
-fn report_place(
-    report: &mut Report,
-    document: &Document<'_>,
-    place: Place,
-    nodes: &[&str],
-) -> Result<(), AllocError> {
-    let plan = &document.root;
-    let wrong = match place {
-        Place::Nodes => {
-            let expected = Wrong::of(Path::key("nodes"), "an array of 1 to 21 names");
-            return report_names(report, document, &expected, MAX_NODES as usize);
-        }
-        Place::Registers => {
-            let expected = Wrong::of(Path::key("registers"), "an array of 1 to 32 names");
-            return report_names(report, document, &expected, MAX_REGISTERS as usize);
-        }
-        Place::Holder if report_cycle(report, document, nodes)? => return Ok(()),
-        Place::Holder => Some(Wrong::node(Path::key("holder"), nodes)),
-        Place::Quorums => wrong_quorums(plan, nodes),
-        Place::Edges => wrong_edge(plan, nodes),
-        Place::Algorithm => {
-            let expected = "an algorithm: ricart, maekawa or raymond";
-            wrong_word(plan, Path::key("algorithm"), expected, &ALGORITHMS)
-        }
-        Place::Sections => Some(Wrong::of(Path::key("sections"), "a whole number, 1 to 1000000")),
-        Place::Origin => Some(Wrong::of(Path::key("origin"), NUMBER)),
-        Place::Plan | Place::Events | Place::Event(_) => Some(Wrong::of(
-            Path::whole("the plan"),
-            "an object with algorithm, nodes, registers and sections",
-        )),
-    };
-    match wrong {
-        Some(wrong) => document.report_wrong(report, &wrong),
-        None => Ok(()),
-    }
-}
-
-/// Reports the first value that is wrong in a list of 1 to `most` names, all different. `expected`
-/// is reported of the list itself.
+/// Reports the first value that is wrong in a list of 1 to `most` names, all different.
 fn report_names(
     report: &mut Report,
     document: &Document<'_>,
-    expected: &Wrong<'_>,
+    key: &'static str,
     most: usize,
 ) -> Result<(), AllocError> {
-    let path = expected.path;
-    let items = items_of(path.find(&document.root));
-    if items.is_empty() || items.len() > most {
-        return document.report_wrong(report, expected);
+    let alloc = report.alloc();
+    let path = Path::whole("").key(key);
+    let names = items_of(document.root.get(key));
+    if names.is_empty() || names.len() > most {
+        let expected = format!(in alloc; "an array of 1 to {most} names")?;
+        return document.report_wrong(report, &Wrong::of(path, expected.as_str()));
     }
-    for (i, item) in items.iter().enumerate() {
-        let name = text_of(Some(item));
+    for (i, name) in names.iter().enumerate() {
+        let name = text_of(Some(name));
         if !is_name(name) {
-            return document.report_wrong(report, &Wrong::of(path.item(i), NAME));
+            let expected = "a name: 1 to 16 of letters, digits, _ and -";
+            return document.report_wrong(report, &Wrong::of(path.item(i), expected));
         }
-        if items
+        if names
             .iter()
             .take(i)
             .any(|earlier| text_of(Some(earlier)) == name)
         {
-            return document.report_at(report, path.item(i), DuplicateName(name));
+            let text = format!(in alloc; "duplicate name {}", Quoted(name))?;
+            return document.report_at(report, path.item(i), text.as_str());
         }
     }
     Ok(())
 }
 
-fn wrong_word<'a>(
-    plan: &Value<'_>,
-    path: Path,
-    expected: &'a str,
-    known: &'a [&'a str],
-) -> Option<Wrong<'a>> {
-    if is_among(text_of(path.find(plan)), known) {
-        return None;
+/// Returns the first value that is wrong at a place of a plan, in the order of the text.
+fn wrong_at<'a>(plan: &Value<'_>, place: Place, nodes: &'a [&'a str]) -> Wrong<'a> {
+    let path = Path::whole("");
+    match place {
+        Place::Algorithm => Wrong {
+            path: path.key("algorithm"),
+            expected: "an algorithm: ricart, maekawa or raymond",
+            known: &ALGORITHMS,
+        },
+        Place::Sections => Wrong::of(path.key("sections"), "a whole number, 1 to 1000000"),
+        Place::Origin => Wrong::of(path.key("origin"), NUMBER),
+        Place::Quorums => wrong_in_quorums(plan, path.key("quorums"), nodes),
+        Place::Edges => wrong_in_edges(plan, path.key("edges"), nodes),
+        Place::Holder => Wrong::node(path.key("holder"), nodes),
+        _ => {
+            let expected = "an object with algorithm, nodes, registers and sections";
+            Wrong::of(Path::whole("the plan"), expected)
+        }
     }
-    Some(Wrong {
-        path,
-        expected,
-        known,
-    })
 }
 
-/// Returns the first wrong value of `edges`.
-fn wrong_edge<'a>(plan: &Value<'_>, nodes: &'a [&'a str]) -> Option<Wrong<'a>> {
-    let path = Path::key("edges");
-    let Some(Value::Array(edges)) = path.find(plan) else {
-        return Some(Wrong::of(path, "an array of edges, each an array of two nodes"));
-    };
-    for (k, edge) in edges.iter().enumerate() {
-        let wrong = match items_of(Some(edge)).len() {
-            2 => wrong_node(edge, path.item(k), nodes),
-            _ => Some(Wrong::of(path.item(k), "an array of two nodes")),
-        };
-        if wrong.is_some() {
+fn wrong_in_edges<'a>(plan: &Value<'_>, path: Path, nodes: &'a [&'a str]) -> Wrong<'a> {
+    for (k, edge) in items_of(path.find(plan).1).iter().enumerate() {
+        if items_of(Some(edge)).len() != 2 {
+            return Wrong::of(path.item(k), "an array of two nodes");
+        }
+        if let Some(wrong) = wrong_in_nodes(edge, path.item(k), nodes) {
             return wrong;
         }
     }
-    None
+    Wrong::of(path, "an array of edges, each an array of two nodes")
 }
 
 /// Returns the first item of an array that is no node, or that the value is no array.
-fn wrong_node<'a>(value: &Value<'_>, path: Path, nodes: &'a [&'a str]) -> Option<Wrong<'a>> {
+fn wrong_in_nodes<'a>(value: &Value<'_>, path: Path, nodes: &'a [&'a str]) -> Option<Wrong<'a>> {
     let Value::Array(items) = value else {
         return Some(Wrong::of(path, "an array of nodes"));
     };
-    for (i, item) in items.iter().enumerate() {
-        if !is_among(text_of(Some(item)), nodes) {
-            return Some(Wrong::node(path.item(i), nodes));
-        }
-    }
-    None
+    let i = items
+        .iter()
+        .position(|item| index_in(text_of(Some(item)), nodes).is_none())?;
+    Some(Wrong::node(path.item(i), nodes))
 }
 
-/// Returns the first wrong value of `quorums`.
-fn wrong_quorums<'a>(plan: &Value<'_>, nodes: &'a [&'a str]) -> Option<Wrong<'a>> {
-    let path = Path::key("quorums");
-    let Some(Value::Object(_)) = path.find(plan) else {
+fn wrong_in_quorums<'a>(plan: &Value<'_>, path: Path, nodes: &'a [&'a str]) -> Wrong<'a> {
+    let Some(Value::Object(_)) = path.find(plan).1 else {
         let expected = "an object: {\"kind\":\"plane\"}, or of kind grid or listed";
-        return Some(Wrong::of(path, expected));
+        return Wrong::of(path, expected);
     };
-    let kind = path.member("kind");
-    match text_of(kind.find(plan)) {
-        "grid" => wrong_grid(plan, path, nodes.len() as u64),
-        "listed" => wrong_set(plan, path.member("sets"), nodes),
-        _ => wrong_word(plan, kind, "a kind: plane, grid or listed", &QUORUM_KINDS),
+    match text_of(path.key("kind").find(plan).1) {
+        "grid" => wrong_in_grid(plan, path),
+        "listed" => wrong_in_sets(plan, path.key("sets"), nodes),
+        _ => Wrong {
+            path: path.key("kind"),
+            expected: "a kind: plane, grid or listed",
+            known: &QUORUM_KINDS,
+        },
     }
 }
 
-/// Returns the side of a grid that is no number of its places, or the rows if rows times columns is
-/// not the number of nodes.
-fn wrong_grid<'a>(plan: &Value<'_>, path: Path, nodes: u64) -> Option<Wrong<'a>> {
-    let rows = path.member("rows");
-    let cols = path.member("cols");
-    for side in [rows, cols] {
-        match side.find(plan).and_then(Value::as_u64) {
+/// Returns the side of a grid that is no number of its places, or the rows if both are.
+fn wrong_in_grid<'a>(plan: &Value<'_>, path: Path) -> Wrong<'a> {
+    for side in [path.key("rows"), path.key("cols")] {
+        match side.find(plan).1.and_then(Value::as_u64) {
             Some(1..=21) => {}
-            _ => return Some(Wrong::of(side, "a whole number, 1 to 21")),
+            _ => return Wrong::of(side, "a whole number, 1 to 21"),
         }
     }
     let expected = "such rows that rows times cols is the number of nodes";
-    Some(Wrong::of(rows, expected))
+    Wrong::of(path.key("rows"), expected)
 }
 
-/// Returns the first wrong value in a list of arbiter sets, which has one for each node.
-fn wrong_set<'a>(plan: &Value<'_>, path: Path, nodes: &'a [&'a str]) -> Option<Wrong<'a>> {
-    let sets = items_of(path.find(plan));
-    if sets.len() != nodes.len() {
-        let expected = "an array with a set for each node, in the order of nodes";
-        return Some(Wrong::of(path, expected));
-    }
-    for (i, set) in sets.iter().enumerate() {
-        let wrong = wrong_node(set, path.item(i), nodes);
-        if wrong.is_some() {
-            return wrong;
+fn wrong_in_sets<'a>(plan: &Value<'_>, path: Path, nodes: &'a [&'a str]) -> Wrong<'a> {
+    let sets = items_of(path.find(plan).1);
+    if sets.len() == nodes.len() {
+        for (i, set) in sets.iter().enumerate() {
+            if let Some(wrong) = wrong_in_nodes(set, path.item(i), nodes) {
+                return wrong;
+            }
         }
     }
-    None
-}
-
-/// The message of a name that comes twice in a list.
-#[derive(Clone, Copy)]
-struct DuplicateName<'a>(&'a str);
-
-impl Display for DuplicateName<'_> {
-    fn fmt<W: fmt::Write>(&self, f: &mut fmt::Formatter<W>) -> fmt::Result {
-        write!(f, "duplicate name {}", Quoted(self.0))
-    }
+    let expected = "an array with a set for each node, in the order of nodes";
+    Wrong::of(path, expected)
 }
 
 /// Warns of each key that no plan uses.
 fn warn_of_unknown_keys(report: &mut Report, document: &Document<'_>) -> Result<(), AllocError> {
+    let alloc = report.alloc();
     let Value::Object(members) = &document.root else {
         return Ok(());
     };
-    let mut count = 0u64;
+    let mut count = 0usize;
     for (index, (key, _)) in members.iter().enumerate() {
-        if is_among(key, &KEYS) {
+        if index_in(key, &KEYS).is_some() {
             continue;
         }
         count = count.saturating_add(1);
-        if count <= MAX_LINES as u64 {
-            let nearest = nearest(report.alloc(), key, &KEYS)?;
-            let offset = document.member_offset(report.alloc(), index)?;
-            report.warn_at(&document.part, offset, UnknownKey { key, nearest })?;
+        if count <= MAX_LINES {
+            let nearest = Nearest(nearest(alloc, key, &KEYS)?);
+            let key = Quoted(key);
+            let text = format!(in alloc; " warning: unknown key {key}, ignored{nearest}")?;
+            let offset = offset_of(alloc, document.part.text, &[index])?;
+            report.add_at(&document.part, offset, text.as_str())?;
         }
     }
-    report.count(document.part.file, count.saturating_sub(MAX_LINES as u64))
-}
-
-/// The warning of a key that no plan uses.
-#[derive(Clone, Copy)]
-struct UnknownKey<'a> {
-    key: &'a str,
-    nearest: Option<&'a str>,
-}
-
-impl Display for UnknownKey<'_> {
-    fn fmt<W: fmt::Write>(&self, f: &mut fmt::Formatter<W>) -> fmt::Result {
-        let key = Quoted(self.key);
-        let nearest = Nearest(self.nearest);
-        write!(f, " warning: unknown key {key}, ignored{nearest}")
-    }
+    report.count(document.part.file, count.saturating_sub(MAX_LINES) as u64)
 }

@@ -1,12 +1,11 @@
 //! The report on files: a line for each fault and each warning.
 
-ghost use Rattle.std.specs.Prelude.{◌≡◌, ◌↔◌, [], IfOk, OnErr, OnOk, true, string_bytes};
-ghost use Rattle.mx_explain.specs.Reports.{AddsLine, AreShown, IsLineOf, last_line, nothing_at_fault, report_text};
+ghost use Rattle.std.specs.Prelude.{◌≡◌, ◌↔◌, ◌++◌, [], ◌∷◌, IfOk, OnErr, OnOk, true, string_bytes};
+ghost use Rattle.mx_explain.specs.Reports.{AddsLine, AreShown, last_line, line_text, nothing_at_fault, report_text};
 
-use crate::location::{Located, Part};
+use crate::location::Part;
 use mx_lines::add_escaped_text;
 use std::alloc::{AllocError, Global};
-use std::fmt;
 use std::fmt::Display;
 use std::marker::Model;
 
@@ -18,7 +17,6 @@ pub(crate) const MAX_LINES: usize = 20;
 pub(crate) struct Report {
     alloc: Global,
     text: String,
-    has_fault: bool,
 }
 
 impl Model for Report {
@@ -40,7 +38,6 @@ impl Report {
         Report {
             alloc,
             text: String::new(alloc),
-            has_fault: false,
         }
     }
 
@@ -48,64 +45,38 @@ impl Report {
         self.alloc
     }
 
-    /// Adds a fault of a file. The message begins with a space or with its place.
-    pub(crate) fn fault<D: Display + Drop>(
-        &mut self,
-        file: &str,
-        message: D,
-    ) -> Result<(), AllocError>
-        ensures ok { OnOk result (AddsLine file.now (D.output message) self.old self.new) }
-        ensures err { OnErr result (self.new ≡ self.old) }
-    {
-        self.warn(file, message)?;
-        self.has_fault = true;
-        Ok(())
-    }
-
-    /// Adds a warning of a file. The message begins with a space or with its place.
-    pub(crate) fn warn<D: Display + Drop>(
-        &mut self,
-        file: &str,
-        message: D,
-    ) -> Result<(), AllocError>
-        ensures ok { OnOk result (AddsLine file.now (D.output message) self.old self.new) }
+    /// Adds a line about a file.
+    pub(crate) fn add(&mut self, file: &str, message: &str) -> Result<(), AllocError>
+        ensures ok { OnOk result (AddsLine file.now message.now self.old self.new) }
         ensures err { OnErr result (self.new ≡ self.old) }
     {
         let line = line_of(self.alloc, file, message)?;
         self.text.push_str(line.as_str())
     }
 
-    pub(crate) fn fault_at<D: Display + Drop>(
+    /// Adds a line about the byte `offset` of a part. The message begins with a space.
+    pub(crate) fn add_at<D: Display + Drop>(
         &mut self,
         part: &Part<'_>,
         offset: usize,
         message: D,
     ) -> Result<(), AllocError> {
         let location = part.location(offset);
-        self.fault(part.file, Located { location, message })
+        let text = format!(in self.alloc; "{location}:{message}")?;
+        self.add(part.file, text.as_str())
     }
 
-    pub(crate) fn warn_at<D: Display + Drop>(
-        &mut self,
-        part: &Part<'_>,
-        offset: usize,
-        message: D,
-    ) -> Result<(), AllocError> {
-        let location = part.location(offset);
-        self.warn(part.file, Located { location, message })
-    }
-
-    /// Adds the line that this many faults and warnings are not shown, unless it is none.
+    /// Adds the line that this many faults or warnings are not shown, unless it is none.
     pub(crate) fn count(&mut self, file: &str, more: u64) -> Result<(), AllocError> {
         if more == 0 {
             return Ok(());
         }
-        self.warn(file, MoreLines(more))
+        let text = format!(in self.alloc; " and {more} more")?;
+        self.add(file, text.as_str())
     }
 
-    /// Returns all lines. If the files are well, a last one says `nothing is at fault`. Otherwise,
-    /// and if no line is of a fault, a last one says so of this file.
-    pub(crate) fn into_text(mut self, is_well: bool, file: &str) -> Result<String, AllocError>
+    /// Returns all lines. If the files are well, a last one says `nothing is at fault`.
+    pub(crate) fn into_text(mut self, is_well: bool) -> Result<String, AllocError>
         ensures well { IfOk result (λ text. is_well ≡ true
             → string_bytes text ≡ report_text self.entry) }
         ensures printable { IfOk result (λ text. AreShown (string_bytes text)) }
@@ -114,11 +85,6 @@ impl Report {
     {
         if is_well {
             self.text.push_str("nothing is at fault\n")?;
-        } else if !self.has_fault {
-            self.fault(
-                file,
-                " the fault that standard error names has no place here",
-            )?;
         }
         Ok(self.text)
     }
@@ -126,25 +92,14 @@ impl Report {
 
 /// Returns the line `file:message` with a line feed, and the control characters of both texts
 /// escaped.
-fn line_of<D: Display + Drop>(alloc: Global, file: &str, message: D) -> Result<String, AllocError>
-    ensures { IfOk result (λ line. IsLineOf file.now (D.output message) (string_bytes line)) }
+fn line_of(alloc: Global, file: &str, message: &str) -> Result<String, AllocError>
+    ensures { IfOk result (λ line.
+        string_bytes line ≡ line_text file.now message.now ++ 10 ∷ []) }
 {
-    let mut said = String::new(alloc);
-    said.write(message)?;
     let mut line = String::new(alloc);
     add_escaped_text(file, &mut line)?;
     line.push_str(":")?;
-    add_escaped_text(said.as_str(), &mut line)?;
+    add_escaped_text(message, &mut line)?;
     line.push_str("\n")?;
     Ok(line)
-}
-
-/// The message that this many faults and warnings of a file are not shown.
-#[derive(Clone, Copy)]
-struct MoreLines(u64);
-
-impl Display for MoreLines {
-    fn fmt<W: fmt::Write>(&self, f: &mut fmt::Formatter<W>) -> fmt::Result {
-        write!(f, " and {} more", self.0)
-    }
 }

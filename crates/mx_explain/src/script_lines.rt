@@ -1,8 +1,8 @@
 //! What is wrong in the lines of a script.
 
+use crate::document::index_in;
 use crate::location::Part;
 use crate::report::{MAX_LINES, Report};
-use crate::words::word_meant;
 use mx_lines::{Expected, FirstWords, LineError, first_error, message, place_of_word, words_in};
 use mx_plan::Plan;
 use std::alloc::{AllocError, Global};
@@ -14,7 +14,7 @@ pub(crate) fn explain_lines(
     plan: &Plan,
 ) -> Result<(), AllocError> {
     if let Some(offset) = json_begin(part.text) {
-        return report.fault_at(
+        return report.add_at(
             part,
             offset,
             " JSON stands here, expected the lines of a script; events are explained without --script",
@@ -74,17 +74,16 @@ fn report_line(
         WrongLine::Word(error) => error,
         WrongLine::NotUtf8(offset) => {
             let offset = begin.saturating_add(*offset);
-            return report.fault_at(part, offset, " bytes that are not UTF-8 stand here");
+            return report.add_at(part, offset, " bytes that are not UTF-8 stand here");
         }
     };
     let line = str::from_utf8(line).unwrap_or("");
     let place = place_of_word(line, error.word).unwrap_or(0);
     let text = message_for(report.alloc(), plan, line, error)?;
-    report.fault_at(part, begin.saturating_add(place), text.as_str())
+    report.add_at(part, begin.saturating_add(place), text.as_str())
 }
 
-/// Returns the message about the wrong word of a line, with the word that is meant, if that is
-/// known.
+/// Returns the message about the wrong word of a line.
 fn message_for(
     alloc: Global,
     plan: &Plan,
@@ -93,10 +92,30 @@ fn message_for(
 ) -> Result<String, AllocError> {
     let words = words_in(alloc, line)?;
     let mut text = message(alloc, plan, FirstWords::OfScripts, words.as_slice(), error)?;
-    let word = words.get(error.word).copied().unwrap_or("");
-    let known = FirstWords::OfScripts.listed(alloc)?;
-    if let (Expected::Word, Some(meant)) = (error.expected, word_meant(word, known.as_slice())) {
-        write!(text, "; \"{meant}\" is meant")?;
+    if let Expected::Word = error.expected {
+        let word = words.get(error.word).copied().unwrap_or("");
+        let known = FirstWords::OfScripts.listed(alloc)?;
+        add_meant(word, known.as_slice(), &mut text)?;
     }
     Ok(text)
+}
+
+/// Words that neither events nor scripts use, each with the word that is meant instead.
+const MEANT: [(&str, &str); 6] = [
+    ("request", "ask"),
+    ("send", "deliver"),
+    ("drop", "lose"),
+    ("release", "leave"),
+    ("crash", "cut"),
+    ("quit", "leave"),
+];
+
+/// Appends which of the known words is meant by a wrong one, if that is known.
+pub(crate) fn add_meant(word: &str, known: &[&str], text: &mut String) -> Result<(), AllocError> {
+    for (other, meant) in &MEANT {
+        if *other == word && index_in(meant, known).is_some() {
+            write!(text, "; \"{meant}\" is meant")?;
+        }
+    }
+    Ok(())
 }

@@ -9,7 +9,7 @@ ghost use Rattle.mx_scripts.specs.Ended.{EndsScript, ScriptsOf};
 
 use crate::cached_source::DetailedSource;
 use crate::files::{Second, print_files};
-use crate::script_notes::ScriptNotes;
+use crate::notes::Notes;
 use mx_cli::{CommandError, Names};
 use mx_io::{Output, Source};
 use mx_scripts::{ScriptError, close_script, file_of_names};
@@ -50,7 +50,7 @@ fn end_and_explain<S: Source + DetailedSource, O: Output>(
     ensures zero { IfOk result (λ status. status ≡ 0) }
     ensures stays { O.takes_all out.new ≡ O.takes_all out.old }
 {
-    let mut notes = ScriptNotes::new(alloc);
+    let mut notes = Notes::new(alloc);
     let ended = end_of(alloc, names, source, &mut notes);
     match print_end(alloc, names, &ended, &notes, source, out) {
         Ok(()) => ended,
@@ -64,7 +64,7 @@ fn end_of<S: Source>(
     alloc: Global,
     names: &Names<'_>,
     source: &mut S,
-    notes: &mut ScriptNotes,
+    notes: &mut Notes,
 ) -> Result<u8, ScriptError>
     ensures ends { (takes : Bool) → EndsScript takes (S.told source.old)
         (names_of names.now) result }
@@ -82,7 +82,7 @@ fn print_end<S: Source + DetailedSource, O: Output>(
     alloc: Global,
     names: &Names<'_>,
     ended: &Result<u8, ScriptError>,
-    notes: &ScriptNotes,
+    notes: &Notes,
     source: &mut S,
     out: &mut O,
 ) -> Result<(), CommandError>
