@@ -1,5 +1,3 @@
-//! The names of nodes and registers that a line may have.
-
 ghost use Rattle.std.specs.Prelude.{◌≡◌, position};
 ghost use Rattle.std.specs.Str.{bytes_eq};
 ghost use Rattle.mx_lines.specs.Names.{Known};
