@@ -1,10 +1,9 @@
 //! Runs events, and counts their parcels, refusals and waits.
 
 ghost use Rattle.std.specs.Prelude.{◌≡◌, ◌++◌, IfOk, OnOk, string_bytes};
-ghost use Rattle.mx_network.specs.Step.{RunsTo};
 ghost use Rattle.mx_format.specs.Parts.{word_by};
 ghost use Rattle.mx_count.specs.Counts.{tallies_text, times_text};
-ghost use Rattle.mx_count.specs.Counted.{AddsCounts, AddsCountsBy, Leads, all_nodes_text, cluster_text, counts_text, details_text, explored_head, explored_json, first_text, head_text};
+ghost use Rattle.mx_count.specs.Counted.{AddsCounts, AddsCountsBy, Leads, all_nodes_text, cluster_text, counts_text, details_text, first_text};
 
 use crate::kinds::Group;
 use crate::measures::Measure;
@@ -25,7 +24,7 @@ use mx_plan::Plan;
 use std::alloc::{AllocError, Global};
 
 #[derive(Clone, Copy)]
-pub enum EventSource {
+pub(crate) enum EventSource {
     /// A file lists them. The delivery of a parcel that was not sent is a fault.
     Given,
     /// They were drawn from a seed. The random number in a delivery chooses one of the newest
@@ -34,11 +33,11 @@ pub enum EventSource {
 }
 
 #[derive(Clone, Copy)]
-pub struct Options {
-    pub source: EventSource,
-    pub is_json: bool,
+pub(crate) struct Options {
+    pub(crate) source: EventSource,
+    pub(crate) is_json: bool,
     /// Whether only the numbers of events, sections and parcels are printed, and the verdict.
-    pub is_brief: bool,
+    pub(crate) is_brief: bool,
 }
 
 pub(crate) fn add_counts_of(
@@ -85,18 +84,14 @@ fn apply_events<C: Exclusion>(
     ensures { OnOk result (Leads source C.core cluster.old events.now cluster.new) }
 {
     match source {
-        EventSource::Given => run_given(cluster, events),
+        EventSource::Given => {
+            cluster.make_room(events.len())?;
+            match cluster.run(events) {
+                Ok(()) => Ok(()),
+                Err(stopped) => Err(stop_at(stopped)),
+            }
+        }
         EventSource::Drawn => Ok(happen(cluster, events)?),
-    }
-}
-
-fn run_given<C: Exclusion>(cluster: &mut Cluster<C>, events: &[Event]) -> Result<(), CommandError>
-    ensures { OnOk result (RunsTo C.core cluster.old events.now cluster.new) }
-{
-    cluster.make_room(events.len())?;
-    match cluster.run(events) {
-        Ok(()) => Ok(()),
-        Err(stopped) => Err(stop_at(stopped)),
     }
 }
 
@@ -159,58 +154,22 @@ fn add_first(
         ++ first_text options.source options.is_json events sections parcels) }
 {
     match options.source {
-        EventSource::Given => add_head(options.is_json, events, sections, parcels, text),
-        EventSource::Drawn => add_explored(options.is_json, events, sections, parcels, text),
+        EventSource::Given => {
+            add_first_tally(options.is_json, "events", events, text)?;
+            add_tally_line(options.is_json, "", "sections", sections, text)?;
+            add_tally_line(options.is_json, "", "parcels", parcels, text)
+        }
+        EventSource::Drawn if options.is_json => {
+            text.write(NumberStart("explored", events))?;
+            add_number("entered", sections, text)?;
+            add_number("sent", parcels, text)
+        }
+        EventSource::Drawn => text.write(ExploredLine {
+            steps: events,
+            entered: sections,
+            sent: parcels,
+        }),
     }
-}
-
-fn add_head(
-    is_json: bool,
-    events: u64,
-    sections: u64,
-    parcels: u64,
-    text: &mut String,
-) -> Result<(), AllocError>
-    ensures { OnOk result (string_bytes text.new
-        ≡ string_bytes text.old ++ head_text is_json events sections parcels) }
-{
-    add_first_tally(is_json, "events", events, text)?;
-    add_tally_line(is_json, "", "sections", sections, text)?;
-    add_tally_line(is_json, "", "parcels", parcels, text)
-}
-
-fn add_explored(
-    is_json: bool,
-    steps: u64,
-    entered: u64,
-    sent: u64,
-    text: &mut String,
-) -> Result<(), AllocError>
-    ensures { OnOk result (string_bytes text.new
-        ≡ string_bytes text.old ++ explored_head is_json steps entered sent) }
-{
-    if is_json {
-        return add_explored_members(steps, entered, sent, text);
-    }
-    text.write(ExploredLine {
-        steps,
-        entered,
-        sent,
-    })
-}
-
-fn add_explored_members(
-    steps: u64,
-    entered: u64,
-    sent: u64,
-    text: &mut String,
-) -> Result<(), AllocError>
-    ensures { OnOk result (string_bytes text.new
-        ≡ string_bytes text.old ++ explored_json steps entered sent) }
-{
-    text.write(NumberStart("explored", steps))?;
-    add_number("entered", entered, text)?;
-    add_number("sent", sent, text)
 }
 
 fn add_details<C: Exclusion>(

@@ -28,17 +28,6 @@ pub(crate) fn measured<C: Exclusion>(
     alloc: Global,
     cluster: &Cluster<C>,
     measure: Measure,
-) -> Result<Vec<u64>, AllocError>
-    ensures { IfOk result (λ numbers. numbers.items
-        ≡ measured measure cluster.now.sent cluster.now.trace) }
-{
-    measured_in(alloc, cluster, measure, cluster.trace())
-}
-
-fn measured_in<C: Exclusion>(
-    alloc: Global,
-    cluster: &Cluster<C>,
-    measure: Measure,
     trace: &[Entry],
 ) -> Result<Vec<u64>, AllocError>
     ensures { IfOk result (λ numbers. numbers.items

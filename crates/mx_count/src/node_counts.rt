@@ -6,7 +6,7 @@ ghost use Rattle.mx_count.specs.NodeCounts.{is_addressee, is_delivered_to, is_en
 
 use crate::kinds::Group;
 use crate::parcel_counts::count_parcels;
-use crate::tallies::add_tally;
+use crate::tallies::{add_tally, either};
 use crate::waits::is_refusal;
 use mx_commands::is_entry;
 use mx_format::json::NodeStart;
@@ -90,10 +90,7 @@ fn add_head(plan: &Plan, is_json: bool, node: NodeId, text: &mut String) -> Resu
 fn add_node_end(is_json: bool, text: &mut String) -> Result<(), AllocError>
     ensures { OnOk result (string_bytes text.new ≡ string_bytes text.old ++ node_end is_json) }
 {
-    if is_json {
-        return text.push_str("}\n");
-    }
-    text.push_str("\n")
+    text.push_str(either(is_json, "}\n", "\n"))
 }
 
 fn entries_of(trace: &[Entry], node: NodeId) -> u64

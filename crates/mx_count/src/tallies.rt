@@ -1,11 +1,18 @@
 //! Counts and values with their names, as lines or as members of an object of JSON.
 
-ghost use Rattle.std.specs.Prelude.{◌≡◌, ◌≢◌, ◌++◌, OnOk, string_bytes};
-ghost use Rattle.mx_count.specs.Tallies.{absent_text, counts_end, first_tally_text, key_text, quotient_text, share_of, share_text, tally, tally_text, value_end, value_start};
+ghost use Rattle.std.specs.Prelude.{◌≡◌, ◌≢◌, ◌++◌, if◌then◌else◌, OnOk, string_bytes};
+ghost use Rattle.mx_count.specs.Tallies.{absent_text, counts_end, first_tally_text, quotient_text, share_of, share_text, tally, tally_text, value_end, value_start};
 
 use crate::count_lines::{NamedCount, TenthsText};
 use mx_format::json::{NumberStart, add_number};
 use std::alloc::AllocError;
+
+/// Returns the text for JSON, or else the one for lines.
+pub(crate) fn either(is_json: bool, json: &'static str, line: &'static str) -> &'static str
+    ensures { result.now ≡ (if is_json then json.now else line.now) }
+{
+    if is_json { json } else { line }
+}
 
 pub(crate) const PART_INDENT: &str = "  ";
 
@@ -105,10 +112,7 @@ pub(crate) fn add_absent(is_json: bool, text: &mut String) -> Result<(), AllocEr
     ensures { OnOk result (string_bytes text.new
         ≡ string_bytes text.old ++ absent_text is_json) }
 {
-    if is_json {
-        return text.push_str("null");
-    }
-    text.push_str("none")
+    text.push_str(either(is_json, "null", "none"))
 }
 
 pub(crate) fn add_value_start(
@@ -120,36 +124,24 @@ pub(crate) fn add_value_start(
         ≡ string_bytes text.old ++ value_start is_json name.now) }
 {
     if is_json {
-        return add_key(name, text);
+        text.push_str(",\"")?;
+        text.push_str(name)?;
+        return text.push_str("\":");
     }
     text.push_str(name)?;
     text.push_str(" ")
-}
-
-fn add_key(name: &str, text: &mut String) -> Result<(), AllocError>
-    ensures { OnOk result (string_bytes text.new ≡ string_bytes text.old ++ key_text name.now) }
-{
-    text.push_str(",\"")?;
-    text.push_str(name)?;
-    text.push_str("\":")
 }
 
 pub(crate) fn add_value_end(is_json: bool, text: &mut String) -> Result<(), AllocError>
     ensures { OnOk result (string_bytes text.new
         ≡ string_bytes text.old ++ value_end is_json) }
 {
-    if is_json {
-        return Ok(());
-    }
-    text.push_str("\n")
+    text.push_str(either(is_json, "", "\n"))
 }
 
 pub(crate) fn add_counts_end(is_json: bool, text: &mut String) -> Result<(), AllocError>
     ensures { OnOk result (string_bytes text.new
         ≡ string_bytes text.old ++ counts_end is_json) }
 {
-    if is_json {
-        return text.push_str("}\n");
-    }
-    Ok(())
+    text.push_str(either(is_json, "}\n", ""))
 }

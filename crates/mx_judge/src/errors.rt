@@ -3,7 +3,7 @@ use mx_cli::CommandError;
 
 /// Why there is no verdict.
 #[derive(Clone, Copy)]
-pub enum JudgeError {
+pub(crate) enum JudgeError {
     /// A file, the plan, an output or memory stopped the command.
     Command(CommandError),
     /// The trace has a fault.

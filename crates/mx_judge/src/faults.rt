@@ -8,7 +8,7 @@ use std::fmt;
 
 /// The fault of a line of a trace, or of an item of an array.
 #[derive(Clone, Copy)]
-pub enum ItemFault {
+pub(crate) enum ItemFault {
     /// It is not valid JSON, or not valid UTF-8.
     NotJson,
     /// It is not an object of an event, a parcel, a node or a verdict.
@@ -35,7 +35,7 @@ impl fmt::Display for ItemFault {
 
 /// The fault of a trace. Lines and items are numbered from 1.
 #[derive(Clone, Copy)]
-pub enum TraceFault {
+pub(crate) enum TraceFault {
     NotJson,
     Line(u64, ItemFault),
     Item(u64, ItemFault),

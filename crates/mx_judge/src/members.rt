@@ -8,7 +8,7 @@ use crate::faults::ItemFault;
 use serde_json::Value;
 
 #[derive(Clone, Copy)]
-pub enum Member {
+pub(crate) enum Member {
     Act,
     Node,
     From,
@@ -23,7 +23,7 @@ pub enum Member {
 }
 
 impl Member {
-    pub fn key(self) -> &'static str
+    pub(crate) fn key(self) -> &'static str
         ensures { result.now ≡ spec.key_of self }
     {
         match self {
@@ -41,7 +41,7 @@ impl Member {
         }
     }
 
-    pub fn message(self) -> &'static str
+    pub(crate) fn message(self) -> &'static str
         ensures { result.now ≡ spec.message_of self }
     {
         match self {

@@ -18,7 +18,7 @@ pub(crate) fn outcome_in(event: &Event, value: &Value) -> Result<Outcome, ItemFa
 {
     let word = text_at(value, Member::Outcome);
     if word == "refused" {
-        return refusal(value);
+        return Ok(Outcome::Refused(cause_in(value)?));
     }
     if word == word_of_done(event.kind()) {
         return done(event, value);
@@ -47,7 +47,13 @@ fn done(event: &Event, value: &Value) -> Result<Outcome, ItemFault>
     ensures { result ≡ spec.done event.now (view value.now) }
 {
     match event {
-        Event::Ask(node) => asked(*node, value),
+        Event::Ask(node) => {
+            let number = number_at(value, Member::Number)?;
+            Ok(Outcome::Asked(Stamp {
+                number,
+                node: *node,
+            }))
+        }
         Event::Enter(_) => Ok(Outcome::Entered(number_at(value, Member::Number)?)),
         Event::Read(_, _) => Ok(Outcome::Value(number_at(value, Member::Value)?)),
         Event::Write(_, _, _) => Ok(Outcome::Written),
@@ -62,13 +68,6 @@ fn done(event: &Event, value: &Value) -> Result<Outcome, ItemFault>
     }
 }
 
-fn asked(node: NodeId, value: &Value) -> Result<Outcome, ItemFault>
-    ensures { result ≡ spec.asked node (view value.now) }
-{
-    let number = number_at(value, Member::Number)?;
-    Ok(Outcome::Asked(Stamp { number, node }))
-}
-
 /// The receipt has no reads and no writes, since the judge does not use them.
 fn left(node: NodeId, value: &Value) -> Result<Outcome, ItemFault>
     ensures { result ≡ spec.left node (view value.now) }
@@ -80,12 +79,6 @@ fn left(node: NodeId, value: &Value) -> Result<Outcome, ItemFault>
         reads: ArrayVec::new(),
         writes: ArrayVec::new(),
     }))
-}
-
-fn refusal(value: &Value) -> Result<Outcome, ItemFault>
-    ensures { result ≡ spec.refusal (view value.now) }
-{
-    Ok(Outcome::Refused(cause_in(value)?))
 }
 
 fn cause_in(value: &Value) -> Result<Cause, ItemFault>

@@ -1,7 +1,7 @@
 //! The first two lines of a picture: its size, and its title.
 
 ghost use Rattle.std.specs.Prelude.{◌≡◌, ◌<◌, ◌++◌, OnOk, Some, string_bytes};
-ghost use Rattle.mx_picture.specs.Drawn.{algorithm_name, corner_text, name_text, names_text, opening_line, size_text, title_end, title_line, title_start, view_text};
+ghost use Rattle.mx_picture.specs.Drawn.{algorithm_name, name_text, names_text, opening_line, title_end, title_line, title_start};
 
 use mx_format::name_of;
 use mx_plan::{Plan, Shape};
@@ -9,74 +9,27 @@ use mx_stamps::{MAX_NODES, NodeId};
 use std::alloc::AllocError;
 use std::fmt;
 
+/// What of the plane a picture shows, in pixels: its width and height, and the distance from its
+/// top left corner to the line of its first node (`left`) and to its first row (`top`).
 #[derive(Clone, Copy)]
-pub(crate) struct OpeningLine {
-    pub(crate) corner: Corner,
-    pub(crate) size: Size,
-}
-
-impl fmt::Display for OpeningLine {
-    ghost output = { λ l. Some (opening_line l.corner l.size) };
-
-    fn fmt<W: fmt::Write>(&self, f: &mut fmt::Formatter<W>) -> fmt::Result {
-        let size = self.size;
-        let view = View {
-            corner: self.corner,
-            size,
-        };
-        write!(
-            f,
-            "<svg xmlns=\"http://www.w3.org/2000/svg\" role=\"img\" {size} {view}>\n"
-        )
-    }
-}
-
-/// The width and the height of a picture, in pixels.
-#[derive(Clone, Copy)]
-pub(crate) struct Size {
+pub(crate) struct Frame {
+    pub(crate) left: u64,
+    pub(crate) top: u64,
     pub(crate) width: u64,
     pub(crate) height: u64,
 }
 
-impl fmt::Display for Size {
-    ghost output = { λ s. Some (size_text s) };
+impl fmt::Display for Frame {
+    ghost output = { λ frame. Some (opening_line frame) };
 
     fn fmt<W: fmt::Write>(&self, f: &mut fmt::Formatter<W>) -> fmt::Result {
-        write!(f, "width=\"{}\" height=\"{}\"", self.width, self.height)
-    }
-}
-
-/// The distance from the top left corner of a picture to the line of its first node (`left`), and
-/// to its first row (`top`), in pixels.
-#[derive(Clone, Copy)]
-pub(crate) struct Corner {
-    pub(crate) left: u64,
-    pub(crate) top: u64,
-}
-
-impl fmt::Display for Corner {
-    ghost output = { λ c. Some (corner_text c) };
-
-    fn fmt<W: fmt::Write>(&self, f: &mut fmt::Formatter<W>) -> fmt::Result {
-        write!(f, "-{} -{}", self.left, self.top)
-    }
-}
-
-/// The rectangle of coordinates that a picture shows (`viewBox`).
-#[derive(Clone, Copy)]
-struct View {
-    corner: Corner,
-    size: Size,
-}
-
-impl fmt::Display for View {
-    ghost output = { λ v. Some (view_text v.corner v.size) };
-
-    fn fmt<W: fmt::Write>(&self, f: &mut fmt::Formatter<W>) -> fmt::Result {
-        let corner = self.corner;
-        let width = self.size.width;
-        let height = self.size.height;
-        write!(f, "viewBox=\"{corner} {width} {height}\"")
+        let width = self.width;
+        let height = self.height;
+        write!(
+            f,
+            "<svg xmlns=\"http://www.w3.org/2000/svg\" role=\"img\" width=\"{width}\" height=\"{height}\" viewBox=\"-{} -{} {width} {height}\">\n",
+            self.left, self.top
+        )
     }
 }
 

@@ -6,7 +6,7 @@ ghost use Rattle.mx_picture.specs.Drawn.{IsPicture};
 use crate::columns::{Columns, Lanes};
 use crate::labels::Extent;
 use crate::legend::{LEGEND, LEGEND_WIDTH, STYLES};
-use crate::opening::{Corner, OpeningLine, Size, add_title_line, algorithm_of};
+use crate::opening::{Frame, add_title_line, algorithm_of};
 use crate::part::Part;
 use crate::segment::y_of;
 use crate::shapes::Shapes;
@@ -40,50 +40,27 @@ const MARGIN: u64 = 40;
 /// The distance of the heading from the edge, in pixels.
 const INDENT: u64 = 16;
 
-/// The size of the page, in pixels, with room for all texts. The line of the first node is `left`
-/// pixels from the left edge, and all lines end `bottom` pixels below the first row.
-#[derive(Clone, Copy)]
-struct Frame {
-    left: u64,
-    width: u64,
-    height: u64,
-    bottom: u64,
-}
-
-impl Frame {
-    fn new(columns: &Columns, extent: Extent, heading: &str, bottom: u64) -> Self {
-        let left = extent
-            .left
-            .saturating_add(MARGIN)
-            .max(NAME)
-            .saturating_add(INDICES);
-        let right = extent
-            .right
-            .saturating_add(MARGIN)
-            .max(columns.last.saturating_add(NAME))
-            .saturating_add(INDICES);
-        Frame {
-            left,
-            width: left
-                .saturating_add(right)
-                .max(LEGEND_WIDTH)
-                .max(heading_width(heading)),
-            height: bottom.saturating_add(HEAD + FOOT),
-            bottom,
-        }
-    }
-
-    fn opening(&self) -> OpeningLine {
-        OpeningLine {
-            corner: Corner {
-                left: self.left,
-                top: HEAD,
-            },
-            size: Size {
-                width: self.width,
-                height: self.height,
-            },
-        }
+/// Returns the frame with room for these columns, for texts of this extent, and for this heading.
+/// All lines end `bottom` pixels below the first row.
+fn frame_of(columns: &Columns, extent: Extent, heading: &str, bottom: u64) -> Frame {
+    let left = extent
+        .left
+        .saturating_add(MARGIN)
+        .max(NAME)
+        .saturating_add(INDICES);
+    let right = extent
+        .right
+        .saturating_add(MARGIN)
+        .max(columns.last.saturating_add(NAME))
+        .saturating_add(INDICES);
+    Frame {
+        left,
+        top: HEAD,
+        width: left
+            .saturating_add(right)
+            .max(LEGEND_WIDTH)
+            .max(heading_width(heading)),
+        height: bottom.saturating_add(HEAD + FOOT),
     }
 }
 
@@ -99,6 +76,8 @@ struct Page<'a> {
     shapes: &'a Shapes,
     columns: Columns,
     frame: Frame,
+    /// Where the lines of nodes end.
+    bottom: u64,
 }
 
 #[derive(Drop)]
@@ -123,7 +102,7 @@ fn whole_page(alloc: Global, plan: &Plan, events: u64, body: &Body) -> Result<St
     ensures { IfOk result (λ page. IsPicture plan.now events (string_bytes page)) }
 {
     let mut text = String::new(alloc);
-    text.write(body.frame.opening())?;
+    text.write(body.frame)?;
     add_title_line(plan, events, &mut text)?;
     text.push_str(body.svg.as_str())?;
     text.push_str("</svg>\n")?;
@@ -141,12 +120,14 @@ fn body_of(plan: &Plan, part: &Part, sheet: &Sheet) -> Result<Body, AllocError> 
     let columns = Columns::new(plan, &lanes, shapes.labels.as_slice());
     let texts = shapes.texts(&columns)?;
     let heading = heading_of(plan, part, sheet)?;
-    let frame = Frame::new(&columns, texts.extent, heading.as_str(), y_of(sheet.row));
+    let bottom = y_of(sheet.row);
+    let frame = frame_of(&columns, texts.extent, heading.as_str(), bottom);
     let page = Page {
         plan,
         shapes,
         columns,
         frame,
+        bottom,
     };
     let mut svg = String::new(shapes.alloc);
     add_page(&page, heading.as_str(), texts.svg.as_str(), &mut svg)?;
@@ -261,7 +242,7 @@ fn add_lanes(page: &Page<'_>, text: &mut String) -> Result<(), AllocError> {
         {
             let name = name_of(page.plan, node);
             let x = page.columns.x_of(node);
-            let bottom = page.frame.bottom;
+            let bottom = page.bottom;
             write!(
                 text,
                 "<path class=\"node\" d=\"M{x}-12V{bottom}\"/>\n<text class=\"name\" x=\"{x}\" y=\"-18\">{name}</text>\n<text class=\"name\" x=\"{x}\" y=\"{bottom}\" dy=\"20\">{name}</text>\n"

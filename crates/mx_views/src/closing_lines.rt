@@ -2,8 +2,7 @@
 
 ghost use Rattle.std.specs.Prelude.{◌≡◌, ◌+◌, ◌<◌, ◌++◌, length, drop, string_bytes, IfOk, OnOk};
 ghost use Rattle.mx_format.specs.Lines.{texts_from};
-ghost use Rattle.mx_format.specs.NodeTexts.{member_line};
-ghost use Rattle.mx_views.specs.Shown.{closing_text, member_text, shown_member, state_text};
+ghost use Rattle.mx_views.specs.Shown.{closing_text, shown_member, state_text};
 
 use crate::node_json::add_node_json;
 use crate::selection::Selection;
@@ -89,36 +88,9 @@ fn add_member<C: Exclusion + Knowledge>(
     if !selection.shows_node(node) {
         return Ok(());
     }
-    add_shown(alloc, selection, node, member, text)
-}
-
-fn add_shown<C: Exclusion + Knowledge>(
-    alloc: Global,
-    selection: &Selection<'_>,
-    node: NodeId,
-    member: &Member<C>,
-    text: &mut String,
-) -> Result<(), AllocError>
-    ensures { OnOk result (string_bytes text.new ≡ string_bytes text.old
-        ++ member_text selection.now.plan.now selection.now.view C.core C.knows node member.now) }
-{
     if selection.view.is_json {
         return add_node_json(alloc, selection.plan, node, member, text);
     }
-    add_lines(alloc, selection, node, member, text)
-}
-
-fn add_lines<C: Exclusion + Knowledge>(
-    alloc: Global,
-    selection: &Selection<'_>,
-    node: NodeId,
-    member: &Member<C>,
-    text: &mut String,
-) -> Result<(), AllocError>
-    ensures { OnOk result (string_bytes text.new ≡ string_bytes text.old
-        ++ (member_line C.core selection.now.plan.now node member.now
-        ++ state_text selection.now.plan.now selection.now.view (C.knows member.now.core))) }
-{
     add_member_line(selection.plan, node, member, text)?;
     add_state(alloc, selection, member, text)
 }

@@ -1,11 +1,10 @@
 //! `check` with `--json`.
 
-ghost use Rattle.std.specs.Prelude.{◌≡◌, ◌++◌, true, IsSome, IfSome, IfOk, OnOk, string_bytes};
+ghost use Rattle.std.specs.Prelude.{◌≡◌, ◌++◌, IsSome, IfSome, IfOk, OnOk, string_bytes};
 ghost use Rattle.std.specs.Io.KnownBytes.{Appends};
 ghost use Rattle.mx_cli.specs.Words.{texts_of};
 ghost use Rattle.mx_cli.specs.Reports.{Answers, seen};
 ghost use Rattle.mx_cli.specs.Closed.{IsRunStatus, PassesOn};
-ghost use Rattle.mx_format.specs.AskTexts.{plan_asks_text_by};
 ghost use Rattle.mx_views.specs.PlanObjects.{PrintsObjects, objects_of};
 ghost use Rattle.mx_views.specs.PlanWords.{check_line, plan_asked, plan_request_of};
 
@@ -93,15 +92,8 @@ fn add_objects(plan: &Plan, has_asks: bool, text: &mut String) -> Result<(), All
         ≡ string_bytes text.old ++ objects_of has_asks plan.now) }
 {
     if has_asks {
-        return add_all_objects(plan, text);
+        add_plan_json(plan, text)?;
+        return add_asks_json(plan, text);
     }
     add_plan_json(plan, text)
-}
-
-fn add_all_objects(plan: &Plan, text: &mut String) -> Result<(), AllocError>
-    ensures { OnOk result (string_bytes text.new
-        ≡ string_bytes text.old ++ plan_asks_text_by true plan.now) }
-{
-    add_plan_json(plan, text)?;
-    add_asks_json(plan, text)
 }
