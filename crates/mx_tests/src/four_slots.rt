@@ -4,7 +4,7 @@ ghost use Rattle.std.specs.Prelude.{◌≡◌, IfOk, IfSome};
 ghost use Rattle.mx_stations.specs.Gathered.{KeepsTable, OfOneTable};
 
 use crate::given::node;
-use crate::station_calls::{Call, Calls, GOT, SENT, assert_calls, leaves};
+use crate::station_calls::{Call, Calls, GOT, SENT, assert_calls};
 use crate::stations::{last, last_two, two};
 use Call::{Ask, Enter, PutsOut, TakesIn, Tick};
 use mx_nodelaws::Phase;
@@ -129,6 +129,15 @@ fn are_as_they_were(zero: &Station<Ricart>, one: &Station<Ricart>) -> bool {
         && zero.phase() == Phase::Inside(1)
         && one.node().get() == 1
         && one.phase() == Phase::Idle
+}
+
+fn leaves(station: &mut Station<Ricart>, number: u64) -> bool
+    ensures { KeepsTable station.old station.new }
+{
+    match station.leave() {
+        Ok(receipt) => receipt.number == number,
+        Err(_) => false,
+    }
 }
 
 /// Returns whether both, as they come back, are gathered once node 0 has left its section.

@@ -181,27 +181,13 @@ struct Ending {
     worked: Worked,
 }
 
-const ENDINGS: [Ending; 4] = [
-    Ending {
-        nodes: 1,
-        unworked: 0,
-        may_stop: true,
-        turns: 10,
-        worked: Worked::Done,
-    },
+const ENDINGS: [Ending; 2] = [
     Ending {
         nodes: 1,
         unworked: 0,
         may_stop: false,
         turns: 10,
         worked: Worked::NotYet(10),
-    },
-    Ending {
-        nodes: 1,
-        unworked: 0,
-        may_stop: true,
-        turns: 0,
-        worked: Worked::NotYet(0),
     },
     Ending {
         nodes: 3,
