@@ -39,7 +39,6 @@ fn sends(station: &mut Station<Ricart>, times: u32) -> bool {
     true
 }
 
-/// Returns how many fates a station has drawn after each of three turns.
 fn times(station: &mut Station<Ricart>, fate: Fate) -> [u32; 3] {
     let mut fates = Asked::new(fate);
     let mut times = [0; 3];

@@ -56,7 +56,6 @@ fn put_all_or_none(rt: HostRuntime) -> Result<(), Fail> {
     Ok(())
 }
 
-/// Numbers 4 and 6.
 const LACKED: [Range; 2] = [Range { first: 4, last: 4 }, Range { first: 6, last: 6 }];
 
 #[test]
@@ -99,7 +98,6 @@ fn settle(rt: &impl Abort, journal: &mut Journal) {
     assert!(rt; journal.settle(3) == Ok(()) && extent(journal) == (1, 5, 3));
 }
 
-/// Returns whether a journal has settled 1 to 3, and register 0 is 5 by section 5.
 fn is_settled(journal: &Journal) -> bool {
     let shown = view(journal, 1);
     journal.base().upto() == 3
@@ -119,7 +117,6 @@ fn settle_and_take_base(rt: HostRuntime) -> Result<(), Fail> {
     Ok(())
 }
 
-/// Returns whether all numbers up to 1000 with this remainder modulo 2 are new.
 fn takes_halves(journal: &mut Journal, rest: u64) -> bool {
     for number in 1..=1000 {
         if number % 2 == rest && journal.put(entry(number, &[(0, number)])) != Ok(Put::New) {
@@ -129,7 +126,6 @@ fn takes_halves(journal: &mut Journal, rest: u64) -> bool {
     true
 }
 
-/// Returns whether a journal lacks the even numbers from 2 to 16.
 fn lacks_even(journal: &Journal) -> bool {
     for (gap, half) in missing(journal, 16).as_slice().iter().zip(1..9) {
         if gap.first != 2 * half || gap.last != 2 * half {

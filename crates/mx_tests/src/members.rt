@@ -10,7 +10,6 @@ use mx_ricart::{Count, Ricart};
 use std::alloc::Global;
 use std::test::Fail;
 
-/// Creates node 0 of two, with one register.
 fn started(alloc: Global) -> Result<Member<Ricart>, Fail> {
     let shape = Count::of(2).ok_or("count")?;
     let me = node(0);

@@ -15,7 +15,6 @@ const WRITES: [&[(u8, u64)]; 5] = [
     &[(1, 9)],
 ];
 
-/// Returns the record of one of those sections.
 fn section(number: u8) -> Record {
     match WRITES.get(number.wrapping_sub(1) as usize) {
         Some(writes) => entry(u64::from(number), *writes),
@@ -49,7 +48,6 @@ fn sections(alloc: Global, numbers: &[u8]) -> Result<Vec<Record>, AllocError> {
     Ok(list)
 }
 
-/// Returns the view after records that are applied one by one.
 fn taken(list: &[Record]) -> View {
     let mut view = View::new(3);
     for record in list {

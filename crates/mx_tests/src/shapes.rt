@@ -18,7 +18,6 @@ fn shapes_checked(rt: HostRuntime) -> Result<(), Fail> {
     Ok(())
 }
 
-/// Returns whether exactly these nodes are in the set of node i.
 fn has_set(quorums: &Quorums, i: u8, members: &[u8]) -> bool
     requires { i < 21 }
 {
@@ -30,7 +29,6 @@ fn has_set(quorums: &Quorums, i: u8, members: &[u8]) -> bool
     true
 }
 
-/// Returns whether the sets of node 0 and of another node meet in this node.
 fn meets_in(quorums: &Quorums, other: u8, least: u8) -> bool {
     other < quorums.nodes() && quorums.meeting(node(0), node(other)) == node(least % 21)
 }

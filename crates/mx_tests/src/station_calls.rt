@@ -24,11 +24,9 @@ pub(crate) enum Call {
     TakesIn(Taken),
     /// The fate of each parcel that the turn takes, and its report.
     Turn(Fate, TurnReport),
-    /// The number of parcels that wait.
     Waits(usize),
 }
 
-/// Returns the other of two nodes.
 fn other_of(station: &Station<Ricart>) -> Option<NodeId>
     ensures { IfSome result (λ i. i < station.now.nodes) }
 {
@@ -40,7 +38,6 @@ fn other_of(station: &Station<Ricart>) -> Option<NodeId>
     }
 }
 
-/// Returns whether the station may enter, and enters the section of this number.
 fn enters(station: &mut Station<Ricart>, number: u64) -> bool
     ensures { KeepsTable station.old station.new }
 {
@@ -49,7 +46,6 @@ fn enters(station: &mut Station<Ricart>, number: u64) -> bool
     may_enter && entered == Ok(number)
 }
 
-/// Returns whether a turn draws one fate for each parcel that it takes, and has that report.
 fn turns(station: &mut Station<Ricart>, fate: Fate, report: &TurnReport) -> bool
     ensures { KeepsTable station.old station.new }
 {
@@ -74,7 +70,6 @@ fn ticks(station: &mut Station<Ricart>) -> bool
     true
 }
 
-/// Returns whether the call has that result.
 fn holds(station: &mut Station<Ricart>, call: &Call) -> bool
     ensures { KeepsTable station.old station.new }
 {
@@ -89,7 +84,6 @@ fn holds(station: &mut Station<Ricart>, call: &Call) -> bool
     }
 }
 
-/// Returns whether the call has that result, at the station of this node.
 fn holds_at(zero: &mut Station<Ricart>, one: &mut Station<Ricart>, node: u8, call: &Call) -> bool
     ensures { KeepsTable zero.old zero.new × KeepsTable one.old one.new }
 {
@@ -117,8 +111,6 @@ pub(crate) fn assert_calls(
     }
 }
 
-/// A parcel is put out.
 pub(crate) const SENT: Call = PutsOut(PutOut::Sent);
 
-/// A parcel is taken in.
 pub(crate) const GOT: Call = TakesIn(Taken::Got);

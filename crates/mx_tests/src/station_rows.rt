@@ -9,7 +9,6 @@ use std::alloc::Global;
 use std::process::Abort;
 use std::test::Fail;
 
-/// The report of a turn that takes one parcel, and does nothing else.
 const TAKEN: TurnReport = TurnReport {
     taken: 1,
     dropped: 0,
@@ -86,7 +85,6 @@ const SIXTY_FOUR: [(u32, Calls); 7] = [
     (1, &[(0, Waits(0))]),
 ];
 
-/// Makes the calls of each table this many times, one after another, with new stations.
 fn make_calls(rt: &impl Abort, alloc: Global, tables: &[(u32, Calls)]) -> Result<(), Fail> {
     let mut both = two(alloc)?;
     both.0.apart(&mut both.1);

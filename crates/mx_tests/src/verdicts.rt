@@ -72,7 +72,6 @@ const EDITS: [(usize, Option<Did>, Verdict); 6] = [
     (28, Some(Value(0, 20)), Verdict::Broken(28, Clause::Read)),
 ];
 
-/// Returns a trace with one item edited.
 fn edited(
     alloc: Global,
     trace: &[Entry],
