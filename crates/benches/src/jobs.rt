@@ -25,7 +25,6 @@ const SETTINGS: Settings = Settings {
     registers: 1,
 };
 
-/// Adds 1 to register 0, in this many sections.
 #[derive(Drop)]
 struct Adder {
     left: u64,
@@ -53,7 +52,6 @@ impl Job for Adder {
     }
 }
 
-/// Creates a job for each node.
 fn adders(alloc: Global, nodes: usize, sections: u64) -> Result<Vec<Adder>, AllocError> {
     let mut all = Vec::new(alloc);
     for _node in 0..nodes {
@@ -73,7 +71,6 @@ fn ricart<R: Threads>(rt: &R, alloc: Global, nodes: u8, sections: u64) -> Result
     }
 }
 
-/// Does the same by Maekawa's algorithm.
 fn maekawa<R: Threads>(rt: &R, alloc: Global, nodes: u8, sections: u64) -> Result<usize> {
     let stations = stations::<Maekawa>(alloc, &quorums_of(nodes)?, &SETTINGS)?;
     let links = fair_links(alloc, stations.len())?;
@@ -84,7 +81,6 @@ fn maekawa<R: Threads>(rt: &R, alloc: Global, nodes: u8, sections: u64) -> Resul
     }
 }
 
-/// Does the same by Raymond's algorithm.
 fn raymond<R: Threads>(rt: &R, alloc: Global, nodes: u8, sections: u64) -> Result<usize> {
     let stations = stations::<Raymond>(alloc, &binary_tree(alloc, nodes)?, &SETTINGS)?;
     let links = fair_links(alloc, stations.len())?;
@@ -95,7 +91,6 @@ fn raymond<R: Threads>(rt: &R, alloc: Global, nodes: u8, sections: u64) -> Resul
     }
 }
 
-/// Runs this many sections for each node, by this algorithm, and returns how many were run.
 fn run_by<R: Threads + AllocGlobal>(
     rt: &R,
     algorithm: &str,

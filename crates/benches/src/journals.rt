@@ -11,7 +11,6 @@ use std::alloc::{AllocError, Global};
 use std::collections::BTreeMap;
 use std::time::Instant;
 
-/// Returns the record of a section that wrote its number.
 fn entry(number: u64) -> Record {
     let mut record = Record::default();
     record.number = number;
@@ -69,7 +68,6 @@ fn timed_puts(rt: &HostRuntime, numbers: &[u64]) -> Result<(usize, u128)> {
     Ok((put, begun.elapsed(rt)?.as_millis()))
 }
 
-/// Inserts records into a map, and returns how many and in how many milliseconds.
 fn timed_inserts(rt: &HostRuntime, numbers: &[u64]) -> Result<(usize, u128)> {
     let begun = Instant::now(rt)?;
     let len = insert_each(rt.alloc(), numbers)?;
@@ -83,8 +81,6 @@ fn time_puts(rt: &HostRuntime, name: &str, numbers: &[u64]) -> Result<()> {
     Ok(())
 }
 
-/// Merges the other's records into the journal, and prints whether it did, and in how many
-/// milliseconds.
 fn tell_merge(rt: &HostRuntime, name: &str, journal: &mut Journal, other: &Journal) -> Result<()> {
     let begun = Instant::now(rt)?;
     let merged = merge(journal, other).is_ok();
@@ -93,14 +89,12 @@ fn tell_merge(rt: &HostRuntime, name: &str, journal: &mut Journal, other: &Journ
     Ok(())
 }
 
-/// Merges the records of the second numbers into those of the first.
 fn time_merge(rt: &HostRuntime, name: &str, into: &[u64], from: &[u64]) -> Result<()> {
     let mut journal = put_each(rt.alloc(), into)?;
     let other = put_each(rt.alloc(), from)?;
     tell_merge(rt, name, &mut journal, &other)
 }
 
-/// Returns the odd ones of the numbers, or the even ones.
 fn of_parity(alloc: Global, numbers: &[u64], is_odd: bool) -> Result<Vec<u64>, AllocError> {
     let mut found = Vec::new(alloc);
     for number in numbers {
@@ -124,7 +118,6 @@ fn time_merges(rt: &HostRuntime, numbers: &[u64]) -> Result<()> {
     time_merge(rt, "the greater half into the lesser", lesser, greater)
 }
 
-/// Times puts and merges of records of these numbers, which come in order.
 fn time_orders(rt: &HostRuntime, numbers: &mut [u64], seed: u64) -> Result<()> {
     time_puts(rt, "in order", numbers)?;
     time_merges(rt, numbers)?;
@@ -134,18 +127,15 @@ fn time_orders(rt: &HostRuntime, numbers: &mut [u64], seed: u64) -> Result<()> {
     time_puts(rt, "shuffled", numbers)
 }
 
-/// Times puts and merges of this many records.
 pub(crate) fn time_journals(rt: &HostRuntime, records: u64, seed: u64) -> Result<()> {
     let mut numbers = ascending(rt.alloc(), records)?;
     time_orders(rt, numbers.as_mut_slice(), seed)
 }
 
-/// Returns whether a journal of records 1 to `number` is to be settled now.
 fn is_due(number: u64, every: u64) -> bool {
     every > 0 && number % every == 0
 }
 
-/// Puts records in order, and settles all of them after each `every`.
 fn put_and_settle(alloc: Global, records: u64, every: u64) -> Result<Journal> {
     let mut journal = Journal::new(alloc);
     for last in 0..records {

@@ -17,7 +17,6 @@ use std::thread;
 use std::thread::Threads;
 use std::time::Instant;
 
-/// The greatest number of turns of a node.
 const MAX_TURNS: u64 = 1_000_000_000_000;
 
 /// A network that loses nothing, and counts the parcels that it delivers.
@@ -60,8 +59,6 @@ fn total(numbers: &[u64]) -> u64 {
     sum
 }
 
-/// Runs the nodes, each for this many sections. Returns how many they entered, and how many parcels
-/// were delivered.
 fn run_nodes<C: Exclusion + Send + 'static, R: Threads + Sync>(
     rt: &R,
     stations: Vec<Station<C>>,
@@ -99,7 +96,6 @@ where
     Ok(())
 }
 
-/// Runs the nodes of an algorithm until they have entered this many sections in all.
 pub(crate) fn time_stations<R: Threads + Sync + Clock + Print + AllocGlobal>(
     rt: &R,
     algorithm: &str,

@@ -20,7 +20,6 @@ use std::thread::Threads;
 const USAGE: &str =
     "usage: benches journals RECORDS SEED, benches settling RECORDS EVERY, or benches stations|jobs ALGORITHM NODES SECTIONS";
 
-/// Times journals, as these arguments say.
 fn time(rt: &HostRuntime, what: &str, first: &str, second: &str) -> Result<()> {
     match what {
         "journals" => time_journals(rt, first.parse()?, second.parse()?),
@@ -29,7 +28,6 @@ fn time(rt: &HostRuntime, what: &str, first: &str, second: &str) -> Result<()> {
     }
 }
 
-/// Times stations or jobs, with the number of nodes and sections in these arguments.
 fn time_run<R: Threads + Sync + Clock + Print + AllocGlobal>(
     rt: &R,
     what: &str,

@@ -7,10 +7,8 @@ use mx_ricart::Count;
 use mx_trees::Tree;
 use std::alloc::{AllocError, Global};
 
-/// The greatest number of sections in a cluster.
 pub(crate) const LIMIT: u64 = 1_000_000;
 
-/// Returns the count of this many nodes.
 pub(crate) fn count_of(nodes: u8) -> Result<Count> {
     match Count::of(nodes) {
         Some(count) => Ok(count),
@@ -18,7 +16,6 @@ pub(crate) fn count_of(nodes: u8) -> Result<Count> {
     }
 }
 
-/// Returns the arbiters of a plane if there is one of this many nodes, and otherwise all nodes.
 pub(crate) fn quorums_of(nodes: u8) -> Result<Quorums> {
     match Quorums::plane(nodes) {
         Ok(quorums) => Ok(quorums),

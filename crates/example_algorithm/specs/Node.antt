@@ -1,4 +1,3 @@
--- The state of a node.
 use Rattle.std.specs.Prelude.{ℕ}
 use Rattle.mx_nodelaws.specs.declared.phase.Phase.{Phase}
 

@@ -25,7 +25,6 @@ const TELLERS: u8 = 5;
 
 const ACCOUNTS: u8 = 8;
 
-/// The number of transfers of each teller.
 const TRANSFERS: u64 = 1000;
 
 /// How many parcels of 256 are lost, on average.
@@ -107,14 +106,12 @@ fn balances(number: u64, values: &[u64]) -> (u64, u64)
     (from - amount, to + amount)
 }
 
-/// Returns the value at this place, or 0 if there is none.
 fn value_at(values: &[u64], place: usize) -> u64
     ensures { result ≡ slice_index values.now place }
 {
     values.get(place).copied().unwrap_or(0)
 }
 
-/// Creates a teller for each node.
 fn tellers(alloc: Global) -> Result<Vec<Teller>, AllocError> {
     let mut all = Vec::new(alloc);
     for node in 0..TELLERS {
@@ -149,7 +146,6 @@ fn audit(all: &Finished<Teller>) -> Result<u64>
     Ok(total(accounts.as_slice()))
 }
 
-/// Returns the sum of these values.
 fn total(values: &[u64]) -> u64
     requires { sum values.now < 2 ^ 64 }
     ensures { result ≡ sum values.now }
@@ -157,7 +153,6 @@ fn total(values: &[u64]) -> u64
     values.iter().sum()
 }
 
-/// Runs the bank by Ricart and Agrawala's algorithm, and returns the sum of all accounts.
 fn ricart<R: Threads>(rt: &R, alloc: Global) -> Result<u64>
     ensures { IfOk result (λ total. total ≡ 800) }
 {
@@ -171,7 +166,6 @@ fn ricart<R: Threads>(rt: &R, alloc: Global) -> Result<u64>
     }
 }
 
-/// Runs the bank by Maekawa's algorithm, and returns the sum of all accounts.
 fn maekawa<R: Threads>(rt: &R, alloc: Global) -> Result<u64>
     ensures { IfOk result (λ total. total ≡ 800) }
 {
@@ -183,7 +177,6 @@ fn maekawa<R: Threads>(rt: &R, alloc: Global) -> Result<u64>
     }
 }
 
-/// Runs the bank by Raymond's algorithm, and returns the sum of all accounts.
 fn raymond<R: Threads>(rt: &R, alloc: Global) -> Result<u64>
     ensures { IfOk result (λ total. total ≡ 800) }
 {

@@ -10,7 +10,6 @@ use mx_registers::view;
 use mx_stamps::NodeId;
 use std::alloc::Global;
 
-/// Returns the record of the section of this number, which wrote `value` to register 0.
 fn record(number: u64, value: u64) -> Record {
     let mut record = Record::default();
     record.number = number;
@@ -30,7 +29,6 @@ fn journal_of(alloc: Global, numbers: &[u64]) -> Result<Journal> {
     Ok(journal)
 }
 
-/// Prints how many records a journal has, the number up to which it has no gap, and register 0.
 fn tell(rt: &HostRuntime, name: &str, journal: &Journal) -> Result<()> {
     let registers = view(journal, 1);
     let gapless = journal.gapless_to();
@@ -54,7 +52,6 @@ fn catch_up(rt: &HostRuntime, journal: &mut Journal, other: &Journal, upto: u64)
     Ok(())
 }
 
-/// Brings the left journal up to date with the right one, then merges the left into the right.
 fn exchange(rt: &HostRuntime, left: &mut Journal, right: &mut Journal) -> Result<()> {
     tell(rt, "left", left)?;
     catch_up(rt, left, right, 7)?;
@@ -64,7 +61,6 @@ fn exchange(rt: &HostRuntime, left: &mut Journal, right: &mut Journal) -> Result
     tell(rt, "right", right)
 }
 
-/// Shows that a journal with a different record of section 2 is not merged.
 fn refuse_forged(rt: &HostRuntime, journal: &mut Journal) -> Result<()> {
     let mut forged = Journal::new(rt.alloc());
     forged.put(record(2, 99))?;

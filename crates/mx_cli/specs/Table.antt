@@ -36,7 +36,6 @@ app_of_row row = app_with row.name.now (map rule_of_argument row.arguments.now)
 
 -- ---- arguments
 
--- an argument that has to be given
 abbrev pub needed : Rule → Rule
 needed rule = record rule { required = true }
 

@@ -36,15 +36,12 @@ pub enum CommandId {
     Explain,
 }
 
-/// A row of the table of commands.
 #[derive(Clone, Copy)]
-pub struct CommandRow {
-    pub name: &'static str,
-    /// What the command does, as help says it.
-    pub about: &'static str,
-    pub arguments: &'static [Argument],
-    /// The text that ends the help of the command.
-    pub example: &'static str,
+pub(crate) struct CommandRow {
+    pub(crate) name: &'static str,
+    pub(crate) about: &'static str,
+    pub(crate) arguments: &'static [Argument],
+    pub(crate) example: &'static str,
 }
 
 /// The commands that `mx_commands::command` runs.
@@ -154,8 +151,7 @@ static EXPLAIN: CommandRow = CommandRow {
     example: examples::EXPLAIN,
 };
 
-/// The row of a command.
-pub fn row_of(id: CommandId) -> &'static CommandRow
+pub(crate) fn row_of(id: CommandId) -> &'static CommandRow
     ensures { app_of_row result.now ≡ command_app id }
 {
     match id {

@@ -39,7 +39,6 @@ given (event.Want node other) = argument.Node node ∷ argument.Node other ∷ [
 given (event.Deliver number) = argument.Number number ∷ []
 given (event.Restart node) = argument.Node node ∷ []
 
--- whether an argument is of a kind
 abbrev pub is_of : ArgumentKind → Argument → Bool
 is_of Node (argument.Node node) = true
 is_of Register (argument.Register register) = true

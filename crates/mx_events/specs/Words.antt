@@ -27,6 +27,5 @@ first_named word [] = None
 first_named word (kind ∷ others) =
     if bytes_eq word (word_of kind) then Some kind else first_named word others
 
--- the kind that has this word
 abbrev pub kind_named : List ℕ → Option EventKind
 kind_named word = first_named word kinds

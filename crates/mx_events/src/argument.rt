@@ -1,5 +1,3 @@
-//! The arguments of an event.
-
 ghost use Rattle.std.specs.Prelude.{◌≡◌, ◌↔◌, IfSome, IsSome, IsTrue};
 ghost use Rattle.mx_events.specs.Arguments.{is_of, node_in, number_in, register_in};
 ghost use Rattle.mx_events.specs.declared.argument.Argument.TheVariants as argument;

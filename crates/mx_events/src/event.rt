@@ -1,5 +1,3 @@
-//! The events of a cluster.
-
 ghost use Rattle.std.specs.Prelude.{◌≡◌, ◌↔◌, ◌∷◌, [], IfSome, IsSome, IsTrue, Some};
 ghost use Rattle.mx_events.specs.Arguments.{are_of, arguments_of, event_of, given};
 ghost use Rattle.mx_events.specs.Events.{kind_of, node_of};
@@ -122,7 +120,6 @@ impl Event {
     }
 }
 
-/// Returns the event of a kind with one argument, if that fits.
 fn of_one(kind: EventKind, a: &Argument) -> Option<Event>
     ensures value { result ≡ event_of kind (a.now ∷ []) }
     ensures some { IsSome result ↔ IsTrue (are_of (arguments_of kind) (a.now ∷ [])) }
@@ -141,7 +138,6 @@ fn of_one(kind: EventKind, a: &Argument) -> Option<Event>
     }
 }
 
-/// Returns the event of a kind with two arguments, if they fit.
 fn of_two(kind: EventKind, a: &Argument, b: &Argument) -> Option<Event>
     ensures value { result ≡ event_of kind (a.now ∷ b.now ∷ []) }
     ensures some { IsSome result ↔ IsTrue (are_of (arguments_of kind) (a.now ∷ b.now ∷ [])) }
@@ -156,7 +152,6 @@ fn of_two(kind: EventKind, a: &Argument, b: &Argument) -> Option<Event>
     }
 }
 
-/// Returns the event of a kind with three arguments, if they fit.
 fn of_three(kind: EventKind, a: &Argument, b: &Argument, c: &Argument) -> Option<Event>
     ensures value { result ≡ event_of kind (a.now ∷ b.now ∷ c.now ∷ []) }
     ensures some { IsSome result

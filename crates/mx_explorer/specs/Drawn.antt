@@ -47,7 +47,6 @@ event_by n nodes registers g =
 abbrev pub drawn : ℕ → ℕ → Lcg → Event
 drawn nodes registers g = event_by (word g % 16) nodes registers (after_words 1 g)
 
--- how many arguments an event has
 abbrev pub arguments : Event → ℕ
 arguments (Read i register) = 2
 arguments (Write i register value) = 3
@@ -55,7 +54,6 @@ arguments (Want i j) = 2
 arguments (Settle i upto) = 2
 arguments _ = 1
 
--- the generator after an event was drawn
 abbrev pub after_drawn : Event → Lcg → Lcg
 after_drawn e = after_words (suc (arguments e))
 

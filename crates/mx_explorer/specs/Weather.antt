@@ -12,7 +12,6 @@ pub record Climate : Type 0 where
   pub lost : ℕ
   pub doubled : ℕ
 
--- the generator of a seed
 abbrev pub generator_of : ℕ → Lcg
 generator_of seed = pcg32_of_seed (pcg32_seed 16 seed)
 

@@ -1,5 +1,3 @@
-//! What the judge remembers of the items of a trace so far.
-
 ghost use Rattle.std.specs.Prelude.{◌≡◌, ◌∷◌, [], None, Option};
 ghost use Rattle.mx_trace.specs.Sections.{Came, Got, Wrote, Went, Woke};
 ghost use Rattle.mx_trace.specs.Trace.{mark_of};
@@ -17,7 +15,6 @@ const REGISTERS: usize = 256;
 /// registers hold.
 #[derive(Drop)]
 pub(crate) struct Ledger {
-    /// The node inside the newest section, or `None` while no node is inside.
     inside: Option<NodeId>,
     /// The number of the newest section, 0 before the first.
     last: u64,
@@ -28,7 +25,6 @@ pub(crate) struct Ledger {
 }
 
 impl Ledger {
-    /// Creates the ledger before the first item.
     pub(crate) fn new() -> Ledger
         ensures { IsLedgerOf [] result }
     {
@@ -40,7 +36,6 @@ impl Ledger {
         }
     }
 
-    /// Notes the next item of the trace. Returns the clause that the item breaks, or `None`.
     pub(crate) fn take(&mut self, entry: &Entry) -> Option<Clause>
         ensures { Takes self.old (mark_of entry.now.event entry.now.outcome) result self.new }
     {
@@ -71,8 +66,6 @@ impl Ledger {
         }
     }
 
-    /// Notes that a node entered the section of this number. Returns the clause that this breaks,
-    /// or `None`.
     fn came(&mut self, node: NodeId, number: u64) -> Option<Clause>
         ensures { Takes self.old (Came node number ∷ []) result self.new }
     {
@@ -89,7 +82,6 @@ impl Ledger {
         None
     }
 
-    /// Returns the clause that is broken if a node reads this value from a register, or `None`.
     fn got(&self, node: NodeId, register: u8, value: u64) -> Option<Clause>
         ensures { Takes self.now (Got node register value ∷ []) result self.now }
     {
@@ -100,7 +92,6 @@ impl Ledger {
         }
     }
 
-    /// Notes that a node wrote a value to a register, if the node is inside.
     fn wrote(&mut self, node: NodeId, register: u8, value: u64)
         ensures { Takes self.old (Wrote node register value ∷ []) None self.new }
     {
@@ -109,7 +100,6 @@ impl Ledger {
         }
     }
 
-    /// Notes that a node left with this receipt. Returns the clause that this breaks, or `None`.
     fn went(&mut self, node: NodeId, receipt: &Receipt) -> Option<Clause>
         ensures { Takes self.old (Went node receipt.now ∷ []) result self.new }
     {

@@ -1,5 +1,3 @@
-//! The place of a drawn delivery among the parcels sent.
-
 ghost use Rattle.std.specs.Prelude.{◌≡◌, ◌<◌, ℕ, Some};
 ghost use Rattle.mx_explorer.specs.Place.{place_of};
 

@@ -30,7 +30,6 @@ pub fn schedule(alloc: Global, seed: u64, steps: u64, plan: &Plan) -> Result<Vec
     schedule_over(alloc, seed, steps, plan.nodes(), plan.registers())
 }
 
-/// Draws a schedule of `steps` events for a cluster with this many nodes and registers.
 fn schedule_over(
     alloc: Global,
     seed: u64,
@@ -53,7 +52,6 @@ fn schedule_over(
     Ok(events)
 }
 
-/// Draws the next event for a cluster with this many nodes and registers.
 fn draw(words: &mut Pcg32, nodes: u8, registers: u8) -> Event
     requires nodes { (0 < nodes) × (nodes ≤ MAX_NODES) }
     requires registers { 0 < registers }
@@ -101,7 +99,6 @@ fn draw_by(number: u32, words: &mut Pcg32, nodes: u8, registers: u8) -> Event
     }
 }
 
-/// Draws one of the first `nodes` nodes.
 fn draw_node(words: &mut Pcg32, nodes: u8) -> NodeId
     requires nodes { (0 < nodes) × (nodes ≤ MAX_NODES) }
     ensures value { result ≡ word words.old % nodes }
@@ -110,7 +107,6 @@ fn draw_node(words: &mut Pcg32, nodes: u8) -> NodeId
     NodeId::of(draw_below(words, nodes)).unwrap()
 }
 
-/// Draws a number below `count`.
 fn draw_below(words: &mut Pcg32, count: u8) -> u8
     requires { 0 < count }
     ensures value { result ≡ word words.old % count }

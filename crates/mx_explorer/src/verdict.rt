@@ -1,5 +1,3 @@
-//! The verdict of a trace, and the clauses that a trace can break.
-
 /// A rule for traces that an item can break.
 #[derive(Clone, Copy, Debug, PartialEq, Eq)]
 pub enum Clause {

@@ -1,5 +1,3 @@
-//! The fates of parcels, drawn at random from a seed.
-
 ghost use Rattle.std.specs.Prelude.{◌≡◌, ◌≢◌, ◌+◌, ◌≤◌};
 ghost use Rattle.mx_explorer.specs.Weather.{Climate, after_fate, fate_by, fate_in, generator_of};
 
@@ -44,7 +42,6 @@ impl Weather {
 }
 
 impl Fates for Weather {
-    /// Returns the fate for the next word of the generator.
     fn fate(&mut self) -> Fate
         ensures value { result ≡ fate_in self.old }
         ensures next { self.new ≡ after_fate self.old }
@@ -58,8 +55,6 @@ impl Fates for Weather {
     }
 }
 
-/// Returns the fate for a byte (0 to 255): the first `lost` bytes lose the parcel, and the next
-/// `doubled` repeat it.
 fn fate_of(byte: u32, lost: u16, doubled: u16) -> Fate
     ensures { result ≡ fate_by byte lost doubled }
 {

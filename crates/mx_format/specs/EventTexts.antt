@@ -1,4 +1,3 @@
--- The lines of events.
 use Rattle.std.specs.Prelude.{ℕ, [], ◌++◌, Option, Some, None, codes, decimal, length, slice_get, unwrap_or}
 use Rattle.mx_events.specs.declared.argument.Argument.{Argument}
 use Rattle.mx_events.specs.declared.argument.Argument.TheVariants.{Node, Register, Number}
@@ -14,11 +13,9 @@ use Rattle.mx_plan.specs.Text.{Text, line_feed}
 use Rattle.mx_plan.specs.Fields.{Fields}
 use Rattle.mx_format.specs.Lines.{each_text}
 
--- the name that the plan gives a node
 abbrev pub name_of : Fields → ℕ → Text
 name_of p node = unwrap_or (slice_get p.nodes node) []
 
--- the name that the plan gives a register
 abbrev pub register_name_of : Fields → ℕ → Text
 register_name_of p register = unwrap_or (slice_get p.registers register) []
 
@@ -64,7 +61,6 @@ abbrev pub event_text : Fields → Event → Text
 event_text p event =
     word_of (kind_of event) ++ each_text (λ a. codes " " ++ argument_text p a) (given event)
 
--- the line of the k-th event
 abbrev pub event_line : Fields → ℕ → Event → Outcome → Text
 event_line p k event outcome =
     decimal k ++ codes " " ++ event_text p event ++ codes ": " ++ outcome_text outcome ++ line_feed

@@ -1,4 +1,3 @@
--- Texts of lists.
 use Rattle.std.specs.Prelude.{ℕ, ◌+◌, List, [], ◌∷◌, ◌++◌}
 use Rattle.mx_plan.specs.Text.{Text}
 

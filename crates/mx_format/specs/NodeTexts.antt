@@ -45,12 +45,10 @@ abbrev pub journal_text : Fields → JournalState → Text
 journal_text p journal =
     summary_text (length journal.records) (first_gap journal - 1) ++ values_text p journal
 
--- the line of node i
 abbrev pub member_line : {H S M : Type 0} → Core H S M → Fields → ℕ → MemberState S → Text
 member_line core p i m =
     standing_text (name_of p i) (core.phase m.core) (core.mine m.core) ++ journal_text p m.journal
     ++ line_feed
 
--- the line of each node
 abbrev pub node_lines : {H S M : Type 0} → Core H S M → Fields → List (MemberState S) → Text
 node_lines core p members = texts_from (member_line core p) 0 members

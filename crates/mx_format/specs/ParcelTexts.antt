@@ -1,4 +1,3 @@
--- The lines of parcels.
 use Rattle.std.specs.Prelude.{ℕ, List, ◌++◌, codes, decimal}
 use Rattle.mx_journal.specs.declared.ranges.Range.{Range}
 use Rattle.mx_journal.specs.declared.records.Record.{Record}

@@ -32,7 +32,6 @@ pub record Parts : Type 0 where
   pub numbers : List Named
   pub style : Style
 
--- the word of a letter, by its parts
 abbrev pub word_by : {M : Type 0} → (M → Parts) → M → Text
 word_by parts letter = (parts letter).word
 

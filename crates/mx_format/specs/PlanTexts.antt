@@ -12,7 +12,6 @@ use Rattle.mx_format.specs.EventTexts.{name_of}
 use Rattle.mx_format.specs.Lines.{texts_from}
 use Rattle.mx_format.specs.Members.{node_member, node_start, number_member}
 
--- the word of an algorithm
 abbrev pub algorithm_text : Shape → Text
 algorithm_text (Ricart count) = codes "ricart"
 algorithm_text (Maekawa family) = codes "maekawa"

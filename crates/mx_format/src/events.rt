@@ -1,5 +1,3 @@
-//! The lines of events.
-
 ghost use Rattle.std.specs.Prelude.{◌≡◌, ◌++◌, Some, codes};
 ghost use Rattle.mx_format.specs.Words.{words_text};
 ghost use Rattle.mx_format.specs.EventTexts.{name_of, register_name_of, argument_text, cause_text, outcome_text, event_text, event_line};
@@ -30,7 +28,6 @@ pub fn register_name_of(plan: &Plan, register: u8) -> &str
 pub struct OutcomeText<'a>(pub &'a Outcome);
 
 impl OutcomeText<'_> {
-    /// Returns the word of the outcome, with its numbers or its cause.
     fn words(&self) -> Words<'static>
         ensures { words_text result ≡ outcome_text self.now.0.now }
     {
@@ -53,7 +50,6 @@ impl OutcomeText<'_> {
     }
 }
 
-/// Returns the word `refused`, and the cause after it.
 fn refusal(cause: &Cause) -> Words<'static>
     ensures { words_text result ≡ codes "refused " ++ cause_text cause.now }
 {

@@ -1,5 +1,3 @@
-//! The line of the facts that a node knows.
-
 ghost use Rattle.std.specs.Prelude.{◌≡◌, ◌++◌, OnOk, Some, map, string_bytes};
 ghost use Rattle.mx_knowledge.specs.Facts.{fact_of};
 ghost use Rattle.mx_format.specs.Lines.{each_text};
@@ -11,7 +9,6 @@ use mx_plan::Plan;
 use std::alloc::AllocError;
 use std::fmt;
 
-/// The text of one value of a fact, after a space.
 #[derive(Clone, Copy)]
 struct ItemText<'a> {
     plan: &'a Plan,
@@ -48,7 +45,6 @@ pub fn add_facts_line(plan: &Plan, facts: &Facts, text: &mut String) -> Result<(
     text.push_str("\n")
 }
 
-/// Appends facts, with commas between them.
 fn add_facts(plan: &Plan, facts: &[Fact], text: &mut String) -> Result<(), AllocError>
     ensures { OnOk result (string_bytes text.new
         ≡ string_bytes text.old ++ facts_text plan.now (map fact_of facts.now)) }
@@ -60,7 +56,6 @@ fn add_facts(plan: &Plan, facts: &[Fact], text: &mut String) -> Result<(), Alloc
     add_rest(plan, rest, text)
 }
 
-/// Appends the facts after the first one, each after a comma.
 fn add_rest(plan: &Plan, rest: &[Fact], text: &mut String) -> Result<(), AllocError>
     ensures { OnOk result (string_bytes text.new ≡ string_bytes text.old
         ++ each_text (λ fact. next_text plan.now (fact_of fact)) rest.now) }
@@ -71,7 +66,6 @@ fn add_rest(plan: &Plan, rest: &[Fact], text: &mut String) -> Result<(), AllocEr
     Ok(())
 }
 
-/// Appends a fact, after a comma.
 fn add_next(plan: &Plan, fact: &Fact, text: &mut String) -> Result<(), AllocError>
     ensures { OnOk result (string_bytes text.new
         ≡ string_bytes text.old ++ next_text plan.now (fact_of fact.now)) }
@@ -80,7 +74,6 @@ fn add_next(plan: &Plan, fact: &Fact, text: &mut String) -> Result<(), AllocErro
     add_fact(plan, fact, text)
 }
 
-/// Appends the name of a fact, and its values.
 fn add_fact(plan: &Plan, fact: &Fact, text: &mut String) -> Result<(), AllocError>
     ensures { OnOk result (string_bytes text.new
         ≡ string_bytes text.old ++ fact_text plan.now (fact_of fact.now)) }
@@ -89,7 +82,6 @@ fn add_fact(plan: &Plan, fact: &Fact, text: &mut String) -> Result<(), AllocErro
     add_items(plan, fact.items.as_slice(), text)
 }
 
-/// Appends the values of a fact, each after a space.
 fn add_items(plan: &Plan, items: &[Item], text: &mut String) -> Result<(), AllocError>
     ensures { OnOk result (string_bytes text.new
         ≡ string_bytes text.old ++ each_text (item_text plan.now) items.now) }

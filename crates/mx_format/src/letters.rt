@@ -1,5 +1,3 @@
-//! The letters of each algorithm, part by part.
-
 ghost use Rattle.std.specs.Prelude.{◌≡◌, ◌++◌, List, OnOk, map, string_bytes};
 ghost use Rattle.mx_plan.specs.Text.{Text};
 ghost use Rattle.mx_format.specs.LetterTexts.{letter_text};
@@ -40,7 +38,6 @@ pub trait Letter: Copy + Default {
     }
 }
 
-/// Returns the parts of a letter about the request with this stamp.
 fn about(word: &'static str, stamp: &Stamp, numbers: Numbers, style: Style) -> LetterParts
     ensures { parts_of result ≡ of_request word.now stamp.now (numbers_of numbers) style }
 {
@@ -52,7 +49,6 @@ fn about(word: &'static str, stamp: &Stamp, numbers: Numbers, style: Style) -> L
     }
 }
 
-/// Returns the parts of a letter about `number`, whose name is `name`.
 fn counted(
     word: &'static str,
     name: &'static str,

@@ -1,5 +1,3 @@
-//! The line of a node: its phase, the counts of its journal, and the registers after its records.
-
 ghost use Rattle.std.specs.Prelude.{◌≡◌, ◌++◌, string_bytes, OnOk};
 ghost use Rattle.mx_format.specs.NodeTexts.{journal_text, member_line, values_text};
 
@@ -33,7 +31,6 @@ pub fn add_member_line<C: Exclusion>(
     text.push_str("\n")
 }
 
-/// Appends the counts of a journal, and the value of each register after its records.
 fn add_journal(plan: &Plan, journal: &Journal, text: &mut String) -> Result<(), AllocError>
     ensures { OnOk result (string_bytes text.new
         ≡ string_bytes text.old ++ journal_text plan.now journal.now) }
@@ -45,7 +42,6 @@ fn add_journal(plan: &Plan, journal: &Journal, text: &mut String) -> Result<(), 
     add_values(plan, journal, text)
 }
 
-/// Appends the name of each register, and its value after the records of a journal.
 fn add_values(plan: &Plan, journal: &Journal, text: &mut String) -> Result<(), AllocError>
     ensures { OnOk result (string_bytes text.new
         ≡ string_bytes text.old ++ values_text plan.now journal.now) }

@@ -1,5 +1,3 @@
-//! The lines of parcels.
-
 ghost use Rattle.std.specs.Prelude.{◌≡◌, ◌++◌, OnOk, Some, string_bytes};
 ghost use Rattle.mx_format.specs.LetterTexts.{letter_text};
 ghost use Rattle.mx_format.specs.ParcelTexts.{base_text, range_text, record_text, want_text, records_text, route_text, parcel_text, parcel_line};
@@ -110,7 +108,6 @@ pub fn add_parcel<M: Letter>(
     }
 }
 
-/// Appends the text of a want, which asks for the records of these ranges.
 fn add_want(ranges: &[Range], text: &mut String) -> Result<(), AllocError>
     ensures { OnOk result (string_bytes text.new ≡ string_bytes text.old ++ want_text ranges.now) }
 {
@@ -121,7 +118,6 @@ fn add_want(ranges: &[Range], text: &mut String) -> Result<(), AllocError>
     Ok(())
 }
 
-/// Appends the word `records`, and the numbers of these records.
 fn add_records(records: &[Record], text: &mut String) -> Result<(), AllocError>
     ensures { OnOk result (string_bytes text.new ≡ string_bytes text.old
         ++ records_text records.now) }

@@ -42,7 +42,6 @@ pub struct LetterParts {
     pub style: Style,
 }
 
-/// The text of a subject: a stamp, or a number without its name.
 #[derive(Clone, Copy)]
 struct SubjectText<'a> {
     plan: &'a Plan,
@@ -64,7 +63,6 @@ impl fmt::Display for SubjectText<'_> {
     }
 }
 
-/// The text of a letter's further numbers, each after its name.
 #[derive(Clone, Copy)]
 struct NumbersText<'a>(&'a Numbers);
 
@@ -82,7 +80,6 @@ impl fmt::Display for NumbersText<'_> {
     }
 }
 
-/// The text of a letter of these parts.
 #[derive(Clone, Copy)]
 pub(crate) struct PartsText<'a> {
     pub(crate) plan: &'a Plan,

@@ -28,7 +28,6 @@ pub fn add_asks_json(plan: &Plan, text: &mut String) -> Result<(), AllocError>
     add_asks_as(plan, true, text)
 }
 
-/// Appends whom each node asks, as lines of names or as JSON objects.
 fn add_asks_as(plan: &Plan, is_json: bool, text: &mut String) -> Result<(), AllocError>
     ensures { OnOk result (string_bytes text.new
         ≡ string_bytes text.old ++ asks_lines is_json plan.now) }
@@ -39,7 +38,6 @@ fn add_asks_as(plan: &Plan, is_json: bool, text: &mut String) -> Result<(), Allo
     Ok(())
 }
 
-/// Appends the line of node `i`, or a JSON object for each node that it asks.
 fn add_line(plan: &Plan, is_json: bool, i: u8, text: &mut String) -> Result<(), AllocError>
     requires { (i < MAX_NODES) × (i < length plan.now.nodes) }
     ensures { OnOk result (string_bytes text.new
@@ -51,7 +49,6 @@ fn add_line(plan: &Plan, is_json: bool, i: u8, text: &mut String) -> Result<(), 
     add_end(is_json, text)
 }
 
-/// Appends the start of a node's line, before the names. As JSON, appends nothing.
 fn add_start(plan: &Plan, is_json: bool, node: NodeId, text: &mut String) -> Result<(), AllocError>
     ensures { OnOk result (string_bytes text.new
         ≡ string_bytes text.old ++ asks_start is_json plan.now node) }
@@ -72,7 +69,6 @@ fn add_end(is_json: bool, text: &mut String) -> Result<(), AllocError>
     text.push_str("\n")
 }
 
-/// Appends the names of the nodes that node `i` asks, or a JSON object for each.
 fn add_asked(plan: &Plan, is_json: bool, i: u8, text: &mut String) -> Result<(), AllocError>
     requires { (i < MAX_NODES) × (i < length plan.now.nodes) }
     ensures { OnOk result (string_bytes text.new
@@ -84,7 +80,6 @@ fn add_asked(plan: &Plan, is_json: bool, i: u8, text: &mut String) -> Result<(),
     Ok(())
 }
 
-/// Appends the name of node `j`, or a JSON object of both nodes, if node `i` asks it.
 fn add_if_asked(
     plan: &Plan,
     is_json: bool,
@@ -105,7 +100,6 @@ fn add_if_asked(
     add_one_asked(plan, is_json, node, other, text)
 }
 
-/// Appends the name of `other`, which `node` asks, or a JSON object of both.
 fn add_one_asked(
     plan: &Plan,
     is_json: bool,
@@ -122,7 +116,6 @@ fn add_one_asked(
     text.write(AskedName { plan, node: other })
 }
 
-/// Appends the JSON object of `node` and of `other`, which it asks.
 fn add_asked_json(
     plan: &Plan,
     node: NodeId,
@@ -137,7 +130,6 @@ fn add_asked_json(
     text.push_str("}\n")
 }
 
-/// Whether `node` asks `other`, which may be the same node, by the algorithm of the plan.
 fn asks(plan: &Plan, node: NodeId, other: NodeId) -> bool
     requires { node < length plan.now.nodes }
     ensures { result ≡ asks_of plan.now.shape node other }
@@ -149,7 +141,6 @@ fn asks(plan: &Plan, node: NodeId, other: NodeId) -> bool
     }
 }
 
-/// Whether `other` is the neighbour of `node` on the way to the holder. The holder itself has none.
 fn leads_to(tree: &Tree, node: NodeId, other: NodeId) -> bool
     requires { node < tree.now.count }
     ensures { result ≡ (if nat_eq node tree.now.holder then false
@@ -161,7 +152,6 @@ fn leads_to(tree: &Tree, node: NodeId, other: NodeId) -> bool
     tree.toward(node).get() == other.get()
 }
 
-/// The start of a node's line, before the names of those that it asks.
 #[derive(Clone, Copy)]
 struct AsksHead<'a> {
     plan: &'a Plan,
@@ -177,7 +167,6 @@ impl fmt::Display for AsksHead<'_> {
     }
 }
 
-/// The name of a node that is asked, after a space.
 #[derive(Clone, Copy)]
 struct AskedName<'a> {
     plan: &'a Plan,

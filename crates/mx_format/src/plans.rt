@@ -1,5 +1,3 @@
-//! What a plan says of its cluster.
-
 ghost use Rattle.std.specs.Prelude.{◌≡◌, ◌+◌, ◌<◌, ◌++◌, true, length, drop, string_bytes, OnOk};
 ghost use Rattle.mx_plan.specs.Fields.{IsShape};
 ghost use Rattle.mx_plan.specs.declared.shape.Shape.TheVariants as shape;
@@ -31,7 +29,6 @@ pub fn add_plan_json(plan: &Plan, text: &mut String) -> Result<(), AllocError>
     add_plan_as(plan, true, text)
 }
 
-/// Appends what a plan says, as lines of words or as JSON objects.
 fn add_plan_as(plan: &Plan, is_json: bool, text: &mut String) -> Result<(), AllocError>
     ensures { OnOk result (string_bytes text.new
         ≡ string_bytes text.old ++ plan_text_by is_json plan.now) }
@@ -44,7 +41,6 @@ fn add_plan_as(plan: &Plan, is_json: bool, text: &mut String) -> Result<(), Allo
     }
 }
 
-/// Appends the line of a plan, or its JSON object: its algorithm, sizes and bounds.
 fn add_head(plan: &Plan, is_json: bool, text: &mut String) -> Result<(), AllocError>
     ensures { OnOk result (string_bytes text.new
         ≡ string_bytes text.old ++ plan_head is_json plan.now) }
@@ -55,7 +51,6 @@ fn add_head(plan: &Plan, is_json: bool, text: &mut String) -> Result<(), AllocEr
     text.write(PlanLine(plan))
 }
 
-/// Appends the JSON object of a plan: its algorithm, sizes and bounds.
 fn add_object(plan: &Plan, text: &mut String) -> Result<(), AllocError>
     ensures { OnOk result (string_bytes text.new ≡ string_bytes text.old ++ plan_json plan.now) }
 {
@@ -64,7 +59,6 @@ fn add_object(plan: &Plan, text: &mut String) -> Result<(), AllocError>
     text.push_str("}\n")
 }
 
-/// Appends the members of a plan's sizes and bounds, from `nodes` to `origin`.
 fn add_sizes(plan: &Plan, text: &mut String) -> Result<(), AllocError>
     ensures { OnOk result (string_bytes text.new ≡ string_bytes text.old ++ sizes_json plan.now) }
 {
@@ -74,7 +68,6 @@ fn add_sizes(plan: &Plan, text: &mut String) -> Result<(), AllocError>
     add_number("origin", plan.origin(), text)
 }
 
-/// Appends, for each pair of nodes, the first arbiter that both have.
 fn add_meetings(
     plan: &Plan,
     is_json: bool,
@@ -91,7 +84,6 @@ fn add_meetings(
     Ok(())
 }
 
-/// Appends, for node `i` and each later node, the first arbiter that both have.
 fn add_meetings_of(
     plan: &Plan,
     is_json: bool,
@@ -111,7 +103,6 @@ fn add_meetings_of(
     Ok(())
 }
 
-/// Appends, for nodes `i` and `j`, the first arbiter that both have.
 fn add_meeting(
     plan: &Plan,
     is_json: bool,
@@ -137,7 +128,6 @@ fn add_meeting(
     )
 }
 
-/// Appends the line or JSON object of two nodes and `node`, the first arbiter that both have.
 fn add_meet(
     plan: &Plan,
     is_json: bool,
@@ -160,7 +150,6 @@ fn add_meet(
     })
 }
 
-/// Appends the JSON object of two nodes and `node`, the first arbiter that both have.
 fn add_meet_json(
     plan: &Plan,
     first: NodeId,
@@ -180,7 +169,6 @@ fn add_meet_json(
     text.push_str("}\n")
 }
 
-/// Appends, for each node but the holder, its neighbour on the way to the holder.
 fn add_directions(
     plan: &Plan,
     is_json: bool,
@@ -197,7 +185,6 @@ fn add_directions(
     Ok(())
 }
 
-/// Appends, for node `i`, its neighbour on the way to the holder, unless it is the holder.
 fn add_direction(
     plan: &Plan,
     is_json: bool,
@@ -216,7 +203,6 @@ fn add_direction(
     add_toward(plan, is_json, node, tree.toward(node), text)
 }
 
-/// Appends the line or JSON object of a node and `next`, its neighbour on the way to the holder.
 fn add_toward(
     plan: &Plan,
     is_json: bool,
@@ -233,7 +219,6 @@ fn add_toward(
     text.write(TowardLine { plan, node, next })
 }
 
-/// Appends the JSON object of a node and `next`, its neighbour on the way to the holder.
 fn add_toward_json(
     plan: &Plan,
     node: NodeId,

@@ -1,5 +1,3 @@
-//! Texts of a word with the names and numbers after it.
-
 ghost use Rattle.std.specs.Prelude.{Some};
 ghost use Rattle.mx_format.specs.Words.{words_text};
 

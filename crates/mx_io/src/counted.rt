@@ -1,5 +1,3 @@
-//! A reader that stops after a fixed number of reads.
-
 ghost use Rattle.std.specs.Prelude.{◌≡◌};
 
 use std::io;
@@ -14,7 +12,6 @@ const MAX_READS: u64 = 268_435_456;
 #[derive(Drop)]
 pub struct Counted<R: Read + Drop> {
     inner: R,
-    /// The number of reads that are still allowed.
     left: u64,
 }
 

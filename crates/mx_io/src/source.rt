@@ -1,5 +1,3 @@
-//! Sources of named bytes.
-
 ghost use Rattle.std.specs.Prelude.{◌≡◌, ℕ, List, [], ◌∷◌, Option, Some, None, IfSome};
 ghost use Rattle.mx_io.specs.Told.{Asks, Telling, Tells, bytes_of, entries_of};
 

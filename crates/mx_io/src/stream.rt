@@ -1,5 +1,3 @@
-//! Outputs over the writers of the process.
-
 use crate::output::{Output, OutputFault};
 use std::io;
 use std::io::{ErrorKind, Write};
@@ -24,7 +22,6 @@ impl<W: Write + Drop> Output for Stream<W> {
     }
 }
 
-/// Returns the fault of an output for an error of its writer.
 fn output_fault(e: &io::Error) -> OutputFault {
     match e.kind() {
         ErrorKind::OutOfMemory => OutputFault::Memory,

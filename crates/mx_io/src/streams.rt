@@ -64,10 +64,6 @@ pub fn read_name<R: Files + Input>(rt: &R, alloc: Global, name: &str) -> Result<
 
 /// Reads all bytes of a reader. Returns an error if there are more than 268,435,456, and never a
 /// part of them.
-///
-/// # Errors
-///
-/// Returns `Because` if reading fails or there are too many bytes, and `Memory` if memory runs out.
 fn read_all<R: Read + Drop>(alloc: Global, reader: R) -> Result<Vec<u8>, Refusal>
     ensures all { IfOk result (λ bytes. IfSome (R.remaining reader) (λ all. bytes.items ≡ all)) }
     ensures within { IfOk result (λ bytes. length bytes.items ≤ MAX_BYTES) }
@@ -83,7 +79,6 @@ fn read_all<R: Read + Drop>(alloc: Global, reader: R) -> Result<Vec<u8>, Refusal
     }
 }
 
-/// Returns the refusal for an error of the system, with its reason in words.
 fn refused_for(e: &io::Error) -> Refusal {
     match e.kind() {
         ErrorKind::OutOfMemory => Refusal::Memory,

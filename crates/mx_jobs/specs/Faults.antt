@@ -1,4 +1,3 @@
--- Which fault of a run is reported.
 use Rattle.std.specs.Prelude.{◌≡◌, ◌⊎◌, List, Option, None, Some}
 use Rattle.mx_stamps.specs.Lists.{IsIn}
 use Rattle.mx_jobs.specs.declared.faults.RunFault.{RunFault}
@@ -14,7 +13,6 @@ IsBroken GateShut = ⊥
 IsBroken (Broken why) = Unit {0}
 IsBroken (Stopped why) = Unit {0}
 
--- no worker ended because a job cannot go on
 abbrev pub NoneBroken : List Ended → Type 0
 NoneBroken ends = (e : Ended) → IsIn e ends → IsBroken e → ⊥
 
@@ -31,7 +29,6 @@ Tells (Some fault.GateShut) ends = IsIn GateShut ends × NoneBroken ends
 Tells (Some fault.TurnsSpent) ends =
     IsIn NotYet ends × NoneBroken ends × (IsIn GateShut ends → ⊥)
 
--- P holds if this fault is one of how workers ended
 abbrev pub IfOfEnds : RunFault → Type 0 → Type 0
 IfOfEnds fault.NotAJobEach P = Unit {0}
 IfOfEnds fault.Memory P = Unit {0}

@@ -1,4 +1,3 @@
--- Laws of the registers: what holds of their values after any number of sections.
 use Rattle.std.specs.Prelude.{◌≡◌, ◌<◌, ℕ, suc, List, [], ◌∷◌, get_or, length, map}
 use Rattle.std.proofs.Math.ListN.{set}
 use Rattle.mx_journal.specs.declared.records.Write.{Write}

@@ -1,4 +1,3 @@
--- The workers of a run, each at the place of its station and its job.
 use Rattle.std.specs.Prelude.{◌≡◌, ◌≤◌, ◌+◌, ◌++◌, ◌∷◌, [], ℕ, List, Vec, length, slice_get, Some, vec_capacity}
 use Rattle.std.specs.declared.alloc.Global.{Global}
 use Rattle.mx_jobs.specs.declared.threads.WorkAt.{WorkAt}
@@ -35,7 +34,6 @@ module _ {X J : Type 0} where
     abbrev pub ArePosted : List (WorkAt X J) → Type 0
     ArePosted promises = AreEach IsPosted 0 promises
 
--- both lists have room for this number of further items
 abbrev pub HaveRoom : {X J : Type 0} → ℕ → Vec X Global → Vec J Global → Type 0
 HaveRoom more stations jobs =
     (more + length stations.items ≤ vec_capacity stations)

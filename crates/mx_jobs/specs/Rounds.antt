@@ -1,4 +1,3 @@
--- Rounds of a worker: acts for its job, a turn of its station, and settling if that is due.
 use Rattle.std.specs.Prelude.{◌≡◌, ◌<◌, ◌≤◌, ℕ, zero, suc, List, [], ◌∷◌, length}
 use Rattle.mx_nodelaws.specs.Core.{Core}
 use Rattle.mx_member.specs.declared.acts.Act.{Act}

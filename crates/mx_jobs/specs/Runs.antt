@@ -1,4 +1,3 @@
--- A run of jobs in threads: what each worker returns, and the result of the whole run.
 use Rattle.std.specs.Prelude.{◌≡◌, ◌<◌, ◌≤◌, ◌+◌, ◌==◌, ℕ, Bool, List, [], ◌∷◌, filter, length, map, slice_get, Some}
 use Rattle.atomic_table.specs.Seated.{TableId}
 use Rattle.mx_stamps.specs.Lists.{IsIn}
@@ -70,7 +69,6 @@ module _ {J : Type 0} (AsksFor : J → List ℕ → Type 0)
   -- that were left, and the jobs after the run.
   pub record HaveRun (registers : ℕ) (jobs : List J) (receipts : List Receipt)
       (journal : JournalState) (afters : List J) : Type 0 where
-    -- the number of jobs is the same after the run
     pub count : length afters ≡ length jobs
     -- the receipts of node k are those of the sections of the k-th job, one after another. These
     -- led to the k-th job after the run, which has no more sections
@@ -79,7 +77,6 @@ module _ {J : Type 0} (AsksFor : J → List ℕ → Type 0)
         → Runs AsksFor Makes Holds registers job (own_of k receipts) after × Finished after
     -- each receipt is of a node that has a job
     pub own : (r : Receipt) → IsIn r receipts → r.node < length jobs
-    -- the receipts and the journal are one serial order
     pub serial : AreSerial receipts journal
 
   module _ {H S M : Type 0} (core : Core H S M) (options : RunOptions) where

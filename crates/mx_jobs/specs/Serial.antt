@@ -1,4 +1,3 @@
--- One serial order of sections.
 use Rattle.std.specs.Prelude.{◌≡◌, ◌↔◌, ℕ, suc, ◌≤◌, List, Some, map, length, slice_get}
 use Rattle.mx_stamps.specs.declared.limits.TheConstants.{MAX_REGISTERS}
 use Rattle.mx_stamps.specs.Lists.{IsIn}
@@ -10,7 +9,6 @@ use Rattle.mx_registers.specs.Based.{registers_in}
 use Rattle.mx_registers.specs.Registers.{AreApplied, writes_to}
 use Rattle.mx_trace.specs.Serial.{IsSerialRead}
 
--- Receipts and journal are one serial order of sections.
 pub record AreSerial (receipts : List Receipt) (journal : JournalState) : Type 0 where
   -- the receipts have the numbers 1, 2, 3 and so on
   pub numbered : (k : ℕ) (r : Receipt) → slice_get receipts k ≡ Some r → r.number ≡ suc k

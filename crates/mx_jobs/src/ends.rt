@@ -16,8 +16,6 @@ use mx_nodelaws::Exclusion;
 use mx_stations::Station;
 use std::thread::Threads;
 
-/// Joins all threads, the last first, and puts their stations and jobs in front of those in
-/// `stations` and `jobs`. Returns the fault to report, or `None` if all workers were done.
 pub(crate) fn join_all<C: Exclusion, J: Job, R: Threads>(
     rt: &R,
     mut workers: Workers<C, J>,

@@ -34,7 +34,6 @@ pub enum RunFault {
     TurnsSpent,
 }
 
-/// Returns the fault of a run in which a thread was not started for this reason.
 pub(crate) fn fault_of(refused: StartFault) -> RunFault
     ensures { IfOfEnds result ⊥ }
 {
@@ -52,8 +51,6 @@ pub struct Unfinished<C: Exclusion, J: Drop> {
     pub jobs: Vec<J>,
 }
 
-/// Returns the fault to report after one more worker has ended this way. Of `fault`, that of the
-/// workers before, and of this worker's own, it is the first in the order of `RunFault`.
 pub(crate) fn with_end(fault: Option<RunFault>, ended: Ended) -> Option<RunFault>
     ensures job { (why : TheFault) → fault ≡ Some (RunFault.Job why) → result ≡ fault }
     ensures done { ended ≡ Ended.Done → result ≡ fault }

@@ -9,7 +9,6 @@ use mx_journal::Journal;
 use mx_registers::{View, view};
 use mx_stamps::MAX_REGISTERS;
 
-/// The greatest number of registers.
 const ROOM: usize = MAX_REGISTERS as usize;
 
 /// Returns the values of the first `count` registers after the sections of the journal, in order. A
@@ -27,7 +26,6 @@ pub fn contents(journal: &Journal, count: u8) -> ArrayVec<u64, ROOM>
     contents
 }
 
-/// Returns the value of a register, or 0 if the view has no such register.
 fn value_of(view: &View, register: u8) -> u64
     ensures { result ≡ get_or (values_in view.now) register 0 }
 {

@@ -151,8 +151,6 @@ pub fn fair_links(alloc: Global, count: usize) -> Result<Vec<Fair>, AllocError> 
     Ok(links)
 }
 
-/// Runs each station with its job in a thread, until all threads have ended. Leaves the stations
-/// and jobs, as they are then, in `stations` and `jobs`, in order.
 fn run_all<
     C: Exclusion + Send + 'static,
     J: Job + Send + 'static,
@@ -195,7 +193,6 @@ where
     }
 }
 
-/// Returns the number of nodes, or 1 if there is no station.
 fn count_of<C: Exclusion>(stations: &[Station<C>]) -> u8
     ensures { result < 22 }
 {
@@ -205,7 +202,6 @@ fn count_of<C: Exclusion>(stations: &[Station<C>]) -> u8
     }
 }
 
-/// Gathers the journals and receipts of the stations, once all jobs are done.
 fn finish<C: Exclusion, J: Job>(
     alloc: Global,
     stations: Vec<Station<C>>,

@@ -165,8 +165,6 @@ impl<T: Drop, P: Promise<T> + Drop> ThreadGroup<T, P> {
         Ok(())
     }
 
-    /// Shuts the gate, runs the task in the calling thread, and returns what it left, with this
-    /// fault.
     fn run_here<F: FnOnce(&StartGate) -> T>(&self, task: F, fault: StartFault) -> NotStarted<T>
         requires { F.IsAlwaysCallable task }
         ensures { (gate : _) × F.post task gate result.left }
@@ -220,7 +218,6 @@ impl<T: Drop, P: Promise<T> + Drop> ThreadGroup<T, P> {
     }
 }
 
-/// Joins threads, and drops what they leave.
 fn join_each<T: Drop, P: Promise<T>, R: Threads>(rt: &R, handles: Vec<PromisedHandle<T, P>>) {
     for handle in handles {
         drop(handle.join(rt));

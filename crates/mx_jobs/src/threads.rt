@@ -16,7 +16,6 @@ use mx_stations::Station;
 use std::snapshot::Snapshot;
 use std::thread::{Promise, Threads};
 
-/// What a worker leaves: its station, its job, and how it ended.
 pub(crate) type Left<C, J> = (Station<C>, J, Ended);
 
 /// The promise of a worker's thread: with these options, its work leads from this station and this
@@ -36,11 +35,8 @@ impl<C: Exclusion, J: Job> Promise<Left<C, J>> for WorkAt<Station<C>, J> {
         p.options p.at.value p.job.value left };
 }
 
-/// The threads of a run.
 pub(crate) type Workers<C, J> = ThreadGroup<Left<C, J>, WorkAt<Station<C>, J>>;
 
-/// Takes a station through its job. If the job cannot go on, tells the gate, which then stops all
-/// workers.
 fn do_work<C: Exclusion, J: Job, F: Fates + Drop>(
     mut station: Station<C>,
     mut job: J,
@@ -56,7 +52,6 @@ fn do_work<C: Exclusion, J: Job, F: Fates + Drop>(
     (station, job, ended)
 }
 
-/// Adds a thread to `workers`, which takes the station through its job.
 fn start_one<
     C: Exclusion + Send + 'static,
     J: Job + Send + 'static,
@@ -94,8 +89,7 @@ where
         { do_work(station, job, fates, gate, options) },
     )
 }
-/// Removes and returns the first station, its job and its fates, or `None` if one of the lists is
-/// empty.
+
 fn take_next<S: Drop, J: Drop, F: Drop>(
     stations: &mut Vec<S>,
     jobs: &mut Vec<J>,
@@ -114,7 +108,6 @@ fn take_next<S: Drop, J: Drop, F: Drop>(
     Some((stations.remove(0), jobs.remove(0), fates.remove(0)))
 }
 
-/// Inserts an item before the others. There must be room for it.
 pub(crate) fn put_first<T: Drop>(items: &mut Vec<T>, item: T)
     requires { length items.old.items < vec_capacity items.old }
     ensures items { items.new.items ≡ item ∷ items.old.items }
@@ -125,9 +118,6 @@ pub(crate) fn put_first<T: Drop>(items: &mut Vec<T>, item: T)
     };
 }
 
-/// Starts a thread for each station, with its job and its fates, until one cannot be started. In
-/// that case the gate is shut, and the stations and jobs without a thread remain in the lists, in
-/// order.
 pub(crate) fn start_each<
     C: Exclusion + Send + 'static,
     J: Job + Send + 'static,
@@ -166,7 +156,6 @@ where
     all_taken(stations, workers)
 }
 
-/// Shuts the gate and returns `NotAJobEach`, if stations remain without a thread.
 fn all_taken<C: Exclusion, J: Job>(
     stations: &Vec<Station<C>>,
     workers: &Workers<C, J>,

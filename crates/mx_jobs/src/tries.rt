@@ -30,21 +30,16 @@ pub enum JobFault {
     NumbersSpent,
 }
 
-/// The result of a try to make a section of a job.
 #[derive(Clone, Copy, Debug, PartialEq, Eq)]
 pub(crate) enum Tried {
-    /// The section was made, and the node left it.
     Left,
     /// The section was made, but memory was refused when the node tried to leave it.
     Pending,
-    /// The node is not inside.
     Outside,
     /// Records of earlier sections are missing.
     Gap,
 }
 
-/// Reads these registers in the section that the node is inside, in order, and returns their
-/// values.
 fn read_all<C: Exclusion>(
     station: &mut Station<C>,
     registers: &[u8],
@@ -65,7 +60,6 @@ fn read_all<C: Exclusion>(
     Ok(values)
 }
 
-/// Makes these writes in the section that the node is inside, in order.
 fn write_all<C: Exclusion>(station: &mut Station<C>, writes: &[Write]) -> Result<(), WriteFault>
     ensures drafts { OnOk result (Drafts C.core station.old
         (record {
@@ -82,7 +76,6 @@ fn write_all<C: Exclusion>(station: &mut Station<C>, writes: &[Write]) -> Result
     Ok(())
 }
 
-/// Leaves the section, unless memory is refused. Returns whether the node left it.
 pub(crate) fn try_leave<C: Exclusion>(station: &mut Station<C>) -> bool
     ensures left { result ≡ true → (r : OneReceipt)
         × ((leave_of C.core station.old.me.member).answer ≡ Ok r)
@@ -95,9 +88,7 @@ pub(crate) fn try_leave<C: Exclusion>(station: &mut Station<C>) -> bool
     }
 }
 
-/// Makes the job's next section, which reads these registers, if the node is inside and its journal
-/// has the records of all earlier sections. Each try starts with an empty draft, so an earlier one
-/// that met a gap has no effect.
+/// Each try starts with an empty draft, so an earlier one that met a gap has no effect.
 pub(crate) fn try_section<C: Exclusion, J: Job>(
     station: &mut Station<C>,
     job: &mut J,
@@ -136,8 +127,6 @@ pub(crate) fn try_section<C: Exclusion, J: Job>(
     }
 }
 
-/// Returns the outcome of a section that was made: `Left` if the node has left it, and otherwise
-/// `Pending`.
 fn outcome_of(has_left: bool) -> Tried
     ensures left { result ≡ Tried.Left → has_left ≡ true }
     ensures pending { result ≡ Tried.Pending → has_left ≡ false }

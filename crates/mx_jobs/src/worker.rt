@@ -108,15 +108,12 @@ pub fn work<C: Exclusion, J: Job, G: Gate, F: Fates>(
     Ended::NotYet
 }
 
-/// Whether the node is inside.
 fn is_inside<C: Exclusion>(station: &Station<C>) -> bool
     ensures { IsTrue result ↔ IsInside C.core station.now.me.member.core }
 {
     matches!(station.phase(), Phase::Inside(_))
 }
 
-/// Performs the acts that are due, lets the station take a turn and settle if that is due by
-/// `every`, and waits by the worker's patience. Returns whether the job is done.
 fn take_turn<C: Exclusion, J: Job, F: Fates>(
     station: &mut Station<C>,
     job: &mut J,
@@ -143,8 +140,7 @@ fn take_turn<C: Exclusion, J: Job, F: Fates>(
     Ok(idle)
 }
 
-/// Waits, by the worker's patience, after a turn of the station that returned `report`. `idle` says
-/// whether the job is done.
+/// `idle` says whether the job is done.
 fn rest<C: Exclusion>(
     station: &Station<C>,
     patience: &mut Patience,
@@ -155,8 +151,6 @@ fn rest<C: Exclusion>(
     patience.wait(station, report, asks);
 }
 
-/// Performs the acts that are due: leaves a section that is made but not left, or else goes on with
-/// the job. Returns whether the job is done.
 fn act<C: Exclusion, J: Job>(
     station: &mut Station<C>,
     job: &mut J,
@@ -181,7 +175,6 @@ fn act<C: Exclusion, J: Job>(
     go_on(station, job, stance)
 }
 
-/// Goes on with the job's next section, if there is one. Returns whether there is none.
 fn go_on<C: Exclusion, J: Job>(
     station: &mut Station<C>,
     job: &mut J,
@@ -206,9 +199,6 @@ fn go_on<C: Exclusion, J: Job>(
     }
 }
 
-/// Asks for a section, enters, and makes the job's next section, which reads these registers, as
-/// far as each is possible now. If the journal lacks records, asks the next node in cyclic order
-/// for them.
 fn next_section<C: Exclusion, J: Job>(
     station: &mut Station<C>,
     job: &mut J,
@@ -236,8 +226,6 @@ fn next_section<C: Exclusion, J: Job>(
     Ok(())
 }
 
-/// Asks a node for the records that the journal lacks: in cyclic order, the one after the node
-/// asked last.
 fn want_next<C: Exclusion>(station: &mut Station<C>, stance: &mut WorkerState)
     ensures rests { Rests C.core station.old station.new }
     ensures acts { ActsForJob C.core station.old station.new }
@@ -248,7 +236,6 @@ fn want_next<C: Exclusion>(station: &mut Station<C>, stance: &mut WorkerState)
     stance.wanted = next;
 }
 
-/// Returns the node after `node`, in cyclic order of `nodes` nodes; `other` is one of them.
 fn node_after(node: NodeId, other: NodeId, nodes: u8) -> NodeId
     requires { other < nodes }
     ensures { result < nodes }

@@ -1,5 +1,3 @@
--- Bases: the contents of the registers after the first sections, which replace the records of these
--- sections.
 use Rattle.std.specs.Prelude.{ℕ, ◌≡◌, ◌≢◌, ◌≤◌, ◌⊎◌, List, [], ◌∷◌, Option, Some, None, get_or, replicate}
 use Rattle.mx_stamps.specs.declared.limits.TheConstants.{MAX_REGISTERS}
 use Rattle.mx_stamps.specs.Lists.{IsIn, each_below}
@@ -12,7 +10,6 @@ pub record BaseState : Type 0 where
   pub upto : ℕ
   pub cells : List Cell
 
--- a register that no section wrote
 abbrev pub unwritten : Cell
 unwritten = record { value = 0; number = 0 }
 
@@ -24,7 +21,6 @@ origin = record { upto = 0; cells = replicate MAX_REGISTERS unwritten }
 abbrev pub IsCellOf : ℕ → Cell → Type 0
 IsCellOf k cell = (cell.number ≤ k) × ((1 ≤ cell.number) ⊎ (cell.value ≡ 0))
 
--- IsCellOf k holds for each of the cells
 abbrev pub AreCellsOf : ℕ → List Cell → Type 0
 AreCellsOf k cells = (cell : Cell) → IsIn cell cells → IsCellOf k cell
 
@@ -43,7 +39,6 @@ with_section entry cells =
     (get_or cells register unwritten))
     MAX_REGISTERS
 
--- the registers after the sections of these records, one after another
 abbrev pub with_sections : List Record → List Cell → List Cell
 with_sections [] cells = cells
 with_sections (x ∷ xs) cells = with_sections xs (with_section x cells)

@@ -1,4 +1,3 @@
--- Drafts, and the receipts and records that are made from them.
 use Rattle.std.specs.Prelude.{ℕ, ◌==◌, ◌++◌, List, [], ◌∷◌, Option, None, length, map, filter}
 use Rattle.std.specs.List.{last_or}
 use Rattle.mx_journal.specs.declared.records.Write.{Write}
@@ -11,7 +10,6 @@ pub record Drafted : Type 0 where
   pub reads : List Read
   pub writes : List Write
 
--- a draft with no read and no write
 abbrev pub fresh : Drafted
 fresh = record { reads = []; writes = [] }
 
@@ -28,14 +26,12 @@ with_read register value draft = record {
   writes = draft.writes;
 }
 
--- the draft with one more write
 abbrev pub with_write : ℕ → ℕ → Drafted → Drafted
 with_write register value draft = record {
   reads = draft.reads;
   writes = draft.writes ++ record { register = register; value = value } ∷ [];
 }
 
--- the receipt of the section with this number, node and draft
 abbrev pub receipt_of : ℕ → ℕ → Drafted → Receipt
 receipt_of number node draft = record {
   number = number;

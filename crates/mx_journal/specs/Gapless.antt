@@ -1,4 +1,3 @@
--- Journals without gaps.
 use Rattle.std.specs.Prelude.{ℕ, suc, ◌≤◌, List, [], ◌∷◌, nat_eq, if◌then◌else◌}
 use Rattle.mx_journal.specs.declared.records.Record.{Record}
 use Rattle.mx_journal.specs.Records.{IsThere}

@@ -9,12 +9,10 @@ abbrev pub Ascending : ℕ → List Record → Type 0
 Ascending least [] = Unit {0}
 Ascending least (x ∷ xs) = (least ≤ x.number) × Ascending (suc x.number) xs
 
--- the record with the number n, if there is one
 abbrev pub record_at : ℕ → List Record → Option Record
 record_at n [] = None
 record_at n (x ∷ xs) = if nat_eq x.number n then Some x else record_at n xs
 
--- some record has the number n
 abbrev pub IsThere : ℕ → List Record → Type 0
 IsThere n xs = (x : Record) × IsIn x xs × (x.number ≡ n)
 
@@ -39,17 +37,14 @@ with_records (r ∷ rs) journal = with_records rs (with_record r journal)
 abbrev pub BringsNew : List Record → List Record → Type 0
 BringsNew list journal = (x : Record) × IsIn x list × (record_at x.number journal ≡ None)
 
--- the records numbered below n
 abbrev pub below : ℕ → List Record → List Record
 below n [] = []
 below n (x ∷ xs) = if nat_lt x.number n then x ∷ below n xs else []
 
--- the records numbered above n
 abbrev pub above : ℕ → List Record → List Record
 above n [] = []
 above n (x ∷ xs) = if nat_lt n x.number then x ∷ xs else above n xs
 
--- the records whose numbers lie in the range
 abbrev pub in_range : Range → List Record → List Record
 in_range range xs = filter (λ x. nat_le range.first x.number && nat_le x.number range.last) xs
 

@@ -7,7 +7,6 @@ use Rattle.mx_journal.specs.declared.records.Record.{Record}
 use Rattle.mx_journal.specs.Agreement.{AreAgreeing}
 use Rattle.mx_journal.specs.Records.{Ascending, IsThere, above, record_at, with_record, with_records}
 
--- the records of these runs, in order
 abbrev pub flatten : List (List Record) → List Record
 flatten [] = []
 flatten (run ∷ runs) = run ++ flatten runs
@@ -17,12 +16,10 @@ abbrev pub AreConsecutive : ℕ → List Record → Type 0
 AreConsecutive n [] = Unit {0}
 AreConsecutive n (x ∷ xs) = (x.number ≡ n) × AreConsecutive (suc n) xs
 
--- the number of the first record, or 0 without records
 abbrev pub first_number : List Record → ℕ
 first_number [] = 0
 first_number (x ∷ xs) = x.number
 
--- the number of the last record, or 0 without records
 abbrev pub last_number : List Record → ℕ
 last_number [] = 0
 last_number (x ∷ []) = x.number

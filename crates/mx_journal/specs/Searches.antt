@@ -1,4 +1,3 @@
--- The results of searches.
 use Rattle.std.specs.Prelude.{ℕ, min, Option, Some, None}
 
 -- the lower of n and the other number, or n if there is no other

@@ -1,5 +1,3 @@
--- Settled journals: a base that replaces the records of the first sections, and the map of the
--- records above it.
 use Rattle.std.specs.Prelude.{ℕ, suc, ◌+◌, ◌≡◌, ◌≤◌, ◌<◌, ◌⊎◌, ◌↔◌, List, max, length, nat_lt, if◌then◌else◌, filter}
 use Rattle.mx_stamps.specs.Lists.{IsIn}
 use Rattle.mx_journal.specs.declared.records.Record.{Record}
@@ -48,7 +46,6 @@ covered journal = journal.base.upto + length journal.records
 abbrev pub top_covered : JournalState → ℕ
 top_covered journal = max journal.base.upto (top_of journal.records)
 
--- the records of a list that are numbered above n
 abbrev pub beyond : ℕ → List Record → List Record
 beyond n list = filter (λ x. nat_lt n x.number) list
 
@@ -122,6 +119,5 @@ AreOfOneMap a b =
     (sections : List Record)
     × Ascending 1 sections × IsOfSections sections a × IsOfSections sections b
 
--- both journals cover the same numbers
 abbrev pub CoverSame : JournalState → JournalState → Type 0
 CoverSame a b = (n : ℕ) → Covers n a ↔ Covers n b

@@ -8,7 +8,6 @@ abbrev pub after_one : {C : Type 0} → (Option ℕ → C → C) → ℕ → Wri
 after_one after register write cell =
     if nat_eq write.register register then after (Some write.value) cell else cell
 
--- the contents of a register after some writes of the section, in order
 abbrev pub after_each : {C : Type 0} → (Option ℕ → C → C) → ℕ → List Write → C → C
 after_each after register [] cell = cell
 after_each after register (w ∷ ws) cell =

@@ -41,7 +41,6 @@ impl Base {
         }
     }
 
-    /// Returns the base that covers no section: each register is 0, and no section wrote it.
     pub(crate) fn origin() -> Base
         ensures { result ≡ origin }
     {
@@ -54,7 +53,6 @@ impl Base {
         }
     }
 
-    /// Creates the base of sections 1 to `upto` with these cells, which are valid there (see `of`).
     pub(crate) fn with(upto: u64, cells: [Cell; REGISTERS]) -> Base
         requires { AreCellsOf upto cells }
         ensures { result ≡ record { upto = upto; cells = cells } }

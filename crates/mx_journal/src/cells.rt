@@ -1,5 +1,3 @@
-//! The cells of a base: the contents of registers after the first sections.
-
 ghost use Rattle.std.specs.Prelude.{ℕ, ◌≡◌, ◌<◌, ◌↔◌, get_or, IsTrue};
 ghost use Rattle.mx_journal.specs.Bases.{AreCellsOf, IsCellOf, after_section, unwritten, with_section};
 ghost use Rattle.mx_journal.specs.Drafted.{last_value};
@@ -8,7 +6,6 @@ ghost use Rattle.mx_journal.specs.Written.{after_one};
 use crate::records::{Record, Write};
 use mx_stamps::MAX_REGISTERS;
 
-/// The number of registers in a base, which are numbered from 0. Writes to others are skipped.
 pub(crate) const REGISTERS: usize = MAX_REGISTERS as usize;
 
 /// The contents of a register: a value, and the number of the section that wrote it, or 0 if none
@@ -21,15 +18,12 @@ pub struct Cell {
     pub number: u64,
 }
 
-/// Returns whether the cell is valid in a base of sections 1 to `upto`: one of these wrote it, or
-/// none did and its value is 0.
 fn is_cell_of(cell: &Cell, upto: u64) -> bool
     ensures { IsTrue result ↔ IsCellOf upto cell.now }
 {
     cell.number <= upto && (cell.number >= 1 || cell.value == 0)
 }
 
-/// Returns whether each cell is valid in a base of sections 1 to `upto`, by `is_cell_of`.
 pub(crate) fn are_cells_of(cells: &[Cell], upto: u64) -> bool
     ensures { IsTrue result ↔ AreCellsOf upto cells.now }
 {
@@ -41,22 +35,18 @@ pub(crate) fn are_cells_of(cells: &[Cell], upto: u64) -> bool
     true
 }
 
-/// Returns whether both lists have the same cells.
 pub(crate) fn are_same_cells(cells: &[Cell], others: &[Cell]) -> bool
     ensures { IsTrue result ↔ (cells.now ≡ others.now) }
 {
     cells == others
 }
 
-/// Applies the writes of a record to the cells. The record's section comes after all those applied
-/// before.
 pub(crate) fn take_section(cells: &mut [Cell; REGISTERS], entry: &Record)
     ensures { cells.new ≡ with_section entry.now cells.old }
 {
     write_all(cells, entry.number, entry.writes.as_slice());
 }
 
-/// Applies the writes of section `number` to the cells, in order.
 fn write_all(cells: &mut [Cell; REGISTERS], number: u64, writes: &[Write])
     ensures { (register : ℕ) → register < MAX_REGISTERS → get_or cells.new register unwritten
         ≡ after_section number (last_value register writes.now)
@@ -67,8 +57,6 @@ fn write_all(cells: &mut [Cell; REGISTERS], number: u64, writes: &[Write])
     }
 }
 
-/// Applies one write of section `number` to the cells. A write to a register without a cell is
-/// skipped.
 fn put(cells: &mut [Cell; REGISTERS], number: u64, write: Write)
     ensures { (register : ℕ) → register < MAX_REGISTERS → get_or cells.new register unwritten
         ≡ after_one (after_section number) register write (get_or cells.old register unwritten) }

@@ -1,5 +1,3 @@
-//! The draft of an open section: what the section has read and written so far.
-
 ghost use Rattle.std.specs.Prelude.{◌≡◌, ◌≤◌, ◌↔◌, [], ◌∷◌, ◌++◌, length, IsErr, IsTrue, OnErr, OnOk};
 ghost use Rattle.mx_journal.specs.Drafted.{last_value, receipt_of, with_read, with_write};
 
@@ -112,7 +110,6 @@ impl Draft {
     }
 }
 
-/// Returns the value of the last of these writes to a register, if there is one.
 fn last_of(writes: &[Write], register: u8) -> Option<u64>
     ensures { result ≡ last_value register writes.now }
 {

@@ -9,12 +9,7 @@ use crate::places::{len_of, place_of, top_in, touches_below};
 use crate::runs::Run;
 use std::alloc::AllocError;
 
-/// Adds runs of records whose numbers are new, and returns how many records they have. Records
-/// between the least and the greatest new number are copied; the others stay in place.
-///
-/// # Errors
-///
-/// Returns `AllocError` if memory runs out. Nothing has changed then.
+/// Copies the records between the least and the greatest new number; the others stay in place.
 pub(crate) fn put_runs(runs: &mut Vec<Run>, new: &[Run]) -> Result<u64, AllocError>
     requires runs { AreRuns 1 runs.old.items }
     requires new { AreRuns 1 new.now }
@@ -40,12 +35,6 @@ pub(crate) fn put_runs(runs: &mut Vec<Run>, new: &[Run]) -> Result<u64, AllocErr
     Ok(len_of(new) as u64)
 }
 
-/// Replaces the runs from place `from` on and before place `to` by the runs of `middle`. Runs whose
-/// numbers then continue one another are joined.
-///
-/// # Errors
-///
-/// Returns `AllocError` if memory runs out. Nothing has changed then.
 fn renew(
     runs: &mut Vec<Run>,
     from: usize,
@@ -66,8 +55,6 @@ fn renew(
     done
 }
 
-/// Replaces the runs from place `from` on by those of `middle`, and appends those of `behind`. If
-/// memory runs out, `runs` and `behind` are unchanged.
 fn renew_end(
     runs: &mut Vec<Run>,
     from: usize,
@@ -89,8 +76,6 @@ fn renew_end(
     done
 }
 
-/// Appends the runs of `middle`, and then those of `behind`. If memory runs out, `runs` and
-/// `behind` are unchanged.
 fn splice_both(
     runs: &mut Vec<Run>,
     middle: &mut Vec<Run>,
@@ -114,7 +99,6 @@ fn splice_both(
     }
 }
 
-/// Returns how many records the last run has, or 0 if there is no run.
 fn last_len(runs: &[Run]) -> usize
     ensures { result ≡ length (get_or runs.now (length runs.now - 1) []) }
 {
@@ -124,8 +108,6 @@ fn last_len(runs: &[Run]) -> usize
     runs[runs.len() - 1].len()
 }
 
-/// Appends the runs of `others`. If the first of them continues the last of `runs`, both become one
-/// run.
 fn splice(runs: &mut Vec<Run>, others: &mut Vec<Run>) -> Result<(), AllocError>
     ensures ok { OnOk result (runs.new.items ≡ sewn runs.old.items others.old.items) }
     ensures err { OnErr result (runs.new.items ≡ runs.old.items) }
@@ -140,7 +122,6 @@ fn splice(runs: &mut Vec<Run>, others: &mut Vec<Run>) -> Result<(), AllocError>
     Ok(())
 }
 
-/// Appends the runs of `others` to `runs`, which has room for them.
 fn add_all(runs: &mut Vec<Run>, others: &mut Vec<Run>)
     requires { vec_len runs.old + vec_len others.old ≤ vec_capacity runs.old }
     ensures items { runs.new.items ≡ runs.old.items ++ others.old.items }
@@ -149,7 +130,6 @@ fn add_all(runs: &mut Vec<Run>, others: &mut Vec<Run>)
     let _ = runs.append(others);
 }
 
-/// Returns whether the first run of `others` starts with the number after the last one of `runs`.
 fn continues(runs: &[Run], others: &[Run]) -> bool
     ensures { IsTrue result ↔ (1 ≤ length others.now)
         × TouchesBelow (first_number (get_or others.now 0 [])) (length runs.now) runs.now }
@@ -160,8 +140,6 @@ fn continues(runs: &[Run], others: &[Run]) -> bool
     touches_below(runs, runs.len(), others[0].first())
 }
 
-/// Moves the first run of `others` out of that list: its records go to the end of the last of
-/// `runs`.
 fn splice_first(runs: &mut Vec<Run>, others: &mut Vec<Run>) -> Result<(), AllocError>
     requires ours { 1 ≤ length runs.old.items }
     requires theirs { 1 ≤ length others.old.items }
@@ -183,7 +161,6 @@ fn splice_first(runs: &mut Vec<Run>, others: &mut Vec<Run>) -> Result<(), AllocE
     Ok(())
 }
 
-/// Keeps only the first `count` runs, and only the first `len` records of the last of these.
 fn cut(runs: &mut Vec<Run>, count: usize, len: usize)
     requires { count ≤ length runs.old.items }
     ensures items { runs.new.items ≡ slice_set (take count runs.old.items) (count - 1)

@@ -11,7 +11,6 @@ use crate::records::Record;
 use crate::runs::Run;
 use std::alloc::{AllocError, Global};
 
-/// Returns whether `number` is at most `from`, or a record of `known` has it.
 fn is_known(known: &[Run], from: u64, number: u64) -> bool
     requires { AreRuns 1 known.now }
     ensures known { IsTrue result → (number ≤ from) ⊎ IsThere number (flatten known.now) }
@@ -21,12 +20,6 @@ fn is_known(known: &[Run], from: u64, number: u64) -> bool
     number <= from || is_there(known, number)
 }
 
-/// Returns runs with copies of the listed records that are numbered above `from` and whose numbers
-/// `known` lacks. If several have the same number, only the first is copied.
-///
-/// # Errors
-///
-/// Returns `AllocError` if memory runs out.
 pub(crate) fn runs_of_new(
     alloc: Global,
     known: &[Run],
@@ -52,7 +45,6 @@ pub(crate) fn runs_of_new(
     Ok(runs)
 }
 
-/// Returns whether `runs` has each number above `from` that `other` has.
 pub(crate) fn are_there(runs: &[Run], from: u64, other: &[Run]) -> bool
     requires runs { AreRuns 1 runs.now }
     requires other { AreRuns 1 other.now }
@@ -71,14 +63,8 @@ pub(crate) fn are_there(runs: &[Run], from: u64, other: &[Run]) -> bool
     true
 }
 
-/// Adds the records of `other` numbered above `from`, and returns how many were new. Records of the
-/// same number are equal in both, and all of `runs` are numbered above `from`. If `other` is a
-/// single run above `from` that continues a run here, with a gap to the next, it is appended there;
-/// otherwise, unless `other` is empty, the records of both are copied.
-///
-/// # Errors
-///
-/// Returns `AllocError` if memory runs out. Nothing has changed then.
+/// If `other` is a single run above `from` that continues a run here, with a gap to the next, it is
+/// appended there; otherwise, unless `other` is empty, the records of both are copied.
 pub(crate) fn join_runs(runs: &mut Vec<Run>, from: u64, other: &[Run]) -> Result<u64, AllocError>
     requires { CanJoin from other.now runs.old.items }
     ensures ok { IfOk result (λ k.
@@ -99,8 +85,6 @@ pub(crate) fn join_runs(runs: &mut Vec<Run>, from: u64, other: &[Run]) -> Result
     join_copies(runs, from, other)
 }
 
-/// Returns whether `more` starts right after the run before place `at`, and at least one number is
-/// missing between `more` and the run at place `at`, if there is one.
 fn goes_behind(runs: &[Run], at: usize, more: &Run) -> bool
     requires { at ≤ length runs.now }
     ensures touches { IsTrue result → TouchesBelow (first_number more.now) at runs.now }
@@ -118,11 +102,6 @@ fn goes_behind(runs: &[Run], at: usize, more: &Run) -> bool
     last < next && next - last > 1
 }
 
-/// Appends copies of the records of `more` to the run before place `at`.
-///
-/// # Errors
-///
-/// Returns `AllocError` if memory runs out. Nothing has changed then.
 fn append_run(runs: &mut Vec<Run>, at: usize, more: &Run) -> Result<(), AllocError>
     requires first { 1 ≤ at }
     requires second { at ≤ length runs.old.items }
@@ -139,11 +118,6 @@ fn append_run(runs: &mut Vec<Run>, at: usize, more: &Run) -> Result<(), AllocErr
     run.join(more.record(0).copy(), &mut rest)
 }
 
-/// Does what `join_runs` does, for any runs: copies of the records of both replace those of `runs`.
-///
-/// # Errors
-///
-/// Returns `AllocError` if memory runs out. Nothing has changed then.
 fn join_copies(runs: &mut Vec<Run>, from: u64, other: &[Run]) -> Result<u64, AllocError>
     requires { CanJoin from other.now runs.old.items }
     ensures ok { IfOk result (λ k.
@@ -157,12 +131,6 @@ fn join_copies(runs: &mut Vec<Run>, from: u64, other: &[Run]) -> Result<u64, All
     Ok(count)
 }
 
-/// Returns copies of the records of `runs` and `other` numbered above `from` and up to `to`, as
-/// runs, and how many of them `runs` lacks.
-///
-/// # Errors
-///
-/// Returns `AllocError` if memory runs out.
 pub(crate) fn joined_up_to(
     alloc: Global,
     runs: &[Run],
@@ -197,8 +165,6 @@ pub(crate) fn joined_up_to(
     Ok((joined, count))
 }
 
-/// Returns the record with the least number above `number` in `runs` or `other`; that of `runs` if
-/// both have the number.
 fn next_of_both<'a>(runs: &'a [Run], other: &'a [Run], number: u64) -> Option<&'a Record>
     requires runs { AreRuns 1 runs.now }
     requires other { AreRuns 1 other.now }
@@ -215,7 +181,6 @@ fn next_of_both<'a>(runs: &'a [Run], other: &'a [Run], number: u64) -> Option<&'
     }
 }
 
-/// Returns the record with the lower number, or `here` if the numbers are equal.
 fn lower<'a>(here: &'a Record, there: &'a Record) -> &'a Record
     ensures here { here.now.number ≤ there.now.number → result.now ≡ here.now }
     ensures there { there.now.number < here.now.number → result.now ≡ there.now }

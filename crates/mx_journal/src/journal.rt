@@ -1,5 +1,4 @@
-//! The journal of a node: the closed sections that the node knows, as records by number. The first
-//! sections may be settled: a base, which has the registers after them, replaces their records.
+//! The journal of a node: the closed sections that the node knows, as records by number.
 
 ghost use Rattle.std.specs.Prelude.{ℕ, suc, ◌≡◌, ◌+◌, ◌≤◌, ◌<◌, ◌↔◌, ◌++◌, ◌⊎◌, [], ◌∷◌, List, Some, None, Ok, Err, IsOk, IsTrue, IfOk, OnOk, OnErr, MatchOption, max, length, take};
 ghost use Rattle.mx_journal.specs.Agreement.{IsConsistent, IsFirstConflict, IsOther};
@@ -58,7 +57,7 @@ impl Journal {
     ///
     /// Returns `ZeroNumber` if the record's number is 0. Returns `Conflict` with the number if the
     /// journal has a different record of that number. Returns `Memory` if the record is new and
-    /// memory runs out. On an error the journal is unchanged.
+    /// memory runs out.
     pub fn put(&mut self, entry: Record) -> Result<Put, PutFault>
         ensures zero { (result ≡ Err PutFault.ZeroNumber) ↔ (entry.number ≡ 0) }
         ensures conflict { (n : ℕ) → (result ≡ Err (PutFault.Conflict n))
@@ -88,8 +87,7 @@ impl Journal {
     ///
     /// Returns `ZeroNumber` if a record's number is 0. Returns `Conflict` with the least number
     /// that two different records share; both may be in the list, or one in the journal. Returns
-    /// `Memory` if there is no other fault, some record is new, and memory runs out. On an error
-    /// the journal is unchanged.
+    /// `Memory` if there is no other fault, some record is new, and memory runs out.
     pub fn put_all(&mut self, list: &[Record]) -> Result<u64, PutFault>
         ensures zero { (result ≡ Err PutFault.ZeroNumber) ↔ IsThere 0 list.now }
         ensures conflict { (n : ℕ) → (result ≡ Err (PutFault.Conflict n))
@@ -114,7 +112,7 @@ impl Journal {
     /// # Errors
     ///
     /// Returns `AllocError` if some record is new and memory runs out. Memory is allocated before
-    /// anything changes, so the journal is unchanged then.
+    /// anything changes.
     pub fn join(&mut self, other: &Journal) -> Result<u64, AllocError>
         requires { DoAgree self.old other.now }
         ensures ok { IfOk result (λ k. (self.new ≡ joined other.now self.old)
@@ -151,7 +149,7 @@ impl Journal {
     ///
     /// Returns `Below` with the number of the last section that the base covers, if that is above
     /// `upto`. Returns `Gap` with the first number that the journal does not cover, if that is at
-    /// most `upto`. On an error the journal is unchanged.
+    /// most `upto`.
     pub fn settle(&mut self, upto: u64) -> Result<(), SettleFault>
         ensures below { (n : ℕ) → (result ≡ Err (Below n))
             ↔ ((upto < self.old.base.upto) × (n ≡ self.old.base.upto)) }
@@ -182,7 +180,7 @@ impl Journal {
     /// # Errors
     ///
     /// Returns `Conflict` with the number of the last section that the bases cover, if both cover
-    /// the same sections and differ. The journal is unchanged then.
+    /// the same sections and differ.
     pub fn take_base(&mut self, base: &Base) -> Result<u64, BaseFault>
         ensures conflict { (n : ℕ) → (result ≡ Err (BaseFault.Conflict n))
             ↔ ((n ≡ base.now.upto) × AreOpposed self.old.base base.now) }
@@ -198,8 +196,7 @@ impl Journal {
         Ok(self.rise_to(base))
     }
 
-    /// Takes a base if it covers more sections than the journal's own, and returns how many numbers
-    /// are newly covered. Does not check whether two bases of the same sections differ.
+    /// As `take_base`, but does not check whether two bases of the same sections differ.
     fn rise_to(&mut self, base: &Base) -> u64
         ensures value { self.new ≡ with_base base.now self.old }
         ensures count { covered self.new ≡ covered self.old + result }
@@ -286,7 +283,6 @@ impl Journal {
     }
 }
 
-/// Returns whether the base covers the number.
 fn is_settled(base: &Base, number: u64) -> bool
     ensures { IsTrue result ↔ ((1 ≤ number) × (number ≤ base.now.upto)) }
 {

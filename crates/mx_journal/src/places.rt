@@ -1,5 +1,4 @@
-//! Where section numbers lie in a journal's runs, and the records there. A *place* is the index of
-//! a run.
+//! Where section numbers lie in a journal's runs. A *place* is the index of a run.
 
 ghost use Rattle.std.specs.Prelude.{◌≡◌, ◌≢◌, [], ◌∷◌, ◌++◌, ◌+◌, ◌-◌, ◌<◌, ◌≤◌, ◌↔◌, IsTrue, IsFalse, Some, None, MatchOption, OnOk, OnErr, length, get_or, take};
 ghost use Rattle.mx_journal.specs.Gapless.{first_missing};
@@ -13,8 +12,7 @@ use arrayvec::ArrayVec;
 use std::alloc::AllocError;
 use std::mem;
 
-/// Returns how many runs end at `number` or below. This is the place of the first run that ends
-/// above `number`, if there is one. Uses a binary search.
+/// The place of the first run that ends above `number`, if there is one, by a binary search.
 pub(crate) fn place_of(runs: &[Run], number: u64) -> usize
     requires { AreRuns 1 runs.now }
     ensures value { result ≡ runs_up_to number runs.now }
@@ -34,7 +32,6 @@ pub(crate) fn place_of(runs: &[Run], number: u64) -> usize
     low
 }
 
-/// Returns the record with the least number above `number`, if there is one.
 pub(crate) fn next_in(runs: &[Run], number: u64) -> Option<&Record>
     requires { AreRuns 1 runs.now }
     ensures { MatchOption result (above number (flatten runs.now) ≡ [])
@@ -48,7 +45,6 @@ pub(crate) fn next_in(runs: &[Run], number: u64) -> Option<&Record>
     Some(next_in_run(&runs[at], number))
 }
 
-/// Returns the record of the run with the least number above `number`. The run ends above `number`.
 fn next_in_run(run: &Run, number: u64) -> &Record
     requires consecutive { AreConsecutive (first_number run.now) run.now }
     requires least { 1 ≤ first_number run.now }
@@ -63,7 +59,6 @@ fn next_in_run(run: &Run, number: u64) -> &Record
     }
 }
 
-/// Returns the record with this number.
 pub(crate) fn find(runs: &[Run], number: u64) -> Option<&Record>
     requires { AreRuns 1 runs.now }
     ensures { MatchOption result (record_at number (flatten runs.now) ≡ None)
@@ -78,7 +73,6 @@ pub(crate) fn find(runs: &[Run], number: u64) -> Option<&Record>
     }
 }
 
-/// Returns whether a record has this number.
 pub(crate) fn is_there(runs: &[Run], number: u64) -> bool
     requires { AreRuns 1 runs.now }
     ensures there { IsTrue result → IsThere number (flatten runs.now) }
@@ -90,7 +84,6 @@ pub(crate) fn is_there(runs: &[Run], number: u64) -> bool
     }
 }
 
-/// Returns how many records the runs have.
 pub(crate) fn len_of(runs: &[Run]) -> usize
     requires { AreRuns 1 runs.now }
     ensures { result ≡ length (flatten runs.now) }
@@ -102,7 +95,6 @@ pub(crate) fn len_of(runs: &[Run]) -> usize
     len
 }
 
-/// Returns the greatest number of a record, or 0 if there are no records.
 pub(crate) fn top_in(runs: &[Run]) -> u64
     requires { AreRuns 1 runs.now }
     ensures { result ≡ top_of (flatten runs.now) }
@@ -113,8 +105,7 @@ pub(crate) fn top_in(runs: &[Run]) -> u64
     }
 }
 
-/// Returns the last of the numbers that follow `number` without a gap, or `number` itself if the
-/// next one is missing. Takes one binary search.
+/// Takes one binary search.
 pub(crate) fn gapless_in(runs: &[Run], number: u64) -> u64
     requires { AreRuns 1 runs.now }
     ensures { result + 1 ≡ first_missing (number + 1) (above number (flatten runs.now)) }
@@ -132,8 +123,6 @@ pub(crate) fn gapless_in(runs: &[Run], number: u64) -> u64
     }
 }
 
-/// Returns copies of the records with numbers in the range, ascending: the first four, or all if
-/// there are fewer.
 pub(crate) fn least_in(runs: &[Run], range: Range) -> ArrayVec<Record, 4>
     requires { AreRuns 1 runs.now }
     ensures { result.items ≡ take 4 (in_range range (flatten runs.now)) }
@@ -150,12 +139,6 @@ pub(crate) fn least_in(runs: &[Run], range: Range) -> ArrayVec<Record, 4>
     found
 }
 
-/// Inserts a record with a new number: at the end or the start of a run, between two runs, which
-/// become one, or as a run of its own.
-///
-/// # Errors
-///
-/// Returns `AllocError` if memory runs out. Nothing has changed then.
 pub(crate) fn insert(runs: &mut Vec<Run>, entry: Record) -> Result<(), AllocError>
     requires runs { AreRuns 1 runs.old.items }
     requires numbered { 1 ≤ entry.number }
@@ -183,7 +166,6 @@ pub(crate) fn insert(runs: &mut Vec<Run>, entry: Record) -> Result<(), AllocErro
     Ok(())
 }
 
-/// Returns whether there is a run before place `at`, and its last number is one below `number`.
 pub(crate) fn touches_below(runs: &[Run], at: usize, number: u64) -> bool
     requires { at ≤ length runs.now }
     ensures { IsTrue result ↔ TouchesBelow number at runs.now }
@@ -195,7 +177,6 @@ pub(crate) fn touches_below(runs: &[Run], at: usize, number: u64) -> bool
     last < number && number - last == 1
 }
 
-/// Returns whether there is a run at place `at`, and its first number is one above `number`.
 fn touches_above(runs: &[Run], at: usize, number: u64) -> bool
     ensures { IsTrue result ↔ TouchesAbove number at runs.now }
 {
@@ -206,11 +187,6 @@ fn touches_above(runs: &[Run], at: usize, number: u64) -> bool
     number < first && first - number == 1
 }
 
-/// Inserts the record between the runs before and at place `at`. The two become one run.
-///
-/// # Errors
-///
-/// Returns `AllocError` if memory runs out. Nothing has changed then.
 fn insert_between(runs: &mut Vec<Run>, at: usize, entry: Record) -> Result<(), AllocError>
     requires first { 1 ≤ at }
     requires second { at < length runs.old.items }

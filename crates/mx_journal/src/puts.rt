@@ -48,7 +48,6 @@ impl From<AllocError> for PutFault {
     }
 }
 
-/// Returns whether some record has the number 0, which no section has.
 pub(crate) fn has_zero(list: &[Record]) -> bool
     ensures there { IsTrue result ↔ IsThere 0 list.now }
     ensures numbered { IsFalse result → IsNumbered list.now }
@@ -61,7 +60,6 @@ pub(crate) fn has_zero(list: &[Record]) -> bool
     false
 }
 
-/// Returns whether the records' numbers ascend strictly, and the first is at least 1.
 fn ascends(list: &[Record]) -> bool
     ensures { IsTrue result ↔ Ascending 1 list.now }
 {
@@ -75,7 +73,6 @@ fn ascends(list: &[Record]) -> bool
     true
 }
 
-/// Returns whether each record of the list with the number of `entry` equals `entry`.
 fn agrees_in(list: &[Record], entry: &Record) -> bool
     ensures agrees { IsTrue result → AgreesWith entry.now list.now }
     ensures opposed { IsFalse result → IsOpposed entry.now list.now }
@@ -88,8 +85,6 @@ fn agrees_in(list: &[Record], entry: &Record) -> bool
     true
 }
 
-/// Returns whether the runs have the record `entry`, or no record of its number. Uses a binary
-/// search.
 fn agrees_at_place(runs: &[Run], entry: &Record) -> bool
     requires { AreRuns 1 runs.now }
     ensures agrees { IsTrue result → AgreesWith entry.now (flatten runs.now) }
@@ -101,9 +96,8 @@ fn agrees_at_place(runs: &[Run], entry: &Record) -> bool
     }
 }
 
-/// Returns whether each record with the number of `entry`, in the journal's runs or in the list,
-/// equals `entry`, which belongs to the list. If `in_order` is true, the list's numbers ascend
-/// strictly, so the list has no other record of that number, and only the runs are searched.
+/// If `in_order` is true, the list's numbers ascend strictly, so the list has no other record of
+/// that number, and only the runs are searched.
 fn agrees_in_both(runs: &[Run], list: &[Record], in_order: bool, entry: &Record) -> bool
     requires ascending { AreRuns 1 runs.now }
     requires ordered { IsTrue in_order → Ascending 1 list.now }
@@ -114,9 +108,6 @@ fn agrees_in_both(runs: &[Run], list: &[Record], in_order: bool, entry: &Record)
     agrees_at_place(runs, entry) && (in_order || agrees_in(list, entry))
 }
 
-/// Returns whether `entry` is numbered above `from`, and differs from a record of the same number
-/// in the journal's runs or in the list. The list has `entry` too; `in_order` may be true only if
-/// its numbers ascend strictly.
 fn is_disputed(runs: &[Run], from: u64, list: &[Record], in_order: bool, entry: &Record) -> bool
     requires ascending { AreRuns 1 runs.now }
     requires ordered { IsTrue in_order → Ascending 1 list.now }
@@ -129,11 +120,6 @@ fn is_disputed(runs: &[Run], from: u64, list: &[Record], in_order: bool, entry: 
     entry.number > from && !agrees_in_both(runs, list, in_order, entry)
 }
 
-/// Returns the least number that two different records share, among the journal's records and the
-/// listed ones numbered above `from`. Allocates no memory.
-///
-/// The time is that of one search for each listed record if the list ascends by number. Otherwise
-/// each record is compared with the whole list, so the time grows with the square of its length.
 pub(crate) fn least_conflict(runs: &[Run], from: u64, list: &[Record]) -> Option<u64>
     requires { AreRuns 1 runs.now }
     ensures some { IfSome result (λ n.
@@ -150,7 +136,6 @@ pub(crate) fn least_conflict(runs: &[Run], from: u64, list: &[Record]) -> Option
     least
 }
 
-/// Returns the lower of the two numbers, or `number` if `least` is `None`.
 fn lower(least: Option<u64>, number: u64) -> u64
     ensures { result ≡ lower_of least number }
 {

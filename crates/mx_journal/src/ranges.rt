@@ -1,5 +1,3 @@
-//! Ranges of section numbers.
-
 /// The section numbers from `first` to `last`, both included. The range is empty if `first` is
 /// above `last`.
 #[derive(Clone, Copy, Debug, Default, PartialEq, Eq)]

@@ -1,5 +1,3 @@
-//! Receipts: the reads and writes of closed sections.
-
 ghost use Rattle.std.specs.Prelude.{◌≡◌};
 ghost use Rattle.mx_journal.specs.Drafted.{record_of};
 
@@ -58,7 +56,6 @@ impl Receipt {
     }
 }
 
-/// Copies the list.
 pub(crate) fn copy_of_reads(reads: &ArrayVec<Read, 8>) -> ArrayVec<Read, 8>
     ensures { result ≡ reads.now }
 {

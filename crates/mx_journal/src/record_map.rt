@@ -1,5 +1,3 @@
-//! The records of a journal, by their numbers.
-
 ghost use Rattle.std.specs.Prelude.{ℕ, suc, ◌≡◌, ◌+◌, ◌≤◌, ◌<◌, ◌↔◌, ◌++◌, ◌⊎◌, [], ◌∷◌, List, Some, None, Ok, Err, IsOk, IsTrue, IsFalse, IfOk, OnErr, MatchOption, length, take};
 ghost use Rattle.mx_journal.specs.Agreement.{AreAgreeing, IsConsistent, IsFirstConflict, IsOther};
 ghost use Rattle.mx_journal.specs.Gapless.{first_missing};
@@ -18,7 +16,6 @@ use arrayvec::ArrayVec;
 use std::alloc::{AllocError, Global};
 use std::marker::Model;
 
-/// The greatest number of records that `records_in` returns at once.
 pub(crate) const RECORDS_AT_ONCE: usize = 4;
 
 /// A finite map from section numbers, 1 and above, to the records with these numbers.
@@ -40,7 +37,6 @@ impl Model for RecordMap {
 }
 
 impl RecordMap {
-    /// Creates a map without records.
     pub(crate) fn new(alloc: Global) -> RecordMap
         ensures { result ≡ [] }
     {
@@ -49,14 +45,6 @@ impl RecordMap {
         }
     }
 
-    /// Puts a record into the map, and returns whether it is new (`New`) or was there already
-    /// (`Same`).
-    ///
-    /// # Errors
-    ///
-    /// Returns `ZeroNumber` if the record's number is 0. Returns `Conflict` with the number if
-    /// there is a different record of that number. Returns `Memory` if the record is new and memory
-    /// runs out. On an error the map is unchanged.
     pub(crate) fn put(&mut self, entry: Record) -> Result<Put, PutFault>
         ensures zero { (result ≡ Err PutFault.ZeroNumber) ↔ (entry.number ≡ 0) }
         ensures conflict { (n : ℕ) → (result ≡ Err (PutFault.Conflict n))
@@ -82,14 +70,6 @@ impl RecordMap {
         Ok(Put::New)
     }
 
-    /// Puts all listed records that are numbered above `from`, or none, and returns how many were
-    /// new.
-    ///
-    /// # Errors
-    ///
-    /// Returns `ZeroNumber` if a record's number is 0. Returns `Conflict` with the least number
-    /// above `from` that two different records share, in the list or in list and map. Returns
-    /// `Memory` if there is no other fault, some record is new, and memory runs out.
     pub(crate) fn put_all(&mut self, from: u64, list: &[Record]) -> Result<u64, PutFault>
         ensures zero { (result ≡ Err PutFault.ZeroNumber) ↔ IsThere 0 list.now }
         ensures conflict { (n : ℕ) → (result ≡ Err (PutFault.Conflict n))
@@ -112,14 +92,6 @@ impl RecordMap {
         Ok(put_runs(&mut self.runs, &other)?)
     }
 
-    /// Adds the records of `other` that are numbered above `from`, and returns how many were new.
-    /// Records of the same number are equal in both maps, and all records of this map are numbered
-    /// above `from`.
-    ///
-    /// # Errors
-    ///
-    /// Returns `AllocError` if some record is new and memory runs out. Memory is allocated before
-    /// anything changes.
     pub(crate) fn join(&mut self, from: u64, other: &RecordMap) -> Result<u64, AllocError>
         requires agreeing { AreAgreeing self.old other.now }
         requires behind { Ascending (suc from) self.old }
@@ -134,7 +106,6 @@ impl RecordMap {
         join_runs(&mut self.runs, from, &other.runs)
     }
 
-    /// Removes the records numbered up to `number`, and returns how many were removed.
     pub(crate) fn drop_up_to(&mut self, number: u64) -> usize
         ensures value { self.new ≡ above number self.old }
         ensures count { length self.old ≡ length self.new + result }
@@ -144,7 +115,6 @@ impl RecordMap {
         before - len_of(&self.runs)
     }
 
-    /// Returns the record with this number.
     pub(crate) fn get(&self, number: u64) -> Option<&Record>
         ensures { MatchOption result (record_at number self.now ≡ None)
             (λ found. record_at number self.now ≡ Some found.now) }
@@ -152,7 +122,6 @@ impl RecordMap {
         find(&self.runs, number)
     }
 
-    /// Returns whether a record has this number.
     pub(crate) fn has(&self, number: u64) -> bool
         ensures there { IsTrue result → IsThere number self.now }
         ensures missing { IsFalse result → record_at number self.now ≡ None }
@@ -160,8 +129,6 @@ impl RecordMap {
         is_there(&self.runs, number)
     }
 
-    /// Returns the record with the least number above `number`, if there is one. A loop that starts
-    /// with 0, and then passes the number of the record found last, visits all records in order.
     pub(crate) fn next_after(&self, number: u64) -> Option<&Record>
         ensures value { MatchOption result (above number self.now ≡ [])
             (λ found. above number self.now ≡ found.now ∷ above found.now.number self.now) }
@@ -170,7 +137,6 @@ impl RecordMap {
         next_in(&self.runs, number)
     }
 
-    /// Returns the number of records.
     pub(crate) fn len(&self) -> usize
         ensures value { result ≡ length self.now }
         // what holds for every journal: the numbers ascend, from 1 on
@@ -179,7 +145,6 @@ impl RecordMap {
         len_of(&self.runs)
     }
 
-    /// Returns whether there is no record.
     pub(crate) fn is_empty(&self) -> bool
         ensures value { IsTrue result ↔ (self.now ≡ []) }
         ensures ordered { Ascending 1 self.now }
@@ -187,23 +152,18 @@ impl RecordMap {
         self.runs.is_empty()
     }
 
-    /// Returns the greatest number of a record, or 0 if there is no record.
     pub(crate) fn top(&self) -> u64
         ensures { result ≡ top_of self.now }
     {
         top_in(&self.runs)
     }
 
-    /// Returns the last of the numbers that follow `number` without a gap, or `number` itself if
-    /// the next one is missing.
     pub(crate) fn gapless_after(&self, number: u64) -> u64
         ensures { result + 1 ≡ first_missing (number + 1) (above number self.now) }
     {
         gapless_in(&self.runs, number)
     }
 
-    /// Returns copies of the records with numbers in the range, ascending: the first four, or all
-    /// if there are fewer.
     pub(crate) fn records_in(&self, range: Range) -> ArrayVec<Record, RECORDS_AT_ONCE>
         ensures { result.items ≡ take 4 (in_range range self.now) }
     {

@@ -1,5 +1,3 @@
-//! Records: the writes of closed sections.
-
 ghost use Rattle.std.specs.Prelude.{◌≡◌, ◌↔◌, IsTrue};
 
 use arrayvec::ArrayVec;
@@ -48,7 +46,6 @@ impl Record {
     }
 }
 
-/// Copies the list.
 pub(crate) fn copy_of_writes(writes: &ArrayVec<Write, 8>) -> ArrayVec<Write, 8>
     ensures { result ≡ writes.now }
 {

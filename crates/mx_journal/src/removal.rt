@@ -1,5 +1,3 @@
-//! Removal of the first records of runs.
-
 ghost use Rattle.std.specs.Prelude.{suc, ◌≡◌, ◌≤◌, ◌-◌, drop, length};
 ghost use Rattle.mx_journal.specs.Records.{above};
 ghost use Rattle.mx_journal.specs.Runs.{AreRuns, first_number, flatten};
@@ -7,7 +5,6 @@ ghost use Rattle.mx_journal.specs.Runs.{AreRuns, first_number, flatten};
 use crate::places::place_of;
 use crate::runs::Run;
 
-/// Removes the records numbered up to `number`. Allocates no memory.
 pub(crate) fn cut_up_to(runs: &mut Vec<Run>, number: u64)
     requires { AreRuns 1 runs.old.items }
     ensures records { flatten runs.new.items ≡ above number (flatten runs.old.items) }
@@ -23,7 +20,6 @@ pub(crate) fn cut_up_to(runs: &mut Vec<Run>, number: u64)
     run.skip(count);
 }
 
-/// Removes the first `count` runs.
 fn drop_runs(runs: &mut Vec<Run>, count: usize)
     requires { count ≤ length runs.old.items }
     ensures { runs.new.items ≡ drop count runs.old.items }
@@ -36,8 +32,6 @@ fn drop_runs(runs: &mut Vec<Run>, count: usize)
     runs.truncate(left);
 }
 
-/// Returns how many numbers there are from the run's first one to `number`, both included; 0 if
-/// `number` is lower.
 fn count_up_to(run: &Run, number: u64) -> usize
     requires { 1 ≤ first_number run.now }
     ensures { result ≡ suc number - first_number run.now }

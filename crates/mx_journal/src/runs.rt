@@ -1,5 +1,3 @@
-//! Runs: sequences of records. In a journal, the numbers of each run are consecutive.
-
 ghost use Rattle.std.specs.Prelude.{◌≡◌, ◌+◌, ◌<◌, ◌≤◌, [], ◌∷◌, ◌++◌, OnOk, OnErr, length, get_or, take, drop};
 ghost use Rattle.std.specs.VecDeque.{deque_capacity, deque_len};
 ghost use Rattle.mx_journal.specs.Runs.{first_number, last_number};
@@ -26,7 +24,6 @@ impl Model for Run {
 }
 
 impl Run {
-    /// Creates a run without records.
     pub(crate) fn new(alloc: Global) -> Run
         ensures { result ≡ [] }
     {
@@ -35,14 +32,12 @@ impl Run {
         }
     }
 
-    /// Returns the number of records.
     pub(crate) fn len(&self) -> usize
         ensures { result ≡ length self.now }
     {
         self.records.len()
     }
 
-    /// Returns the record at index `place`, counted from 0.
     pub(crate) fn record(&self, place: usize) -> &Record
         requires { place < length self.now }
         ensures { result.now ≡ get_or self.now place result.now }
@@ -50,7 +45,6 @@ impl Run {
         &self.records[place]
     }
 
-    /// Returns the number of the first record, or 0 if there are no records.
     pub(crate) fn first(&self) -> u64
         ensures { result ≡ first_number self.now }
     {
@@ -60,7 +54,6 @@ impl Run {
         }
     }
 
-    /// Returns the number of the last record, or 0 if there are no records.
     pub(crate) fn last(&self) -> u64
         ensures { result ≡ last_number self.now }
     {
@@ -70,11 +63,6 @@ impl Run {
         }
     }
 
-    /// Appends a record.
-    ///
-    /// # Errors
-    ///
-    /// Returns `AllocError` if memory runs out. Nothing has changed then.
     pub(crate) fn push_back(&mut self, entry: Record) -> Result<(), AllocError>
         ensures ok { OnOk result (self.new ≡ self.old ++ entry ∷ []) }
         ensures err { OnErr result (self.new ≡ self.old) }
@@ -83,11 +71,6 @@ impl Run {
         Ok(())
     }
 
-    /// Inserts a record before the others.
-    ///
-    /// # Errors
-    ///
-    /// Returns `AllocError` if memory runs out. Nothing has changed then.
     pub(crate) fn push_front(&mut self, entry: Record) -> Result<(), AllocError>
         ensures ok { OnOk result (self.new ≡ entry ∷ self.old) }
         ensures err { OnErr result (self.new ≡ self.old) }
@@ -96,26 +79,19 @@ impl Run {
         Ok(())
     }
 
-    /// Keeps the first `len` records, and removes the others.
     pub(crate) fn truncate(&mut self, len: usize)
         ensures { self.new ≡ take len self.old }
     {
         self.records.truncate(len);
     }
 
-    /// Removes the first `count` records.
     pub(crate) fn skip(&mut self, count: usize)
         ensures { self.new ≡ drop count self.old }
     {
         drop_first(&mut self.records, count);
     }
 
-    /// Appends the records of `next`, whose contents are unspecified afterwards. The records of the
-    /// shorter of the two runs are moved.
-    ///
-    /// # Errors
-    ///
-    /// Returns `AllocError` if memory runs out. Nothing has changed then.
+    /// Moves the records of the shorter run. The contents of `next` are unspecified afterwards.
     pub(crate) fn take_next(&mut self, next: &mut Run) -> Result<(), AllocError>
         ensures ok { OnOk result (self.new ≡ self.old ++ next.old) }
         ensures err { OnErr result (self.new ≡ self.old) }
@@ -130,12 +106,6 @@ impl Run {
         Ok(())
     }
 
-    /// Appends `entry`, and then the records of `next`, whose contents are unspecified afterwards.
-    /// The records of the shorter of the two runs are moved.
-    ///
-    /// # Errors
-    ///
-    /// Returns `AllocError` if memory runs out. Nothing has changed then.
     pub(crate) fn join(&mut self, entry: Record, next: &mut Run) -> Result<(), AllocError>
         ensures ok { OnOk result (self.new ≡ self.old ++ entry ∷ next.old) }
         ensures err { OnErr result (self.new ≡ self.old) }
@@ -155,7 +125,6 @@ impl Run {
     }
 }
 
-/// Removes the first `count` records.
 fn drop_first(records: &mut VecDeque<Record>, count: usize)
     ensures { records.new.items ≡ drop count records.old.items }
 {
@@ -164,7 +133,6 @@ fn drop_first(records: &mut VecDeque<Record>, count: usize)
     }
 }
 
-/// Moves the records of `behind` to the end of `records`, which has room for them.
 fn move_behind(records: &mut VecDeque<Record>, behind: &mut VecDeque<Record>)
     requires { deque_len records.old + deque_len behind.old ≤ deque_capacity records.old }
     ensures { records.new.items ≡ records.old.items ++ behind.old.items }
@@ -174,7 +142,6 @@ fn move_behind(records: &mut VecDeque<Record>, behind: &mut VecDeque<Record>)
     }
 }
 
-/// Moves the records of `before` to the start of `records`, which has room for them.
 fn move_before(records: &mut VecDeque<Record>, before: &mut VecDeque<Record>)
     requires { deque_len records.old + deque_len before.old ≤ deque_capacity records.old }
     ensures { records.new.items ≡ before.old.items ++ records.old.items }

@@ -1,5 +1,4 @@
-//! Settling, which replaces the records of the first sections by a base, and why a journal refuses
-//! it.
+//! Settling, which replaces the records of the first sections by a base.
 
 ghost use Rattle.std.specs.Prelude.{◌≡◌, ◌≤◌, suc};
 ghost use Rattle.mx_journal.specs.Bases.{AreCellsOf, with_sections};
@@ -30,8 +29,6 @@ pub enum BaseFault {
     Conflict(u64),
 }
 
-/// Returns the base of sections 1 to `upto`, made from `base`, which covers the first of them, and
-/// from the records up to `upto`.
 pub(crate) fn settled_base(base: &Base, records: &RecordMap, upto: u64) -> Base
     requires order { base.now.upto ≤ upto }
     requires behind { Ascending (suc base.now.upto) records.now }

@@ -1,5 +1,3 @@
-//! A fact that a node knows, and a list of facts.
-
 ghost use Rattle.std.specs.Prelude.{◌≡◌, [], ◌++◌, IfOk, OnOk, map};
 ghost use Rattle.mx_knowledge.specs.Facts.{fact, fact_of, listed, one, word};
 

@@ -1,5 +1,3 @@
-//! The interface of a node that lists what it knows.
-
 ghost use Rattle.std.specs.Prelude.{◌≡◌, IfOk, List};
 ghost use Rattle.mx_knowledge.specs.Facts.{Known};
 

@@ -1,5 +1,3 @@
-//! What the network does with a parcel.
-
 ghost use Rattle.std.specs.Prelude.{◌≡◌};
 ghost use Rattle.mx_letters.specs.declared.fates.Fate.TheVariants.{Pass};
 
@@ -25,7 +23,6 @@ pub trait Fates {
 pub struct Fair;
 
 impl Fates for Fair {
-    /// Returns `Pass`.
     fn fate(&mut self) -> Fate
         ensures { result ≡ Pass }
     {

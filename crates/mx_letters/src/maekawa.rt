@@ -1,5 +1,3 @@
-//! Letters of Maekawa's algorithm.
-
 use mx_stamps::Stamp;
 
 /// A letter of Maekawa's algorithm (1985), with the stamp of the request that it concerns.

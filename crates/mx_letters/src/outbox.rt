@@ -1,5 +1,3 @@
-//! The letters that one call sends.
-
 ghost use Rattle.std.specs.Prelude.{◌≡◌, ◌+◌, ◌<◌, ◌≤◌, ◌↔◌, [], ◌∷◌, ◌++◌, length, slice_get, IsTrue, MatchOption};
 
 use arrayvec::ArrayVec;

@@ -1,5 +1,3 @@
-//! Letters of Raymond's algorithm.
-
 /// A letter of Raymond's algorithm (1989).
 #[derive(Clone, Copy, Debug, PartialEq, Eq)]
 pub enum RaymondMsg {

@@ -1,5 +1,3 @@
-//! Letters of Ricart and Agrawala's algorithm.
-
 use mx_stamps::Stamp;
 
 /// A letter of Ricart and Agrawala's algorithm (1981), with the stamp of the request that it

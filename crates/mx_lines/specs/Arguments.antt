@@ -46,7 +46,6 @@ module _ (arguments : List Argument) where
       (register_in (slice_get arguments 1)))
       (node_in (slice_get arguments 0))
 
--- the event of a kind with these arguments
 abbrev pub event_of : EventKind → List Argument → Option Event
 event_of Ask arguments = of_node arguments event.Ask
 event_of Enter arguments = of_node arguments event.Enter

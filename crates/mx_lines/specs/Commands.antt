@@ -16,7 +16,6 @@ use Rattle.mx_lines.specs.declared.errors.OwnWord.{OwnWord}
 use Rattle.mx_lines.specs.declared.errors.OwnWord.TheVariants.{Show, Undo, Redo, Events, Mark, Help, End}
 use Rattle.mx_lines.specs.declared.lines.Line.{Line}
 
--- whether this word ends a session
 abbrev pub is_end : Text → Bool
 is_end text =
     bytes_eq text (codes "end") || (bytes_eq text (codes "quit") || bytes_eq text (codes "exit"))
@@ -82,7 +81,6 @@ module _ (names : Known) where
       option_map_or (λ own. own_command names own arguments) (own_word word)
       (and_then (line_of names words) (λ line. Ok (doing line)))
 
-  -- what the words of a line ask for
   abbrev pub command_of : List Text → Result SessionCommand LineError
   command_of [] = Ok command.Nothing
   command_of (word ∷ arguments) = command_by (word ∷ arguments) word arguments

@@ -9,7 +9,6 @@ pub record Known : Type 0 where
   pub nodes : List Text
   pub registers : List Text
 
--- the names of a plan
 abbrev pub known_of : Fields → Known
 known_of p = record { nodes = p.nodes; registers = p.registers }
 

@@ -1,4 +1,3 @@
--- The numbers of a line.
 use Rattle.std.specs.Prelude.{◌&&◌, ◌^◌, ℕ, Bool, Option, Some, None, length, nat_lt, if◌then◌else◌}
 use Rattle.std.specs.Str.{all_ascii_digits}
 use Rattle.std.specs.Str.Parse.{digits_value, without_leading_plus}

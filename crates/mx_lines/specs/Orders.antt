@@ -63,7 +63,6 @@ module _ (names : Known) where
       and_then (argument_at kind place word) (λ argument.
       and_then (arguments_at kinds (place + 1) words) (λ arguments. Ok (argument ∷ arguments)))
 
--- the order of a verb between two nodes
 abbrev pub order_between : Verb → ℕ → ℕ → Order
 order_between verb.DeliverLink from to = AllArrive (scope.Link from to)
 order_between verb.Lose from to = IsLost from to
@@ -78,7 +77,6 @@ between verb arguments =
     option_and_then (λ from. option_map (order_between verb from) (node_in (slice_get arguments 1)))
     (node_in (slice_get arguments 0))
 
--- the order of a verb with these arguments
 abbrev pub order_by : Verb → List Argument → Option Order
 order_by (verb.Event kind) arguments = option_map Happens (event_of kind arguments)
 order_by verb.DeliverAll arguments = Some (AllArrive scope.All)

@@ -1,4 +1,3 @@
--- The texts of faults.
 use Rattle.std.specs.Prelude.{codes}
 use Rattle.mx_plan.specs.Text.{Text}
 use Rattle.mx_lines.specs.declared.errors.LineFault.{LineFault}

@@ -1,4 +1,3 @@
--- The words of a line.
 use Rattle.std.specs.Prelude.{◌≡◌, ◌==◌, ⊤, List}
 use Rattle.std.specs.Borrow.{Bor}
 use Rattle.std.specs.Iterator.{DrainsIf}

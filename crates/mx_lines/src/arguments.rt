@@ -6,7 +6,6 @@ ghost use Rattle.mx_lines.specs.Arguments.{event_of, node_in, number_in, of_valu
 use mx_events::{Argument, Event, EventKind};
 use mx_stamps::NodeId;
 
-/// Returns the event of a kind with these arguments; `None` if one is missing or of a wrong kind.
 pub(crate) fn event_of(kind: EventKind, arguments: &[Argument]) -> Option<Event>
     ensures { result ≡ event_of kind arguments.now }
 {

@@ -1,5 +1,3 @@
-//! What a line of a session asks for.
-
 ghost use Rattle.std.specs.Prelude.{◌≡◌};
 ghost use Rattle.mx_lines.specs.Commands.{alone, command_of, is_end, own_command, own_word, shown, taken_back};
 ghost use Rattle.mx_lines.specs.Names.{texts_of};
@@ -53,7 +51,6 @@ pub fn read_command<N: Names>(names: &N, words: &[&str]) -> Result<SessionComman
     }
 }
 
-/// Returns which word of sessions alone a text is, or `None` if it is none.
 fn own_word(text: &str) -> Option<OwnWord>
     ensures { result ≡ own_word text.now }
 {
@@ -81,14 +78,12 @@ fn own_word(text: &str) -> Option<OwnWord>
     None
 }
 
-/// Whether a word ends a session.
 fn is_end(text: &str) -> bool
     ensures { result ≡ is_end text.now }
 {
     text == "end" || text == "quit" || text == "exit"
 }
 
-/// Returns the command of a word of sessions alone, with the words after it.
 fn own_command<N: Names>(
     names: &N,
     word: OwnWord,
@@ -107,7 +102,6 @@ fn own_command<N: Names>(
     }
 }
 
-/// Returns the command of a word of sessions alone, without words after it.
 fn alone(word: OwnWord) -> Result<SessionCommand, LineError>
     ensures { result ≡ alone word }
 {
@@ -122,7 +116,6 @@ fn alone(word: OwnWord) -> Result<SessionCommand, LineError>
     }
 }
 
-/// Returns the command that shows the node of this name.
 fn shown<N: Names>(names: &N, name: &str) -> Result<SessionCommand, LineError>
     ensures { result ≡ shown (N.known names.now) name.now }
 {
@@ -132,7 +125,6 @@ fn shown<N: Names>(names: &N, name: &str) -> Result<SessionCommand, LineError>
     }
 }
 
-/// Returns the command that undoes as many lines as the word `count` says.
 fn taken_back(count: &str) -> Result<SessionCommand, LineError>
     ensures { result ≡ taken_back count.now }
 {

@@ -1,5 +1,3 @@
-//! Why a line is refused.
-
 ghost use Rattle.std.specs.Prelude.{◌≡◌, Some};
 ghost use Rattle.mx_lines.specs.Orders.{refused};
 ghost use Rattle.mx_lines.specs.Texts.{fault_text};
@@ -101,7 +99,6 @@ pub struct LineError {
     pub expected: Expected,
 }
 
-/// Returns the error of the word numbered `word` in its line, from 0.
 pub(crate) fn refuse<T: Drop>(
     fault: LineFault,
     word: usize,

@@ -1,5 +1,3 @@
-//! What a line of a script asks for.
-
 ghost use Rattle.std.specs.Prelude.{◌≡◌, Err, IfNone, IfSome, IsOk};
 ghost use Rattle.mx_lines.specs.Lines.{line_of, repeated, times_of};
 ghost use Rattle.mx_lines.specs.Names.{texts_of};
@@ -37,7 +35,6 @@ pub fn read_line<N: Names>(names: &N, words: &[&str]) -> Result<Option<Line>, Li
     Ok(Some(Line { times: 1, order }))
 }
 
-/// Parses the words after `times`: a number, and the words of the line that is repeated.
 fn repeated<N: Names>(names: &N, words: &[&str]) -> Result<Option<Line>, LineError>
     ensures { result ≡ repeated (N.known names.now) (texts_of words.now) }
 {
@@ -52,7 +49,6 @@ fn repeated<N: Names>(names: &N, words: &[&str]) -> Result<Option<Line>, LineErr
     Ok(Some(Line { times, order }))
 }
 
-/// Parses how often a line is done: 0 to 1,000,000 times.
 fn times_of(text: &str) -> Result<u64, LineError>
     ensures { result ≡ times_of text.now }
 {
@@ -89,7 +85,6 @@ pub fn next_error<N: Names>(names: &N, words: &[&str], error: &LineError) -> Opt
     }
 }
 
-/// Returns the error of what stands after `times` and its number, if there is one.
 fn error_after_times<N: Names>(names: &N, words: &[&str]) -> Option<LineError> {
     match words.get(2..)?.split_first() {
         Some((first, rest)) => order_at(names, 2, first, rest).err(),

@@ -16,7 +16,6 @@ const MAX_BYTES: usize = 40;
 /// The words with which lines of scripts may begin, beside the words of events.
 const SCRIPT_WORDS: [&str; 5] = ["lose", "again", "cut", "heal", "times"];
 
-/// The words with which only lines of sessions may begin.
 const SESSION_WORDS: [&str; 9] = [
     "show", "undo", "redo", "events", "mark", "help", "end", "quit", "exit",
 ];
@@ -29,7 +28,6 @@ pub enum FirstWords {
 }
 
 impl FirstWords {
-    /// Returns the words in the order in which a message lists them.
     fn listed(self, alloc: Global) -> Result<Vec<&'static str>, AllocError> {
         let mut words = Vec::new(alloc);
         for kind in &EVENT_KINDS {
@@ -114,7 +112,6 @@ fn expected_text(expected: Expected) -> &'static str {
     }
 }
 
-/// Returns what is expected after the word of an event, as a phrase.
 fn arguments_text(kind: EventKind) -> &'static str {
     match kind {
         EventKind::Ask
@@ -138,7 +135,6 @@ struct Wrong<'a> {
     /// How many words stand after the word, if their number is wrong.
     after: Option<usize>,
     expected: &'a str,
-    /// The names or words that are right in this place, if there is a list of them.
     known: &'a [&'a str],
     nearest: Option<&'a str>,
     /// Whether the message lists the known words, in place of `expected`.
@@ -187,7 +183,6 @@ impl Display for Listed<'_> {
     }
 }
 
-/// Returns the text before word `k`, counted from 0, of `count` words in a list.
 fn separator(k: usize, count: usize) -> &'static str {
     match count.saturating_sub(k) {
         _ if k == 0 => "",

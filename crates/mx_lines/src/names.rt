@@ -1,5 +1,3 @@
-//! The names of nodes and registers that a line may have.
-
 ghost use Rattle.std.specs.Prelude.{◌≡◌, position, IfSome, ◌<◌};
 ghost use Rattle.std.specs.Str.{bytes_eq};
 ghost use Rattle.mx_lines.specs.Names.{Known, first_texts};
@@ -92,7 +90,6 @@ impl Names for NameLists<'_> {
     }
 }
 
-/// Returns the place of a name among the first `most` names of a list.
 fn place_in(names: &[&str], name: &str, most: u8) -> Option<u8>
     ensures value { result ≡ position (bytes_eq name.now) (first_texts most names.now) }
     ensures within { IfSome result (λ place. place < most) }

@@ -1,5 +1,3 @@
-//! The numbers of a line.
-
 ghost use Rattle.std.specs.Prelude.{◌≡◌};
 ghost use Rattle.mx_lines.specs.Numbers.{number_of};
 

@@ -1,5 +1,3 @@
-//! What a line of a script asks for, apart from how often.
-
 ghost use Rattle.std.specs.Prelude.{◌≡◌, ◌≤◌, length};
 ghost use Rattle.mx_lines.specs.Orders.{Gives, argument_at, arguments_at, number_at, order_at, order_before, order_between, order_by, order_of, order_with};
 ghost use Rattle.mx_lines.specs.Names.{texts_of};
@@ -53,7 +51,6 @@ pub enum LinkChange {
     Heal,
 }
 
-/// Returns the order of `word`, at `place` (from 0) in its line, with the words after it.
 pub(crate) fn order_at<N: Names>(
     names: &N,
     place: usize,
@@ -69,7 +66,6 @@ pub(crate) fn order_at<N: Names>(
     order_before(names, place, word, arguments)
 }
 
-/// Returns the order of a word that is not `times`; the words after it may begin with `all`.
 fn order_before<N: Names>(
     names: &N,
     place: usize,
@@ -88,7 +84,6 @@ fn order_before<N: Names>(
     }
 }
 
-/// Returns the order of a word whose arguments begin right after it.
 fn order_of<N: Names>(
     names: &N,
     place: usize,
@@ -104,7 +99,6 @@ fn order_of<N: Names>(
     }
 }
 
-/// Returns the order of a verb with these arguments; `place` is that of the verb's last word.
 fn order_with<N: Names>(
     names: &N,
     place: usize,
@@ -125,7 +119,6 @@ fn order_with<N: Names>(
     }
 }
 
-/// Returns the order of a verb with these arguments; `None` if one is missing or of a wrong kind.
 fn order_by(verb: Verb, arguments: &[Argument]) -> Option<Order>
     ensures { result ≡ order_by verb arguments.now }
 {
@@ -142,7 +135,6 @@ fn order_by(verb: Verb, arguments: &[Argument]) -> Option<Order>
     }
 }
 
-/// Returns the order of a verb that takes two nodes.
 fn order_between(verb: Verb, from: NodeId, to: NodeId) -> Order
     ensures { result ≡ order_between verb from to }
 {
@@ -156,7 +148,6 @@ fn order_between(verb: Verb, from: NodeId, to: NodeId) -> Order
     }
 }
 
-/// Parses words as arguments of these kinds; `place` is that of the first word in its line.
 fn arguments_at<N: Names>(
     names: &N,
     kinds: &[ArgumentKind],
@@ -176,7 +167,6 @@ fn arguments_at<N: Names>(
     Ok(read)
 }
 
-/// Parses a word, at `place` in its line, as an argument of this kind.
 fn argument_at<N: Names>(
     names: &N,
     kind: ArgumentKind,
@@ -199,7 +189,6 @@ fn argument_at<N: Names>(
     }
 }
 
-/// Parses a word, at `place` in its line, as a number. An error says what was `expected`.
 fn number_at(place: usize, word: &str, expected: Expected) -> Result<Argument, LineError>
     ensures { result ≡ number_at place word.now expected }
 {

@@ -1,5 +1,3 @@
-//! The words with which a line of a script begins.
-
 ghost use Rattle.std.specs.Prelude.{◌≡◌, ◌≤◌, length};
 ghost use Rattle.mx_lines.specs.Verbs.{by_count, kinds_of, verb_of, verb_of_all, verb_of_cut};
 
@@ -31,7 +29,6 @@ pub enum Verb {
     Heal,
 }
 
-/// Returns the verb of `word` if `count` words follow it, or `None` if no verb has this word.
 pub(crate) fn verb_of(word: &str, count: usize) -> Option<Verb>
     ensures { result ≡ verb_of word.now count }
 {
@@ -56,7 +53,6 @@ pub(crate) fn verb_of(word: &str, count: usize) -> Option<Verb>
     }
 }
 
-/// Returns the verb of `cut` if `count` words follow it.
 fn verb_of_cut(count: usize) -> Verb
     ensures { result ≡ verb_of_cut count }
 {
@@ -67,7 +63,6 @@ fn verb_of_cut(count: usize) -> Verb
     }
 }
 
-/// Returns the verb of `word` and `next`, if `next` is `all` and `count` more words suit the verb.
 pub(crate) fn verb_of_all(word: &str, next: &str, count: usize) -> Option<Verb>
     ensures { result ≡ verb_of_all word.now next.now count }
 {
@@ -83,7 +78,6 @@ pub(crate) fn verb_of_all(word: &str, next: &str, count: usize) -> Option<Verb>
     None
 }
 
-/// Returns `of_all` if no more words follow, `of_link` if two do, else `None`.
 fn by_count(of_all: Verb, of_link: Verb, count: usize) -> Option<Verb>
     ensures { result ≡ by_count of_all of_link count }
 {
@@ -95,7 +89,6 @@ fn by_count(of_all: Verb, of_link: Verb, count: usize) -> Option<Verb>
 }
 
 impl Verb {
-    /// Returns the kinds of the arguments that the verb takes, in order.
     pub(crate) fn arguments(self) -> &'static [ArgumentKind]
         ensures value { result.now ≡ kinds_of self }
         ensures few { length result.now ≤ 3 }

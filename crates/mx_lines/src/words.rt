@@ -1,5 +1,3 @@
-//! The words of a line.
-
 ghost use Rattle.std.specs.Prelude.{◌≡◌, IfOk};
 ghost use Rattle.mx_lines.specs.Words.{AreWords, before_comment};
 

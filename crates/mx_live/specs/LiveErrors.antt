@@ -1,4 +1,3 @@
--- Why a live run ends without a journal, the line that reports this, and the exit status.
 use Rattle.std.specs.Prelude.{◌≡◌, ◌≢◌, ◌⊎◌, Bool, true, false, ℕ, List, [], ◌++◌, codes, slice_get, Some, take}
 use Rattle.std.specs.Io.KnownBytes.{Appends, Keeps}
 use Rattle.mx_nodelaws.specs.Core.{Core}

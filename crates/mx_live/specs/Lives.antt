@@ -1,4 +1,3 @@
--- What the command `live` does.
 use Rattle.std.specs.Prelude.{◌≡◌, ◌≢◌, ◌⊎◌, Bool, true, false, ℕ, ◌*◌, ◌≤◌, ◌<◌, List, [], Option, None, Result, Ok, Err, length, IfSome}
 use Rattle.std.specs.Io.KnownBytes.{Appends, Keeps}
 use Rattle.mx_journal.specs.declared.receipts.Receipt.{Receipt}

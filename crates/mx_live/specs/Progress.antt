@@ -1,4 +1,3 @@
--- The lines of progress that a live run prints to standard error.
 use Rattle.std.specs.Prelude.{◌≡◌, ℕ, Bool, false, List, [], ◌++◌, codes, decimal, map}
 use Rattle.std.specs.Io.KnownBytes.{Appends}
 use Rattle.std.specs.List.{concat}
@@ -9,7 +8,6 @@ use Rattle.mx_io.specs.Outputs.{Held}
 abbrev pub progress_line : ℕ → Text
 progress_line count = codes "mx: " ++ decimal count ++ codes " sections stand" ++ line_feed
 
--- lines of progress, one after another
 abbrev pub progress_lines : List ℕ → Text
 progress_lines counts = concat (map progress_line counts)
 

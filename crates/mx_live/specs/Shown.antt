@@ -1,4 +1,3 @@
--- What a live run prints.
 use Rattle.std.specs.Prelude.{ℕ, suc, ◌-◌, ◌++◌, codes, decimal}
 use Rattle.mx_journal.specs.Gapless.{first_missing}
 use Rattle.mx_journal.specs.Settled.{JournalState}

@@ -1,4 +1,3 @@
--- The receipts and the journal of all stations of a live run.
 use Rattle.std.specs.Prelude.{◌≡◌, ℕ, ◌*◌, ◌<◌, List, length, ◌==◌}
 use Rattle.std.specs.List.{count_by}
 use Rattle.mx_journal.specs.declared.receipts.Receipt.{Receipt}

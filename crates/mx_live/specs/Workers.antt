@@ -1,4 +1,3 @@
--- The orders of workers, and what they return.
 use Rattle.std.specs.Prelude.{◌≡◌, ℕ, ◌+◌, ◌%◌, ◌^◌, ◌≤◌, List, length, map}
 use Rattle.std.specs.List.{All, AllZip}
 use Rattle.mx_explorer.specs.Weather.{Climate, generator_of}
@@ -15,7 +14,6 @@ use Rattle.mx_live.specs.declared.threads.WorkerConfig.{WorkerConfig}
 use Rattle.mx_live.specs.declared.threads.WorkAt.{WorkAt}
 use Rattle.mx_live.specs.Stations.{AreAtRest}
 
--- the orders that a request has for each worker
 abbrev pub orders_in : LiveRequest → WorkerConfig
 orders_in request =
     record {
@@ -68,10 +66,8 @@ module _ {H S M : Type 0} (core : Core H S M) where
     pub rested : AreAtRest core shape p stations
     pub worked : AreLeft orders stations left
 
--- the stations that the workers returned
 abbrev pub stations_of : {X : Type 0} → List (X × Worked) → List X
 stations_of = map (λ ended. ended.0)
 
--- each worker is done
 abbrev pub AreDone : {X : Type 0} → List (X × Worked) → Type 0
 AreDone {X} = All (λ (ended : X × Worked). ended.1 ≡ Done)

@@ -25,16 +25,8 @@ use std::rt::Clock;
 use std::thread::Threads;
 
 /// Runs a command line whose first argument is `live`, without the program's name. Returns the exit
-/// status:
-///
-/// - 0 on success, or if help was requested;
-/// - 1 for an error in the plan, its file or an output, or if the plan allows too few sections;
-/// - 2 for wrong arguments;
-/// - 3 if turns were spent, or if the gate was shut;
-/// - 5 if memory ran out, or if a thread could not be started.
-///
-/// Of the threads, the contract says only that some outcome of theirs leads to this status. The
-/// outcome itself is returned by `run_stations` and `gather_left`.
+/// status. Of the threads, the contract says only that some outcome of theirs leads to this status.
+/// The outcome itself is returned by `run_stations` and `gather_left`.
 pub fn live<R: Threads + Clock, S: Source, O: Output, E: Output>(
     rt: &R,
     alloc: Global,
@@ -58,8 +50,6 @@ pub fn live<R: Threads + Clock, S: Source, O: Output, E: Output>(
     }
 }
 
-/// Runs the request and prints the journal, or reports on `err` why there is none. Returns the exit
-/// status.
 fn run_live<R: Threads + Clock, S: Source, O: Output, E: Output>(
     rt: &R,
     alloc: Global,
@@ -78,7 +68,6 @@ fn run_live<R: Threads + Clock, S: Source, O: Output, E: Output>(
     }
 }
 
-/// Reads a plan from `source`, runs its nodes, and prints their merged journal.
 fn live_and_show<R: Threads + Clock, S: Source, O: Output, E: Output>(
     rt: &R,
     alloc: Global,
@@ -98,7 +87,6 @@ fn live_and_show<R: Threads + Clock, S: Source, O: Output, E: Output>(
     live_plan(rt, alloc, &plan, request, out, err)
 }
 
-/// Runs the nodes of a plan, if it allows enough sections, and prints their merged journal.
 fn live_plan<R: Threads + Clock, O: Output, E: Output>(
     rt: &R,
     alloc: Global,
@@ -121,8 +109,6 @@ fn live_plan<R: Threads + Clock, O: Output, E: Output>(
     show(alloc, plan, &gathered, out)
 }
 
-/// Prints the number of receipts, the number up to which the merged journal has no gap, and the
-/// value of each register after it, whole or not at all.
 fn show<O: Output>(
     alloc: Global,
     plan: &Plan,

@@ -26,7 +26,6 @@ pub enum LiveError {
 }
 
 impl LiveError {
-    /// Returns the exit status of a run that ends with this error.
     pub(crate) fn status(self) -> u8
         ensures { result ≡ error_status self }
     {
@@ -97,7 +96,6 @@ impl fmt::Display for LiveErrorLine<'_> {
     }
 }
 
-/// Returns the message for a fault of the plan. `plan` is the name of its file.
 fn fault_line<'a>(fault: Fault, plan: &'a str) -> FaultLine<'a>
     ensures fault { result.fault ≡ fault }
     ensures plan { result.names.plan.now ≡ plan.now }

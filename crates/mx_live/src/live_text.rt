@@ -10,7 +10,6 @@ use mx_registers::view;
 use std::alloc::AllocError;
 use std::fmt;
 
-/// A line of a name, the text after this name, and a number.
 #[derive(Clone, Copy)]
 struct NumberLine<'a> {
     name: &'a str,
@@ -50,7 +49,6 @@ pub fn add_journal(
     add_values(plan, journal, text)
 }
 
-/// Appends a line for each register, with its value after the sections of the journal.
 fn add_values(plan: &Plan, journal: &Journal, text: &mut String) -> Result<(), AllocError>
     ensures { OnOk result (string_bytes text.new
         ≡ string_bytes text.old ++ value_lines plan.now journal.now) }
@@ -66,7 +64,6 @@ fn add_values(plan: &Plan, journal: &Journal, text: &mut String) -> Result<(), A
     Ok(())
 }
 
-/// Returns the name that the plan gives a register.
 fn name_of(plan: &Plan, register: u8) -> &str
     ensures { result.now ≡ register_name_of plan.now register }
 {

@@ -25,7 +25,6 @@ use std::alloc::{AllocError, Global};
 use std::rt::Clock;
 use std::thread::Threads;
 
-/// Runs the nodes of a plan, by its algorithm, and gathers their journals and receipts.
 pub(crate) fn live_by_shape<R: Threads + Clock, E: Output>(
     rt: &R,
     alloc: Global,
@@ -59,7 +58,6 @@ pub(crate) fn live_by_shape<R: Threads + Clock, E: Output>(
     }
 }
 
-/// Runs the nodes of a plan from their new idle stations, and gathers their journals and receipts.
 fn live_at<C: Exclusion + Send + 'static, R: Threads + Clock, E: Output>(
     rt: &R,
     alloc: Global,
@@ -136,7 +134,6 @@ where
     join_all(rt, workers)
 }
 
-/// Returns what the request orders of each worker.
 fn orders_of(request: &LiveRequest<'_>) -> WorkerConfig
     ensures { result ≡ orders_in (request_of request.now) }
 {
@@ -167,7 +164,6 @@ pub fn gather_left<C: Exclusion>(alloc: Global, left: Vec<Ended<C>>) -> Result<G
     }
 }
 
-/// Returns the stations, without how their workers ended.
 fn only_stations<C: Exclusion>(
     alloc: Global,
     left: Vec<Ended<C>>,
@@ -181,7 +177,6 @@ fn only_stations<C: Exclusion>(
     Ok(stations)
 }
 
-/// Returns a watch over the nodes, if there are any.
 fn watch_over<C: Exclusion>(stations: &[Station<C>]) -> Result<Option<Watch<C>>, AllocError> {
     match stations.first() {
         Some(station) => Ok(Some(station.watch()?)),
@@ -189,7 +184,6 @@ fn watch_over<C: Exclusion>(stations: &[Station<C>]) -> Result<Option<Watch<C>>,
     }
 }
 
-/// Returns the error of the first worker that is not done, or `None` if all are done.
 fn first_error<S>(left: &[(S, Worked)]) -> Option<LiveError>
     ensures some { IfSome result (FirstNotDone left.now) }
     ensures none { IfNone result (AreDone left.now) }

@@ -17,7 +17,6 @@ use std::time::Duration;
 /// How often in a second `is_over` looks whether all workers have ended.
 const LOOKS_A_SECOND: u32 = 20;
 
-/// The line of progress, with the number of sections completed so far.
 #[derive(Clone, Copy)]
 struct ProgressLine(u64);
 
@@ -29,7 +28,6 @@ impl fmt::Display for ProgressLine {
     }
 }
 
-/// Reports progress until all workers have ended, if that was requested.
 pub(crate) fn report_if_asked<C: Exclusion, K: Clock, E: Output>(
     clock: &K,
     alloc: Global,
@@ -69,7 +67,6 @@ fn report_progress<C: Exclusion, K: Clock, E: Output>(
     }
 }
 
-/// Prints the number of sections completed so far, or nothing if the line cannot be written.
 fn report_sections<E: Output>(alloc: Global, sections: u64, err: &mut E)
     ensures progress { Progresses (E.written err.old) (E.written err.new) }
     ensures stays { E.takes_all err.new ≡ E.takes_all err.old }

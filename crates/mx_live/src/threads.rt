@@ -19,14 +19,11 @@ const LOST: u16 = 16;
 /// How many of 256 parcels a link repeats, on average.
 const DOUBLED: u16 = 16;
 
-/// What each worker is to do.
 #[derive(Clone, Copy)]
 pub(crate) struct WorkerConfig {
-    /// The number of sections of each node.
     pub(crate) sections: u64,
     /// The seed of the links to node 0. That of the links to node i is greater by i (modulo 2^64).
     pub(crate) seed: u64,
-    /// The greatest number of turns of each worker.
     pub(crate) turns: u64,
     /// After how many of its own sections each station settles its journal, or 0 for never.
     pub(crate) settle: u64,
@@ -49,11 +46,8 @@ impl<C: Exclusion> Promise<Ended<C>> for WorkAt<Station<C>> {
     ghost kept_by = { λ p ended. IsLeft C.core p.orders p.at.value ended };
 }
 
-/// The threads of a live run.
 pub(crate) type Workers<C> = ThreadGroup<Ended<C>, WorkAt<Station<C>>>;
 
-/// Takes a station through its sections as ordered, adding 1 to register 0 in each. Returns the
-/// station, and how the worker ended. The links to each node have a seed of their own.
 fn work_at<C: Exclusion>(station: Station<C>, gate: &StartGate, orders: WorkerConfig) -> Ended<C>
     ensures { IsLeft C.core orders station result }
 {
@@ -65,8 +59,6 @@ fn work_at<C: Exclusion>(station: Station<C>, gate: &StartGate, orders: WorkerCo
     work_settling(station, script, orders.settle, gate, weather, orders.turns)
 }
 
-/// Returns the weather (the source of fates) of the links to a node. Its seed is `seed` plus the
-/// node's number.
 fn weather_at(seed: u64, node: NodeId) -> Weather
     ensures { result ≡ weather_of seed node }
 {
@@ -74,7 +66,6 @@ fn weather_at(seed: u64, node: NodeId) -> Weather
     Weather::of(own, LOST, DOUBLED)
 }
 
-/// Adds a thread to `workers`, which takes the station through its sections as ordered.
 fn start_one<C: Exclusion + Send + 'static, R: Threads>(
     rt: &R,
     workers: &mut Workers<C>,
@@ -100,7 +91,6 @@ where
     Ok(())
 }
 
-/// Starts a thread for each station, until one can't be started.
 fn start_each<C: Exclusion + Send + 'static, R: Threads>(
     rt: &R,
     workers: &mut Workers<C>,
@@ -119,8 +109,7 @@ where
     Ok(())
 }
 
-/// Starts a thread for each station, with one gate for this number of nodes. If a thread cannot be
-/// started, those before it are joined.
+/// If a thread cannot be started, those before it are joined.
 pub(crate) fn start_all<C: Exclusion + Send + 'static, R: Threads>(
     rt: &R,
     alloc: Global,
@@ -145,8 +134,6 @@ where
     }
 }
 
-/// Joins all threads, and returns what they left, in order. If memory runs out, what they left is
-/// dropped.
 pub(crate) fn join_all<C: Exclusion, R: Threads>(
     rt: &R,
     workers: Workers<C>,

@@ -9,7 +9,6 @@ pub record RequesterState : Type 0 where
   pub me : ℕ
   -- for each node, whether it is one of this node's arbiters
   pub own : List Bool
-  -- the number of nodes in the cluster
   pub count : ℕ
   -- the greatest number that a section may have
   pub limit : ℕ
@@ -36,7 +35,6 @@ pub record RequesterState : Type 0 where
   pub mine : ℕ
 
 pub record ArbiterState : Type 0 where
-  -- the number of nodes in the cluster
   pub count : ℕ
   -- the request that the arbiter is locked for, with the grant
   pub lock : Option Lock

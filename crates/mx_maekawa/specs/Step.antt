@@ -81,7 +81,6 @@ deliver_of from (Release stamp t) s =
 abbrev pub tick_of : Node → Done Node (Unit {0}) MaekawaMsg
 tick_of s = sending s (request_again s.requester ++ lock_letter s.arbiter.lock)
 
--- the whole table
 abbrev pub maekawa_rows : Rows Family Node MaekawaMsg
 maekawa_rows = record {
   count = λ shape. shape.count;

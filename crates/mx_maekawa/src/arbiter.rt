@@ -9,10 +9,8 @@ use std::marker::Model;
 
 mod knowledge;
 
-/// The request that a node has granted as an arbiter, and the requests that wait for its grant.
 #[derive(Drop)]
 pub(crate) struct Arbiter {
-    /// The number of nodes in the cluster.
     count: u8,
     /// The request that this arbiter is locked for, from its grant until the grant is given back
     /// (RELINQUISH) or the request is released (RELEASE). `None` while the arbiter is not locked.
@@ -55,7 +53,6 @@ impl Arbiter {
     ghost use Rattle.mx_stamps.specs.declared.limits.TheConstants.{MAX_NODES};
     ghost use Rattle.mx_maekawa.specs.ArbiterStep.{start_arbiter, waiting_at, others_at, IsLeastOf, least_of, lock_letter, grant_to, grant, rank, queue, take_request, take_relinquish, take_release};
 
-    /// Creates an arbiter at the start of a cluster. Its grants count on from `origin`.
     pub(crate) fn start(count: u8, origin: u64) -> Self
         requires { count ≤ MAX_NODES }
         ensures { result ≡ start_arbiter count origin }
@@ -70,7 +67,6 @@ impl Arbiter {
         }
     }
 
-    /// Returns the least of the waiting requests.
     fn least(&self) -> Option<Stamp>
         ensures value { result ≡ least_of (waiting_at self.now) self.now.count }
         ensures least { IsLeastOf (waiting_at self.now) self.now.count result }
@@ -82,7 +78,6 @@ impl Arbiter {
         least
     }
 
-    /// Returns the least of the waiting requests, except that of one node.
     fn least_but(&self, but: NodeId) -> Option<Stamp>
         ensures value { result ≡ least_of (others_at self.now but) self.now.count }
         ensures least { IsLeastOf (others_at self.now but) self.now.count result }
@@ -96,7 +91,6 @@ impl Arbiter {
         least
     }
 
-    /// Locks for a waiting request and grants it, if a grant number remains.
     fn lock_for(&mut self, stamp: &Stamp, out: &mut Outbox<MaekawaMsg>)
         requires { out.old ≡ [] }
         ensures state { self.new ≡ (grant_to (Some stamp.now) self.old).state }
@@ -118,7 +112,6 @@ impl Arbiter {
         }
     }
 
-    /// Grants the least of the waiting requests, if there is no lock.
     fn grant(&mut self, out: &mut Outbox<MaekawaMsg>)
         requires { out.old ≡ [] }
         ensures state { self.new ≡ (grant self.old).state }
@@ -150,7 +143,6 @@ impl Arbiter {
         }
     }
 
-    /// Adds a request to the waiting ones, and then grants or ranks.
     fn queue(&mut self, stamp: &Stamp, out: &mut Outbox<MaekawaMsg>)
         requires { out.old ≡ [] }
         ensures state { self.new ≡ (queue self.old.lock stamp.now self.old).state }
@@ -163,7 +155,6 @@ impl Arbiter {
         }
     }
 
-    /// Sends the grant of the lock, if there is a lock.
     fn send_lock(&self, out: &mut Outbox<MaekawaMsg>)
         requires { length out.old ≤ MAX_NODES }
         ensures { out.new ≡ out.old ++ lock_letter self.now.lock }
@@ -176,7 +167,6 @@ impl Arbiter {
         }
     }
 
-    /// Takes a REQUEST of the stamp's node.
     pub(crate) fn take_request(&mut self, stamp: &Stamp, out: &mut Outbox<MaekawaMsg>)
         requires { out.old ≡ [] }
         ensures state { self.new ≡ (take_request stamp.now self.old).state }
@@ -231,7 +221,6 @@ impl Arbiter {
         }
     }
 
-    /// Sends the grant of the lock again, if there is a lock.
     pub(crate) fn tick(&self, out: &mut Outbox<MaekawaMsg>)
         requires { length out.old ≤ MAX_NODES }
         ensures { out.new ≡ out.old ++ lock_letter self.now.lock }

@@ -1,5 +1,3 @@
-//! The knowledge of a node, as it is shown.
-
 use crate::maekawa::Maekawa;
 use mx_knowledge::{Facts, Knowledge};
 use std::alloc::{AllocError, Global};

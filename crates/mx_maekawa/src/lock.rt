@@ -5,18 +5,14 @@ ghost use Rattle.mx_maekawa.specs.ArbiterStep.{stamp_of, is_for, is_exactly, is_
 
 use mx_stamps::Stamp;
 
-/// The request that an arbiter has granted.
 #[derive(Clone, Copy)]
 pub(crate) struct Lock {
-    /// The stamp of the request.
     pub(crate) stamp: Stamp,
-    /// The number of the grant.
     pub(crate) grant: u64,
     /// The highest section number that the arbiter knew when it granted.
     pub(crate) last: u64,
 }
 
-/// Returns the stamp of the lock, if there is a lock.
 pub(crate) fn stamp_of(lock: &Option<Lock>) -> Option<Stamp>
     ensures { result ≡ stamp_of lock.now }
 {
@@ -26,7 +22,6 @@ pub(crate) fn stamp_of(lock: &Option<Lock>) -> Option<Stamp>
     }
 }
 
-/// Returns whether the lock is for this request.
 pub(crate) fn is_for(lock: &Option<Lock>, stamp: &Stamp) -> bool
     ensures { result ≡ is_for lock.now stamp.now }
 {
@@ -36,7 +31,6 @@ pub(crate) fn is_for(lock: &Option<Lock>, stamp: &Stamp) -> bool
     }
 }
 
-/// Returns whether the lock is for this request and has this grant.
 pub(crate) fn is_exactly(lock: &Option<Lock>, stamp: &Stamp, grant: u64) -> bool
     ensures { result ≡ is_exactly lock.now stamp.now grant }
 {
@@ -46,7 +40,6 @@ pub(crate) fn is_exactly(lock: &Option<Lock>, stamp: &Stamp, grant: u64) -> bool
     }
 }
 
-/// Returns whether the lock is for this request or an earlier one of the same node.
 pub(crate) fn is_up_to(lock: &Option<Lock>, stamp: &Stamp) -> bool
     ensures { result ≡ is_up_to lock.now stamp.now }
 {

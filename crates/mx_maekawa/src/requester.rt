@@ -8,14 +8,11 @@ use std::marker::Model;
 mod answers;
 mod knowledge;
 
-/// The request of a node, and the letters of its arbiters that count for it.
 #[derive(Drop)]
 pub(crate) struct Requester {
-    /// The node itself.
     me: NodeId,
     /// For each node, whether it is one of this node's arbiters (S_i in the publication).
     own: [bool; MAX_NODES as usize],
-    /// The number of nodes in the cluster.
     count: u8,
     /// The greatest section number, from 1 to 1,000,000. Added to the publication.
     limit: u64,
@@ -87,7 +84,6 @@ impl Requester {
     ghost use Rattle.mx_nodelaws.specs.declared.phase.Phase.TheVariants.{Waiting};
     ghost use Rattle.mx_maekawa.specs.RequesterStep.{start_requester, is_own, holds, HoldsAll, holds_all, to_own, ask_in, can_enter_of, enter_in, leave_in, cancel_in, ended, to_missing, request_again};
 
-    /// Creates a requester that has just been started.
     pub(crate) fn start(
         me: NodeId,
         own: &[bool; MAX_NODES as usize],
@@ -120,14 +116,12 @@ impl Requester {
         }
     }
 
-    /// Returns the node itself.
     pub(crate) fn me(&self) -> NodeId
         ensures { result ≡ self.now.me }
     {
         self.me
     }
 
-    /// Returns the phase of the node.
     pub(crate) fn phase(&self) -> Phase
         ensures value { result ≡ self.now.phase }
         ensures numbered { BearsNumber result }
@@ -135,7 +129,6 @@ impl Requester {
         self.phase
     }
 
-    /// Returns the number of the last section that the node entered, or 0 before the first.
     pub(crate) fn mine(&self) -> u64
         ensures value { result ≡ self.now.mine }
         ensures high { result ≤ MAX_SECTIONS }
@@ -143,21 +136,18 @@ impl Requester {
         self.mine
     }
 
-    /// Returns whether this node is one of its arbiters.
     pub(crate) fn is_own(&self, node: NodeId) -> bool
         ensures { result ≡ is_own self.now node }
     {
         self.own[node.get() as usize]
     }
 
-    /// Returns whether a grant of this arbiter is held.
     fn holds(&self, a: NodeId) -> bool
         ensures { result ≡ holds self.now a }
     {
         self.held[a.get() as usize].is_some()
     }
 
-    /// Returns whether a grant of each of its arbiters is held.
     fn holds_all(&self) -> bool
         ensures value { result ≡ holds_all self.now }
         ensures all { IsTrue result ↔ HoldsAll self.now }
@@ -171,7 +161,6 @@ impl Requester {
         all
     }
 
-    /// Sends a letter to each of its arbiters.
     fn send_own(&self, letter: &MaekawaMsg, out: &mut Outbox<MaekawaMsg>)
         requires { out.old ≡ [] }
         ensures { out.new ≡ addressed (to_own self.now letter.now) self.now.count }
@@ -185,7 +174,6 @@ impl Requester {
         }
     }
 
-    /// Sends a letter to each of its arbiters whose grant is missing.
     fn send_missing(&self, letter: &MaekawaMsg, out: &mut Outbox<MaekawaMsg>)
         requires { out.old ≡ [] }
         ensures value { out.new ≡ addressed (to_missing self.now letter.now) self.now.count }
@@ -200,12 +188,6 @@ impl Requester {
         }
     }
 
-    /// Sends a request with a new stamp to each of its arbiters, and returns the stamp.
-    ///
-    /// # Errors
-    ///
-    /// Returns `NotIdle` if the node waits already or is inside, and `StampsSpent` if no next stamp
-    /// exists.
     pub(crate) fn ask(&mut self, out: &mut Outbox<MaekawaMsg>) -> Result<Stamp, AskFault>
         requires { out.old ≡ [] }
         ensures state { self.new ≡ (ask_in self.old.phase self.old).state }
@@ -228,14 +210,12 @@ impl Requester {
         Ok(ours)
     }
 
-    /// Notes the number of a request in the clock.
     pub(crate) fn see(&mut self, number: u64)
         ensures { self.new ≡ record self.old { highest = max self.old.highest number } }
     {
         self.highest.see(number);
     }
 
-    /// Returns whether the node waits and holds a grant of each of its arbiters.
     pub(crate) fn can_enter(&self) -> bool
         ensures value { result ≡ can_enter_of self.now }
         ensures granted { IsTrue result ↔ ((self.now.phase ≡ Waiting) × HoldsAll self.now) }
@@ -243,13 +223,6 @@ impl Requester {
         matches!(self.phase, Phase::Waiting) && self.holds_all()
     }
 
-    /// Enters the section with the number after the highest that the node knows, and returns that
-    /// number.
-    ///
-    /// # Errors
-    ///
-    /// Returns `NotWaiting` if the node is idle or inside, `NotGranted` if a grant is missing, and
-    /// `NumbersSpent` if the highest section number that the node knows is the limit.
     pub(crate) fn enter(&mut self) -> Result<u64, EnterFault>
         ensures state { self.new ≡ (enter_in self.old.phase self.old).state }
         ensures answer { result ≡ (enter_in self.old.phase self.old).answer }
@@ -271,12 +244,6 @@ impl Requester {
         Ok(self.top)
     }
 
-    /// Leaves the section, sends a release to each of its arbiters, and returns the section's
-    /// number.
-    ///
-    /// # Errors
-    ///
-    /// Returns `NotInside` if the node is idle or still waits.
     pub(crate) fn leave(&mut self, out: &mut Outbox<MaekawaMsg>) -> Result<u64, LeaveFault>
         requires { out.old ≡ [] }
         ensures state { self.new ≡ (leave_in self.old.phase self.old).state }
@@ -290,11 +257,6 @@ impl Requester {
         Ok(number)
     }
 
-    /// Withdraws the request, and sends a release to each of its arbiters.
-    ///
-    /// # Errors
-    ///
-    /// Returns `NotWaiting` if the node is idle or inside.
     pub(crate) fn cancel(&mut self, out: &mut Outbox<MaekawaMsg>) -> Result<(), CancelFault>
         requires { out.old ≡ [] }
         ensures state { self.new ≡ (cancel_in self.old.phase self.old).state }
@@ -308,8 +270,6 @@ impl Requester {
         Ok(())
     }
 
-    /// Ends the current request: the node becomes idle, holds no grant, and sends a release to each
-    /// of its arbiters.
     fn end_request(&mut self, out: &mut Outbox<MaekawaMsg>)
         requires { out.old ≡ [] }
         ensures state { self.new ≡ (ended self.old).state }
@@ -325,7 +285,6 @@ impl Requester {
         self.remembered = no_inquiries;
     }
 
-    /// Sends the request of a waiting node again to each of its arbiters whose grant is missing.
     pub(crate) fn tick(&self, out: &mut Outbox<MaekawaMsg>)
         requires { out.old ≡ [] }
         ensures letters { out.new ≡ request_again self.now }

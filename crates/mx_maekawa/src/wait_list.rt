@@ -5,7 +5,6 @@ ghost use Rattle.mx_maekawa.specs.ArbiterStep.{lesser, is_later, is_below, or_el
 
 use mx_stamps::Stamp;
 
-/// Returns the lesser of two requests, or the only one.
 pub(crate) fn lesser(least: &Option<Stamp>, other: &Option<Stamp>) -> Option<Stamp>
     ensures { result ≡ lesser least.now other.now }
 {
@@ -20,7 +19,6 @@ pub(crate) fn lesser(least: &Option<Stamp>, other: &Option<Stamp>) -> Option<Sta
     }
 }
 
-/// Returns whether there is a request of the stamp's node, later than the stamp.
 pub(crate) fn is_later(request: &Option<Stamp>, stamp: &Stamp) -> bool
     ensures { result ≡ is_later request.now stamp.now }
 {
@@ -30,7 +28,6 @@ pub(crate) fn is_later(request: &Option<Stamp>, stamp: &Stamp) -> bool
     }
 }
 
-/// Returns whether there is a request that comes before the stamp.
 pub(crate) fn is_below(request: &Option<Stamp>, stamp: &Stamp) -> bool
     ensures { result ≡ is_below request.now stamp.now }
 {
@@ -40,14 +37,12 @@ pub(crate) fn is_below(request: &Option<Stamp>, stamp: &Stamp) -> bool
     }
 }
 
-/// Returns the request, or the stamp if there is none.
 pub(crate) fn or_else(request: &Option<Stamp>, stamp: &Stamp) -> Option<Stamp>
     ensures { result ≡ or_else request.now stamp.now }
 {
     Some(request.unwrap_or(*stamp))
 }
 
-/// Returns the request if its number is above this one.
 pub(crate) fn drop_up_to(request: &Option<Stamp>, number: u64) -> Option<Stamp>
     ensures { result ≡ drop_up_to request.now number }
 {

@@ -11,7 +11,6 @@ use Rattle.mx_member.specs.declared.parcel.Parcel.{Parcel}
 use Rattle.mx_member.specs.Member.{BringsUnknown, MemberState}
 use Rattle.mx_member.specs.Steps.{IsTakeable, LacksItsRecord, ask_of, enter_of, read_of, write_of, leave_of, cancel_of, settle_of, tick_of, want_of, take_of, restart_of}
 
--- the step of a member that does this act
 abbrev pub act_of : {H S M : Type 0} → Core H S M → Act M → MemberState S →
     Done (MemberState S) Answer (Parcel M)
 act_of core act.Ask m = answering (ask_of core m) (answer.Asked (ask_of core m).answer)
@@ -32,7 +31,6 @@ act_of core (act.Deliver from parcel) m = answering (take_of core from parcel m)
 act_of core act.Restart m =
     record { state = restart_of core m; answer = answer.Woken; letters = [] }
 
--- the member can do this act: if the act is a delivery, the member can take the parcel
 abbrev pub IsDoable : {S M : Type 0} → Act M → MemberState S → Type 0
 IsDoable act.Ask m = Unit {0}
 IsDoable act.Enter m = Unit {0}
@@ -61,7 +59,6 @@ NeedsMemory core (act.Want to) m = ⊥
 NeedsMemory core (act.Deliver from parcel) m = BringsUnknown parcel m.journal
 NeedsMemory core act.Restart m = ⊥
 
--- the result is a refusal
 abbrev pub IsRefusal : Answer → Type 0
 IsRefusal (answer.Asked (Err fault)) = Unit {0}
 IsRefusal (answer.Entered (Err fault)) = Unit {0}

@@ -1,4 +1,3 @@
--- The fault of a delivery, by the fault of the journal.
 use Rattle.mx_journal.specs.declared.settlement.BaseFault.{BaseFault}
 use Rattle.mx_journal.specs.declared.settlement.BaseFault.TheVariants as base
 use Rattle.mx_journal.specs.declared.puts.PutFault.{PutFault}

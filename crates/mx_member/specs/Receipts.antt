@@ -1,4 +1,3 @@
--- Receipts of closed sections: those of all nodes, those of one node, and their order.
 use Rattle.std.specs.Prelude.{ℕ, suc, ◌≡◌, ◌++◌, List, [], ◌∷◌, Ok, length, nat_eq, if◌then◌else◌}
 use Rattle.mx_stamps.specs.Lists.{IsIn}
 use Rattle.mx_journal.specs.declared.records.Record.{Record}

@@ -1,4 +1,3 @@
--- Nodes with their own receipts, and what holds for them during a run.
 use Rattle.std.specs.Prelude.{ℕ, suc, ◌≡◌, ◌<◌, ◌≤◌, ◌↔◌, ◌+◌, ◌++◌, ◌⊎◌, List, [], ◌∷◌, Some, length, map, slice_get}
 use Rattle.mx_stamps.specs.declared.limits.TheConstants.{MAX_REGISTERS}
 use Rattle.mx_stamps.specs.Lists.{IsIn}
@@ -31,11 +30,9 @@ pub record Owned (S : Type 0) : Type 0 where
 abbrev pub members_of : {S : Type 0} → List (Owned S) → List (MemberState S)
 members_of nodes = map (λ o. o.member) nodes
 
--- node i of the list is this one
 abbrev pub IsNode : {S : Type 0} → List (Owned S) → ℕ → Owned S → Type 0
 IsNode nodes i o = slice_get nodes i ≡ Some o
 
--- a node at the start: idle, and without receipts
 abbrev pub owned_start : {H S M : Type 0} → Core H S M → H → ℕ → ℕ → ℕ → ℕ → Owned S
 owned_start core shape me origin limit registers =
     record { member = start_of core shape me origin limit registers; receipts = [] }
@@ -70,7 +67,6 @@ pub record IsRun {H S M : Type 0} (core : Core H S M) (Good : World S M → Type
   pub recorded : (i : ℕ) (o : Owned S) (r : Receipt) → IsNode nodes i o → IsIn r o.receipts →
       Covers r.number o.member.journal
 
--- IsRun holds for some list of sections
 pub record IsRunning {H S M : Type 0} (core : Core H S M) (Good : World S M → Type 0)
     (nodes : List (Owned S)) (sent : List (ℕ × ℕ × Parcel M)) : Type 0 where
   pub sections : List Section
@@ -87,7 +83,6 @@ pub record IsHistory {S : Type 0} (nodes : List (Owned S)) (rs : List Receipt) :
   pub placed : (r : Receipt) → IsIn r rs → r.node < length nodes
   pub own : (i : ℕ) (o : Owned S) → IsNode nodes i o → o.receipts ≡ own_in i rs
 
--- the number of receipts of all nodes
 abbrev pub receipt_count : {S : Type 0} → List (Owned S) → ℕ
 receipt_count [] = 0
 receipt_count (o ∷ os) = length o.receipts + receipt_count os

@@ -1,4 +1,3 @@
--- The step of a member for each call.
 use Rattle.std.specs.Prelude.{ℕ, ◌≡◌, ◌<◌, ◌++◌, ◌⊎◌, Bool, List, [], ◌∷◌, Result, Ok, Err, length, max, min, nat_lt, nat_le, take, unwrap_or, if◌then◌else◌}
 use Rattle.std.specs.List.{list_any}
 use Rattle.mx_stamps.specs.declared.stamp.Stamp.{Stamp}
@@ -39,7 +38,6 @@ abbrev pub core_step : {S A M : Type 0} → MemberState S → Done S A M →
 core_step m done =
     record { state = with_core done.state m; answer = done.answer; letters = guarded done.letters }
 
--- a refusal changes nothing
 abbrev pub refusing : {S A F : Type 0} → MemberState S → F → Quiet (MemberState S) (Result A F)
 refusing m fault = record { state = m; answer = Err fault }
 
@@ -78,7 +76,6 @@ read_inside register n m =
       answer = Ok (shown_inside register n m);
     })))
 
--- a write of a node that is inside
 abbrev pub write_inside : {S : Type 0} → ℕ → ℕ → MemberState S →
     Quiet (MemberState S) (Result (Unit {0}) WriteFault)
 write_inside register value m =
@@ -86,7 +83,6 @@ write_inside register value m =
     else (if nat_le 8 (length m.draft.writes) then refusing m write.Full
     else record { state = with_draft (with_write register value m.draft) m; answer = Ok tt })
 
--- a want of these ranges to node i; none if there are no ranges
 abbrev pub want_to : {M : Type 0} → ℕ → List Range → List (ℕ × Parcel M)
 want_to i [] = []
 want_to i (r ∷ rs) = (i, Want (record { items = r ∷ rs })) ∷ []
@@ -239,7 +235,6 @@ module _ {H S M : Type 0} (core : Core H S M) where
   abbrev pub restart_of : MemberState S → MemberState S
   restart_of m = with_draft fresh m
 
-  -- a member at the start: idle, with an empty journal and an empty draft
   abbrev pub start_of : H → ℕ → ℕ → ℕ → ℕ → MemberState S
   start_of shape me origin limit registers = record {
     setting = record { me = me; nodes = core.count shape; limit = limit; registers = registers };

@@ -1,4 +1,3 @@
--- The mark of an act: what the act does in a section.
 use Rattle.std.specs.Prelude.{ℕ, List, [], ◌∷◌, Ok}
 use Rattle.mx_trace.specs.Sections.{Mark, Came, Got, Wrote, Went, Woke}
 use Rattle.mx_member.specs.declared.acts.Act.{Act}

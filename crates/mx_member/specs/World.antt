@@ -23,7 +23,6 @@ letters_in (p ∷ ps) = letter_in p.0 p.1 p.2 ++ letters_in ps
 abbrev pub core_part : {S M : Type 0} → List (MemberState S) → List (ℕ × ℕ × Parcel M) → World S M
 core_part members sent = record { nodes = map (λ m. m.core) members; sent = letters_in sent }
 
--- node i is this member
 abbrev pub IsMember : {S : Type 0} → List (MemberState S) → ℕ → MemberState S → Type 0
 IsMember members i m = slice_get members i ≡ Some m
 

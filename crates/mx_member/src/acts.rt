@@ -1,5 +1,3 @@
-//! The acts of a member, and their results.
-
 ghost use Rattle.std.specs.Prelude.{◌≡◌, [], IfOk, OnErr};
 ghost use Rattle.mx_member.specs.Acts.{IsDoable, NeedsMemory, act_of};
 
@@ -59,7 +57,7 @@ pub enum Answer {
 ///
 /// # Errors
 ///
-/// Returns `AllocError` if memory runs out. The member is unchanged then.
+/// Returns `AllocError` if memory runs out.
 pub fn perform<C: Exclusion>(
     member: &mut Member<C>,
     act: Act<C::Msg>,

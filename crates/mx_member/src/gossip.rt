@@ -1,5 +1,4 @@
-//! The exchange of parcels with other members: letters of the core, wants (requests for missing
-//! sections), bases, and records.
+//! The exchange of parcels: letters of the core, wants (of missing sections), bases and records.
 
 ghost use Rattle.std.specs.Prelude.{ℕ, ◌≡◌, ◌≤◌, ◌<◌, ◌↔◌, ◌⊎◌, ◌++◌, [], List, length, Err, IfOk, IsOk, OnErr, OnOk};
 ghost use Rattle.std.specs.List.{list_any};
@@ -48,8 +47,7 @@ impl<C: Exclusion> Member<C> {
     /// # Errors
     ///
     /// Returns `Stranger` if the sender is no node of the cluster. Returns `Conflict` if a record
-    /// or a base differs from one that the journal knows, and `Memory` if memory runs out. On an
-    /// error nothing changes.
+    /// or a base differs from one that the journal knows, and `Memory` if memory runs out.
     pub fn deliver(
         &mut self,
         from: NodeId,
@@ -121,8 +119,6 @@ impl<C: Exclusion> Member<C> {
         Ok(())
     }
 
-    /// Delivers a letter from node `from` to the core, and puts the letters that the core sends
-    /// into `out`.
     fn hear(&mut self, from: NodeId, letter: C::Msg, out: &mut Outbox<Parcel<C::Msg>>)
         requires { out.old ≡ [] }
         ensures state { self.new
@@ -134,8 +130,6 @@ impl<C: Exclusion> Member<C> {
         guard_all(&mut self.letters, out);
     }
 
-    /// Replies to a want of node `from` with the base, if it covers a number in the ranges, and
-    /// then with the first records in the ranges, at most four.
     fn answer_want(&self, from: NodeId, ranges: &[Range], out: &mut Outbox<Parcel<C::Msg>>)
         requires { out.old ≡ [] }
         ensures { out.new ≡ answers_to from ranges.now self.now.journal }
@@ -155,7 +149,6 @@ impl<C: Exclusion> Member<C> {
     }
 }
 
-/// Returns whether one of the numbers 1 to `upto`, which a base covers, lies in one of the ranges.
 fn is_wanted(upto: u64, ranges: &[Range]) -> bool
     ensures { result ≡ list_any (reaches upto) ranges.now }
 {
@@ -164,7 +157,6 @@ fn is_wanted(upto: u64, ranges: &[Range]) -> bool
         .any(|range| range.first.max(1) <= range.last.min(upto))
 }
 
-/// Sends the journal's base, if it covers a number in one of the ranges.
 fn send_base<M: Copy + Default>(
     to: NodeId,
     ranges: &[Range],
@@ -179,7 +171,6 @@ fn send_base<M: Copy + Default>(
     }
 }
 
-/// Sends the records in one parcel, if there are any. At most one parcel is in `out` before.
 fn send_records<M: Copy + Default>(
     to: NodeId,
     records: ArrayVec<Record, 4>,
@@ -193,12 +184,6 @@ fn send_records<M: Copy + Default>(
     }
 }
 
-/// Lets the journal take a base, and renews `shown`, the view of the journal's first `registers`
-/// registers.
-///
-/// # Errors
-///
-/// Returns `Conflict` with the base's number if both bases cover the same sections and differ.
 fn take_base(
     journal: &mut Journal,
     shown: &mut View,
@@ -222,7 +207,6 @@ fn take_base(
     Ok(())
 }
 
-/// Applies the records that are numbered above `upto` to the view `shown`, one after the other.
 fn take_all(shown: &mut View, upto: u64, records: &[Record])
     ensures { (base : BaseState) (count : ℕ) (before : List Record)
         → shown.old ≡ registers_from base count before

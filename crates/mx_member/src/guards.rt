@@ -6,7 +6,6 @@ ghost use Rattle.mx_member.specs.Member.{guarded};
 use crate::parcel::Parcel;
 use mx_letters::Outbox;
 
-/// Moves each letter of `letters` to `out`, in order, as a `Parcel::Guard`.
 pub(crate) fn guard_all<M: Copy + Default>(letters: &mut Outbox<M>, out: &mut Outbox<Parcel<M>>)
     requires { out.old ≡ [] }
     ensures sent { out.new ≡ guarded letters.old }

@@ -20,11 +20,8 @@ use std::marker::Model;
 #[derive(Drop)]
 pub struct Member<C: Exclusion> {
     pub(crate) me: NodeId,
-    /// The number of nodes in the cluster.
     pub(crate) nodes: u8,
-    /// The greatest section number.
     pub(crate) limit: u64,
-    /// The number of registers.
     pub(crate) registers: u8,
     pub(crate) core: C,
     pub(crate) journal: Journal,

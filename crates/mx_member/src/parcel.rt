@@ -1,5 +1,3 @@
-//! The parcels (messages) that members send one another.
-
 ghost use Rattle.std.specs.Prelude.{◌≡◌};
 ghost use Rattle.mx_member.specs.declared.parcel.Parcel.TheVariants.{Records};
 
@@ -25,7 +23,6 @@ impl<M> Default for Parcel<M> {
 
     ghost is_default = { λ parcel. parcel ≡ Want (record { items = [] }) };
 
-    /// Returns a want without ranges.
     fn default() -> Self {
         Parcel::Want(ArrayVec::new())
     }
@@ -45,7 +42,6 @@ impl<M: Copy> Parcel<M> {
     }
 }
 
-/// Returns a parcel with copies of the records.
 fn copy_of_gossip<M>(records: &ArrayVec<Record, 4>) -> Parcel<M>
     ensures { result ≡ Records records.now }
 {

@@ -1,5 +1,4 @@
-//! The calls of a member inside its section (`read`, `write` and `leave`), and `restart` and
-//! `settle`.
+//! The calls of a member inside its section, and `restart` and `settle`.
 
 ghost use Rattle.std.specs.Prelude.{ℕ, ◌≡◌, ◌≤◌, ◌<◌, ◌↔◌, [], ◌∷◌, Err, IfOk, Ok, OnErr, OnOk, length};
 ghost use Rattle.mx_journal.specs.Settled.{Covers, with_list};
@@ -49,8 +48,6 @@ impl<C: Exclusion> Member<C> {
         Ok(value)
     }
 
-    /// Returns why section `number`, which the journal's base covers, cannot read: `Full` if the
-    /// draft has eight reads, otherwise `Settled`.
     fn settled_or_full(&self, number: u64) -> ReadFault
         ensures { result ≡ settled_fault (length self.now.draft.reads) self.now.journal.base.upto }
     {
@@ -138,8 +135,7 @@ impl<C: Exclusion> Member<C> {
         self.journal.settle(upto)
     }
 
-    /// Returns the value of a register after the journal's sections numbered below `number`. If the
-    /// journal covers no others, the view `shown` has this value.
+    /// If the journal covers no section from `number` on, the view `shown` has the value.
     fn value_below(&self, number: u64, register: u8) -> u64
         requires { register < self.now.setting.registers }
         ensures { result ≡ (register_below register number self.now.journal).value }
@@ -153,12 +149,6 @@ impl<C: Exclusion> Member<C> {
     }
 }
 
-/// Adds the record to the journal and to the view `shown`, unless the journal covers the record's
-/// number.
-///
-/// # Errors
-///
-/// Returns `Memory` if memory runs out.
 fn keep(journal: &mut Journal, shown: &mut View, entry: &Record) -> Result<(), CloseFault>
     requires { 0 < entry.now.number }
     ensures ok { OnOk result (journal.new ≡ with_list (entry.now ∷ []) journal.old) }

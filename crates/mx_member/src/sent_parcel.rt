@@ -1,5 +1,3 @@
-//! A parcel with its sender and its addressee.
-
 use crate::parcel::Parcel;
 use mx_stamps::NodeId;
 

@@ -1,4 +1,3 @@
--- The join of two maps of records, and of two journals with their bases.
 use Rattle.std.specs.Prelude.{ℕ, ◌≡◌, ◌⊎◌, ◌++◌, List}
 use Rattle.mx_journal.specs.declared.records.Record.{Record}
 use Rattle.mx_journal.specs.Agreement.{IsFirstConflict, IsSubmap}

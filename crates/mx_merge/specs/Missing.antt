@@ -54,10 +54,8 @@ gaps_of limit journal = gaps_above 0 limit journal
 abbrev pub gaps_in : ℕ → JournalState → List Range
 gaps_in limit journal = gaps_above journal.base.upto limit journal.records
 
--- whether the number lies in one of the ranges
 abbrev pub lies_in : List Range → ℕ → Bool
 lies_in ranges n = list_any (λ (range : Range). nat_le range.first n && nat_le n range.last) ranges
 
--- the records whose numbers lie in one of the ranges
 abbrev pub in_ranges : List Range → List Record → List Record
 in_ranges ranges journal = filter (λ x. lies_in ranges x.number) journal

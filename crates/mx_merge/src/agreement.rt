@@ -1,6 +1,3 @@
-//! Agreement of journals: records of the same number are equal, and so are bases of the same
-//! sections.
-
 ghost use Rattle.std.specs.Prelude.{suc, ◌≡◌, ◌↔◌, ◌++◌, IsTrue, IsFalse, IfSome, IfNone};
 ghost use Rattle.mx_journal.specs.Agreement.{AgreesWith, AreAgreeing, IsFirstConflict, IsOpposed};
 ghost use Rattle.mx_journal.specs.Bases.{AreOpposed};
@@ -20,7 +17,6 @@ pub fn agree(journal: &Journal, other: &Journal) -> bool
     first_difference(journal, other).is_none()
 }
 
-/// Returns the least number at which the journals differ, in their bases or in a record.
 pub(crate) fn first_difference(journal: &Journal, other: &Journal) -> Option<u64>
     ensures some { IfSome result (λ n. IsFirstDifference n journal.now other.now) }
     ensures none { IfNone result (DoAgree journal.now other.now) }
@@ -35,7 +31,6 @@ pub(crate) fn first_difference(journal: &Journal, other: &Journal) -> Option<u64
     first_conflict(journal, other)
 }
 
-/// Returns whether the bases cover the same sections and differ.
 fn are_opposed(base: &Base, other: &Base) -> bool
     ensures opposed { IsTrue result → AreOpposed base.now other.now }
     ensures agreed { IsFalse result → base.now.upto ≡ other.now.upto → base.now ≡ other.now }
@@ -43,7 +38,6 @@ fn are_opposed(base: &Base, other: &Base) -> bool
     base.upto() == other.upto() && !base.is(other)
 }
 
-/// Returns the least number at which the journals have different records.
 fn first_conflict(journal: &Journal, other: &Journal) -> Option<u64>
     ensures some { IfSome result (λ n.
         IsFirstConflict n (journal.now.records ++ other.now.records)) }
@@ -66,7 +60,6 @@ fn first_conflict(journal: &Journal, other: &Journal) -> Option<u64>
     None
 }
 
-/// Returns whether the journal has the record `entry`, or no record of its number.
 fn agrees_with(journal: &Journal, entry: &Record) -> bool
     requires { Ascending 1 journal.now.records }
     ensures agrees { IsTrue result → AgreesWith entry.now journal.now.records }

@@ -9,7 +9,6 @@ ghost use Rattle.mx_merge.specs.Missing.{in_ranges, lies_in};
 use arrayvec::ArrayVec;
 use mx_journal::{Journal, Range, Record};
 
-/// The greatest number of records in one reply.
 const RECORDS_AT_ONCE: usize = 4;
 
 /// Returns copies of the journal's records with numbers in one of the ranges, ascending: the first
@@ -32,7 +31,6 @@ pub fn answer(journal: &Journal, ranges: &[Range]) -> ArrayVec<Record, RECORDS_A
     found
 }
 
-/// Returns the least `first` of the ranges, or `u64::MAX` if there are none.
 fn least_first(ranges: &[Range]) -> u64
     ensures { (range : Range) → IsIn range ranges.now → result ≤ range.first }
 {
@@ -43,7 +41,6 @@ fn least_first(ranges: &[Range]) -> u64
     least
 }
 
-/// Returns whether the number lies in one of the ranges.
 fn is_in_some(ranges: &[Range], number: u64) -> bool
     ensures { result ≡ lies_in ranges.now number }
 {

@@ -6,7 +6,6 @@ ghost use Rattle.mx_merge.specs.Missing.{IsListOfGaps, gap_after, gaps_in};
 use arrayvec::ArrayVec;
 use mx_journal::{Journal, Range};
 
-/// The greatest number of ranges that `missing` returns.
 const RANGES_AT_ONCE: usize = 8;
 
 /// Returns the ranges of the numbers from 1 to `limit` that the journal does not cover, ascending,
@@ -29,8 +28,6 @@ pub fn missing(journal: &Journal, limit: u64) -> ArrayVec<Range, RANGES_AT_ONCE>
     gaps
 }
 
-/// Adds the range of the numbers above `before` up to `last`, if it is not empty and `gaps` has
-/// room.
 fn add_gap(gaps: &mut ArrayVec<Range, 8>, before: u64, last: u64)
     ensures { gaps.new.items ≡ take 8 (gaps.old.items ++ gap_after before last) }
 {

@@ -1,5 +1,3 @@
-//! Merging a journal into another.
-
 ghost use Rattle.std.specs.Prelude.{ℕ, suc, ◌≡◌, ◌+◌, ◌↔◌, ◌⊎◌, Err, IsOk, IfOk, OnOk, OnErr};
 ghost use Rattle.mx_journal.specs.Records.{Ascending};
 ghost use Rattle.mx_journal.specs.Settled.{BringsUncovered, DoAgree, IsWithin, covered, joined};
@@ -41,7 +39,7 @@ impl From<AllocError> for MergeFault {
 ///
 /// Returns `Conflict` with the least number at which the journals differ. Returns `Memory` if they
 /// agree and memory runs out, which is possible only if `other` has a record of a section that
-/// `journal` does not cover. On an error `journal` is unchanged.
+/// `journal` does not cover.
 pub fn merge(journal: &mut Journal, other: &Journal) -> Result<u64, MergeFault>
     ensures conflict { (n : ℕ) → (result ≡ Err (MergeFault.Conflict n))
         ↔ IsFirstDifference n journal.old other.now }

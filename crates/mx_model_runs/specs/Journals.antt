@@ -21,7 +21,6 @@ abbrev pub journal_in : {S : Type 0} → Option (MemberState S) → Option Journ
 journal_in None = None
 journal_in (Some m) = Some m.journal
 
--- the journal of node i
 abbrev pub journal_at : {S M : Type 0} → ClusterState S M → ℕ → Option JournalState
 journal_at g i = journal_in (slice_get g.members i)
 

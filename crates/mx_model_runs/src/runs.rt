@@ -1,5 +1,3 @@
-//! One run of each algorithm.
-
 ghost use Rattle.mx_quorums.specs.Family.{IsMeeting};
 ghost use Rattle.mx_trees.specs.Tree.{IsRooted};
 ghost use Rattle.mx_ricart.specs.Step.{IsCount, ricart_core};

@@ -1,4 +1,3 @@
--- Journals of members, merged.
 use Rattle.std.specs.Prelude.{ℕ, ◌<◌, List, [], length}
 use Rattle.mx_stamps.specs.Lists.{IsIn}
 use Rattle.mx_journal.specs.Settled.{IsWithin, JournalState, unsettled}

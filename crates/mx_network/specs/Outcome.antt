@@ -1,4 +1,3 @@
--- The outcome in a trace, by a member's result.
 use Rattle.std.specs.Prelude.{ℕ, Ok, Err}
 use Rattle.mx_nodelaws.specs.declared.faults.AskFault.TheVariants as ask
 use Rattle.mx_nodelaws.specs.declared.faults.CancelFault.TheVariants as cancel

@@ -1,4 +1,3 @@
--- The parcels that were sent, and their storage.
 use Rattle.std.specs.Prelude.{ℕ, ◌-◌, ◌≡◌, ◌<◌, List, [], ◌∷◌, ◌++◌, Vec, get_or, min}
 use Rattle.std.specs.declared.alloc.Global.{Global}
 use Rattle.mx_member.specs.declared.parcel.Parcel.{Parcel}
@@ -28,7 +27,6 @@ AreKept kept (s ∷ ss) = (s.place < kept) × AreKept kept ss
 abbrev pub room_in : {M : Type 0} → Vec (Parcel M) Global → Vec Sending Global → ℕ
 room_in kept sendings = min (kept.cap - kept.len) (sendings.cap - sendings.len)
 
--- the last stored parcel is this one
 abbrev pub EndsWith : {M : Type 0} → Parcel M → List (Parcel M) → Type 0
 EndsWith {M} parcel kept = (front : List (Parcel M)) × (kept ≡ front ++ parcel ∷ [])
 

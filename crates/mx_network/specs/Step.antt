@@ -1,4 +1,3 @@
--- One event of a cluster.
 use Rattle.std.specs.Prelude.{ℕ, ◌≡◌, ◌≤◌, ◌<◌, ◌⊎◌, IfErr, OnErr, OnOk, List, [], ◌∷◌, ◌++◌, Option, Some, None, Result, Ok, Err, Vec, IsOk, IsSome, slice_get, slice_set, length, nat_lt, if◌then◌else◌}
 use Rattle.std.specs.declared.alloc.Global.{Global}
 use Rattle.mx_stamps.specs.Lists.{IsIn}
@@ -155,7 +154,6 @@ abbrev pub NamesNoParcel : {S M : Type 0} → ClusterState S M → Event → Typ
 NamesNoParcel g (event.Deliver k) = length g.sent ≤ k
 NamesNoParcel g _ = ⊥
 
--- node i of the cluster is inside
 abbrev pub IsInsideAt : {H S M : Type 0} → Core H S M → ClusterState S M → ℕ → Type 0
 IsInsideAt {H} {S} core g i =
     (m : MemberState S) × (slice_get g.members i ≡ Some m) × IsInside core m.core

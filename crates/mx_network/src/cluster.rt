@@ -1,5 +1,3 @@
-//! The cluster: it applies events, and has the trace and the parcels that were sent.
-
 ghost use Rattle.std.specs.Prelude.{◌≡◌, ◌≤◌, ◌<◌, ◌↔◌, ℕ, [], ◌∷◌, ◌++◌, length, OnOk, OnErr, IfOk, IfErr, IfSome, MatchOption, slice_get, take};
 ghost use Rattle.mx_stamps.specs.declared.limits.TheConstants.{MAX_REGISTERS, MAX_SECTIONS};
 ghost use Rattle.mx_stamps.specs.Lists.{each_below};
@@ -106,7 +104,7 @@ impl<C: Exclusion> Cluster<C> {
     ///
     /// Returns `NoNode` if the event names a node that the cluster does not have, and `NoParcel` if
     /// it delivers a parcel that was not sent. Returns `Memory` if there is no such fault and
-    /// memory runs out. On an error the cluster is unchanged.
+    /// memory runs out.
     pub fn step(&mut self, event: Event) -> Result<Outcome, StepFault>
         ensures ok { OnOk result (step_of C.core self.old event ≡ Ok self.new) }
         ensures outcome { IfOk result (λ outcome. self.new.trace ≡ self.old.trace

@@ -1,5 +1,3 @@
-//! Why an event fails.
-
 use std::alloc::AllocError;
 use thiserror::Error;
 

@@ -10,7 +10,6 @@ use mx_nodelaws::{AskFault, CancelFault, EnterFault};
 use mx_stamps::Stamp;
 use mx_trace::{Cause, Outcome};
 
-/// Returns the outcome of a request.
 #[inline(always)]
 pub(crate) fn asked(told: Result<Stamp, AskFault>) -> Outcome
     ensures { (sent : ℕ) → result ≡ outcome_of (answer.Asked told) sent }
@@ -22,7 +21,6 @@ pub(crate) fn asked(told: Result<Stamp, AskFault>) -> Outcome
     }
 }
 
-/// Returns the outcome of an entry.
 #[inline(always)]
 pub(crate) fn entered(told: Result<u64, EnterFault>) -> Outcome
     ensures { (sent : ℕ) → result ≡ outcome_of (answer.Entered told) sent }
@@ -35,7 +33,6 @@ pub(crate) fn entered(told: Result<u64, EnterFault>) -> Outcome
     }
 }
 
-/// Returns the outcome of a read.
 #[inline(always)]
 pub(crate) fn read(told: Result<u64, ReadFault>) -> Outcome
     ensures { (sent : ℕ) → result ≡ outcome_of (answer.Read told) sent }
@@ -51,7 +48,6 @@ pub(crate) fn read(told: Result<u64, ReadFault>) -> Outcome
     }
 }
 
-/// Returns the outcome of a write.
 #[inline(always)]
 pub(crate) fn written(told: Result<(), WriteFault>) -> Outcome
     ensures { (sent : ℕ) → result ≡ outcome_of (answer.Written told) sent }
@@ -64,7 +60,6 @@ pub(crate) fn written(told: Result<(), WriteFault>) -> Outcome
     }
 }
 
-/// Returns the outcome of a withdrawal.
 #[inline(always)]
 pub(crate) fn cancelled(told: Result<(), CancelFault>) -> Outcome
     ensures { (sent : ℕ) → result ≡ outcome_of (answer.Cancelled told) sent }
@@ -75,7 +70,6 @@ pub(crate) fn cancelled(told: Result<(), CancelFault>) -> Outcome
     }
 }
 
-/// Returns the outcome of settling.
 #[inline(always)]
 pub(crate) fn settled(told: Result<(), SettleFault>) -> Outcome
     ensures { (sent : ℕ) → result ≡ outcome_of (answer.Settled told) sent }

@@ -1,5 +1,3 @@
-//! The parcels that a cluster has sent.
-
 ghost use Rattle.std.specs.Prelude.{◌≡◌, ◌+◌, ◌≤◌, ◌<◌, [], ◌∷◌, ◌++◌, length, slice_get, IsTrue, MatchOption, OnOk, vec_len, vec_capacity};
 ghost use Rattle.mx_letters.specs.declared.outbox.TheConstants.{OUTBOX_ROOM};
 ghost use Rattle.mx_nodelaws.specs.World.{sent_by};
@@ -12,8 +10,7 @@ use mx_stamps::NodeId;
 use std::alloc::{AllocError, Global};
 use std::marker::Model;
 
-/// A parcel that was sent: its sender, its addressee, and its place (index) among the stored
-/// parcels.
+/// A parcel that was sent. Its place is its index among the stored parcels.
 #[derive(Clone, Copy)]
 pub(crate) struct Sending {
     from: NodeId,
@@ -25,9 +22,7 @@ pub(crate) struct Sending {
 /// equals the parcel stored last shares the place of that parcel.
 #[derive(Drop)]
 pub(crate) struct ParcelLog<C: Exclusion> {
-    /// The stored parcels; a place is an index here.
     kept: Vec<Parcel<C::Msg>>,
-    /// One item for each parcel that was sent, in order.
     sendings: Vec<Sending>,
 }
 
@@ -46,7 +41,6 @@ impl<C: Exclusion> Model for ParcelLog<C> {
 }
 
 impl<C: Exclusion> ParcelLog<C> {
-    /// Creates an empty log.
     pub(crate) fn new(alloc: Global) -> Self
         ensures { result.sent ≡ [] }
     {
@@ -56,11 +50,6 @@ impl<C: Exclusion> ParcelLog<C> {
         }
     }
 
-    /// Reserves memory for `parcels` more parcels.
-    ///
-    /// # Errors
-    ///
-    /// Returns `AllocError` if memory runs out.
     pub(crate) fn reserve(&mut self, parcels: usize) -> Result<(), AllocError>
         ensures sent { self.new.sent ≡ self.old.sent }
         ensures room { OnOk result (parcels ≤ self.new.room) }
@@ -69,14 +58,12 @@ impl<C: Exclusion> ParcelLog<C> {
         self.sendings.reserve(parcels)
     }
 
-    /// Returns the number of parcels that were sent.
     pub(crate) fn len(&self) -> usize
         ensures { result ≡ length self.now.sent }
     {
         self.sendings.len()
     }
 
-    /// Returns the parcel of this number, counted from 0, with its sender and addressee.
     pub(crate) fn get(&self, number: u64) -> Option<SentParcel<'_, C::Msg>>
         ensures { MatchOption result (slice_get self.now.sent number ≡ None)
             (λ found. slice_get self.now.sent number
@@ -92,8 +79,6 @@ impl<C: Exclusion> ParcelLog<C> {
         }
     }
 
-    /// Adds the parcels of `out`, which node `from` sends, to the log, and empties `out`. The log
-    /// must have room for a full outbox.
     pub(crate) fn send_all(&mut self, from: NodeId, out: &mut Outbox<Parcel<C::Msg>>)
         requires { OUTBOX_ROOM ≤ self.old.room }
         ensures sent { self.new.sent ≡ self.old.sent ++ sent_by from out.old }
@@ -105,8 +90,6 @@ impl<C: Exclusion> ParcelLog<C> {
         out.clear();
     }
 
-    /// Adds a parcel, which node `from` sends to node `to`, to the log. The log must have room for
-    /// it.
     fn send(&mut self, from: NodeId, to: NodeId, parcel: &Parcel<C::Msg>)
         requires { 0 < self.old.room }
         ensures sent { self.new.sent ≡ self.old.sent ++ (from, to, parcel.now) ∷ [] }
@@ -118,8 +101,6 @@ impl<C: Exclusion> ParcelLog<C> {
     }
 }
 
-/// Stores a parcel after the others, unless it is a letter that equals the last of them. `kept` has
-/// room for it.
 fn keep<C: Exclusion>(kept: &mut Vec<Parcel<C::Msg>>, parcel: &Parcel<C::Msg>)
     requires { vec_len kept.old < vec_capacity kept.old }
     ensures kept { IsKeptIn parcel.now kept.old.items kept.new.items }
@@ -131,7 +112,6 @@ fn keep<C: Exclusion>(kept: &mut Vec<Parcel<C::Msg>>, parcel: &Parcel<C::Msg>)
     }
 }
 
-/// Returns whether the last stored parcel is a letter, and this one equals it.
 fn is_last<C: Exclusion>(kept: &[Parcel<C::Msg>], parcel: &Parcel<C::Msg>) -> bool
     ensures { IsTrue result → EndsWith parcel.now kept.now }
 {
@@ -141,7 +121,6 @@ fn is_last<C: Exclusion>(kept: &[Parcel<C::Msg>], parcel: &Parcel<C::Msg>) -> bo
     }
 }
 
-/// Appends a copy of the parcel. `kept` must have room for it.
 fn push<M: Copy>(kept: &mut Vec<Parcel<M>>, parcel: &Parcel<M>)
     requires { vec_len kept.old < vec_capacity kept.old }
     ensures items { kept.new.items ≡ kept.old.items ++ parcel.now ∷ [] }

@@ -22,7 +22,6 @@ use mx_trace::{Cause, Entry, Outcome};
 use std::alloc::{AllocError, Global};
 
 impl<C: Exclusion> Cluster<C> {
-    /// Applies one event, and adds it to the trace with its outcome.
     pub(crate) fn apply(&mut self, event: Event) -> Result<(), StepFault>
         ensures { IsStep C.core event self.old self.new result }
     {
@@ -32,8 +31,6 @@ impl<C: Exclusion> Cluster<C> {
         }
     }
 
-    /// Delivers the parcel of this number to its addressee. Memory is reserved before anything
-    /// changes; `Memory` is returned only if the parcel was sent.
     fn deliver(&mut self, number: u64) -> Result<(), StepFault>
         ensures { IsStep C.core (Event.Deliver number) self.old self.new result }
     {
@@ -58,8 +55,6 @@ impl<C: Exclusion> Cluster<C> {
         }
     }
 
-    /// Applies an event that a node does by itself: any but a delivery. Memory is reserved before
-    /// anything changes.
     fn act(&mut self, event: &Event) -> Result<(), StepFault>
         requires { IsByItself event.now }
         ensures { IsStep C.core event.now self.old self.new result }
@@ -81,7 +76,6 @@ impl<C: Exclusion> Cluster<C> {
     }
 }
 
-/// Creates an idle member for each node of the shape, in order of node numbers.
 pub(crate) fn start_members<C: Exclusion>(
     alloc: Global,
     shape: &C::Shape,
@@ -108,8 +102,6 @@ pub(crate) fn start_members<C: Exclusion>(
     Ok(members)
 }
 
-/// Returns the node of an event, in a cluster of `nodes` nodes. Returns `NoNode` for a `Want` whose
-/// second node does not exist, and `NoParcel` for a delivery.
 fn node_of(nodes: usize, event: &Event) -> Result<NodeId, StepFault>
     ensures { result ≡ own_node nodes event.now }
 {
@@ -120,8 +112,7 @@ fn node_of(nodes: usize, event: &Event) -> Result<NodeId, StepFault>
     }
 }
 
-/// Reserves memory for all that an event may add: the parcels of a full outbox, and an item of the
-/// trace.
+/// An event adds at most the parcels of a full outbox, and an item of the trace.
 fn reserve<C: Exclusion>(
     parcel_log: &mut ParcelLog<C>,
     trace: &mut Vec<Entry>,
@@ -135,8 +126,6 @@ fn reserve<C: Exclusion>(
     parcel_log.reserve(OUTBOX_ROOM)
 }
 
-/// Delivers a parcel that the member can take, so that only memory can be missing, and adds the
-/// delivery to the trace, which has room for it.
 fn take_and_note<C: Exclusion>(
     member: &mut Member<C>,
     number: u64,
@@ -165,8 +154,6 @@ fn take_and_note<C: Exclusion>(
     }
 }
 
-/// Applies an event other than a delivery to a member, and adds it to the trace, which has room for
-/// it.
 fn do_and_note<C: Exclusion>(
     member: &mut Member<C>,
     event: &Event,
@@ -208,7 +195,6 @@ fn do_and_note<C: Exclusion>(
     Ok(())
 }
 
-/// A member leaves, and that joins the trace. There is room for it.
 fn leave_and_note<C: Exclusion>(
     member: &mut Member<C>,
     event: &Event,
@@ -235,7 +221,6 @@ fn leave_and_note<C: Exclusion>(
     }
 }
 
-/// Adds an event with its outcome to the trace, which has room for it.
 #[inline(always)]
 fn note(trace: &mut Vec<Entry>, event: &Event, outcome: Outcome)
     requires { vec_len trace.old < vec_capacity trace.old }
@@ -248,7 +233,6 @@ fn note(trace: &mut Vec<Entry>, event: &Event, outcome: Outcome)
     });
 }
 
-/// Returns the outcome of the trace's newest item.
 pub(crate) fn newest(trace: &[Entry]) -> Outcome
     requires { 0 < length trace.now }
     ensures { (front : List Entry) (entry : Entry) → trace.now ≡ front ++ entry ∷ [] →

@@ -16,7 +16,6 @@ use Rattle.mx_nodelaws.specs.declared.phase.Phase.TheVariants.{Idle, Waiting, In
 
 -- the rows of an algorithm: H are its shapes, S the states of a node, and M its letters
 pub record Rows (H S M : Type 0) : Type 0 where
-  -- the number of nodes in a shape
   pub count : H → ℕ
   -- the state of a node that has just been started, from the shape, the node, the origin (the
   -- algorithm may count its stamps and grants, or its hops, on from it) and the limit (the greatest

@@ -1,4 +1,3 @@
--- A test of all nodes below n.
 use Rattle.std.specs.Prelude.{ℕ, zero, suc, Bool, true, ◌&&◌}
 
 -- whether all nodes below n pass

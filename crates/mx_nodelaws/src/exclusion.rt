@@ -1,5 +1,3 @@
-//! The interface of a mutual exclusion algorithm.
-
 ghost use Rattle.std.specs.Prelude.{◌≡◌, ◌<◌, ◌≤◌, ◌↔◌, [], IsTrue};
 
 use crate::faults::{AskFault, CancelFault, EnterFault, LeaveFault};

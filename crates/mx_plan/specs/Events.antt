@@ -34,7 +34,6 @@ have_form [] [] = true
 have_form (kind ∷ kinds) (d ∷ ds) = has_form kind d && have_form kinds ds
 have_form _ _ = false
 
--- the kind of event that a word names
 abbrev pub kind_in : Data → Option EventKind
 kind_in w = kind_named (text_of w)
 

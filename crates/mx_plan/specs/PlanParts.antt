@@ -15,7 +15,6 @@ use Rattle.mx_plan.specs.declared.algorithm.Algorithm.{Algorithm}
 use Rattle.mx_plan.specs.declared.faults.PlanFault.{PlanFault}
 use Rattle.mx_plan.specs.declared.faults.PlanFault.TheVariants.{BadShape, Memory}
 
--- the names of the nodes, and of the registers
 abbrev pub both_names : Data → Result (List Text × List Text) PlanFault
 both_names d =
     and_then (names_of MAX_NODES place.Nodes (get (codes "nodes") d))
@@ -50,7 +49,6 @@ abbrev pub SettingAnswers : ℕ → Result (ℕ × ℕ × PlannedShape) PlanFaul
     → Result (ℕ × ℕ × Shape) PlanFault → Type 0
 SettingAnswers n wanted r = IsSettingOutcome n wanted r ⊎ (r ≡ Err Memory)
 
--- the plan with these names and this setting
 abbrev pub plan_of : List Text → List Text → ℕ → ℕ → Shape → Fields
 plan_of nodes registers sections origin shape =
     record {

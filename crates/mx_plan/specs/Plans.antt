@@ -22,7 +22,6 @@ use Rattle.mx_plan.specs.declared.faults.PlanFault.TheVariants.{NotPlan, BadShap
 
 -- ---- the keys
 
--- the algorithm that a word names
 abbrev pub algorithm_named : Text → Result Algorithm PlanFault
 algorithm_named word =
     if bytes_eq word (codes "ricart") then Ok Ricart
@@ -30,7 +29,6 @@ algorithm_named word =
     else if bytes_eq word (codes "raymond") then Ok Raymond
     else Err (NotPlan place.Algorithm)
 
--- the algorithm that a plan names
 abbrev pub algorithm_of : Data → Result Algorithm PlanFault
 algorithm_of d =
     option_map_or algorithm_named (option_and_then as_str (get (codes "algorithm") d))

@@ -37,7 +37,6 @@ edge_of nodes d = ends_of nodes (list_in d)
 abbrev pub edges_from : List Text → List Data → Result (List (ℕ × ℕ)) PlanFault
 edges_from nodes ds = if list_all is_edge ds then each (edge_of nodes) ds else no_edges
 
--- the edges that the value of a key lists
 abbrev pub edges_of : List Text → Option Data → Result (List (ℕ × ℕ)) PlanFault
 edges_of nodes d = option_map_or (edges_from nodes) (array_of d) no_edges
 
@@ -46,6 +45,5 @@ abbrev pub holder_from : List Text → Data → Result ℕ PlanFault
 holder_from nodes d =
     if is_name_value d then number_in place.Holder nodes d else Err (NotPlan place.Holder)
 
--- the node that the value of a key names
 abbrev pub holder_of : List Text → Option Data → Result ℕ PlanFault
 holder_of nodes d = option_map_or (holder_from nodes) d (Err (NotPlan place.Holder))

@@ -46,7 +46,6 @@ each_from f k (x ∷ xs) =
 abbrev pub each : {A B : Type 0} → (A → Result B PlanFault) → List A → Result (List B) PlanFault
 each f xs = each_from (λ _. f) 0 xs
 
--- whether the value is an object
 abbrev pub is_object : Data → Bool
 is_object d = is_some (as_object d)
 

@@ -1,5 +1,3 @@
-//! The algorithms that a plan may name.
-
 ghost use Rattle.std.specs.Prelude.{◌≡◌};
 ghost use Rattle.serde_json.specs.View.{view};
 ghost use Rattle.mx_plan.specs.Plans as spec;
@@ -19,11 +17,6 @@ pub enum Algorithm {
     Raymond,
 }
 
-/// Returns the algorithm that a word names.
-///
-/// # Errors
-///
-/// Returns `NotPlan` if the word names no algorithm.
 fn named(word: &str) -> Result<Algorithm, PlanFault>
     ensures { result ≡ spec.algorithm_named word.now }
 {

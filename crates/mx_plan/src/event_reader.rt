@@ -1,5 +1,3 @@
-//! Reading events.
-
 ghost use Rattle.std.specs.Prelude.{◌≡◌, ◌≤◌, ◌∷◌, IfErr, IfOk, IsTrue, Err, Ok, length, map};
 ghost use Rattle.serde_json.specs.View.{view};
 ghost use Rattle.mx_plan.specs.Values.{Gives};
@@ -36,7 +34,6 @@ pub fn read_events(alloc: Global, text: &[u8], plan: &Plan) -> Result<Vec<Event>
     events_in(alloc, &value, plan)
 }
 
-/// Reads the events that a JSON value lists: an array of at most 1,000,000.
 fn events_in(alloc: Global, value: &Value, plan: &Plan) -> Result<Vec<Event>, PlanFault>
     ensures { Gives (spec.events_of plan.now (view value.now)) result }
 {
@@ -49,7 +46,6 @@ fn events_in(alloc: Global, value: &Value, plan: &Plan) -> Result<Vec<Event>, Pl
     }
 }
 
-/// Reads each of the values as an event, in order.
 fn each_event(alloc: Global, values: &[Value], plan: &Plan) -> Result<Vec<Event>, PlanFault>
     ensures { Gives (spec.events_from plan.now 0 (map view values.now)) result }
 {
@@ -63,7 +59,6 @@ fn each_event(alloc: Global, values: &[Value], plan: &Plan) -> Result<Vec<Event>
     Ok(events)
 }
 
-/// Reads event `k` of the list from its JSON value: an array of a word and arguments.
 #[tactic(auto, unfolding(crate::specs::Events::event_of))]
 fn event_in(plan: &Plan, value: &Value, k: u64) -> Result<Event, PlanFault>
     ensures { result ≡ spec.event_of plan.now k (view value.now) }
@@ -93,7 +88,6 @@ fn event_with(plan: &Plan, kind: EventKind, values: &[Value], k: u64) -> Result<
     }
 }
 
-/// Returns whether there are as many values as argument kinds, each value in the form of its kind.
 fn have_form(kinds: &[ArgumentKind], values: &[Value]) -> bool
     ensures { result ≡ spec.have_form kinds.now (map view values.now) }
 {
@@ -108,8 +102,6 @@ fn have_form(kinds: &[ArgumentKind], values: &[Value]) -> bool
     true
 }
 
-/// Returns whether a value has the form of an argument of this kind: a name for a node or a
-/// register, and a `u64` otherwise.
 fn has_form(kind: ArgumentKind, value: &Value) -> bool
     ensures { result ≡ spec.has_form kind (view value.now) }
 {
@@ -121,7 +113,6 @@ fn has_form(kind: ArgumentKind, value: &Value) -> bool
     }
 }
 
-/// Reads the values as the arguments of event `k`, which are of these kinds.
 fn arguments_in(
     plan: &Plan,
     kinds: &[ArgumentKind],
@@ -143,7 +134,6 @@ fn arguments_in(
     Ok(arguments)
 }
 
-/// Reads a value as an argument of event `k`, which is of this kind.
 fn argument_in(
     plan: &Plan,
     kind: ArgumentKind,
@@ -164,7 +154,6 @@ fn argument_in(
     }
 }
 
-/// Returns the plan's node with this name, or `UnknownName` at event `k`.
 fn node_in(plan: &Plan, name: &Value, k: u64) -> Result<NodeId, PlanFault>
     ensures { result ≡ number_in (place.Event k) plan.now.nodes (view name.now) }
 {
@@ -174,7 +163,6 @@ fn node_in(plan: &Plan, name: &Value, k: u64) -> Result<NodeId, PlanFault>
     }
 }
 
-/// Returns the number of the plan's register with this name, or `UnknownName` at event `k`.
 fn register_in(plan: &Plan, name: &Value, k: u64) -> Result<u8, PlanFault>
     ensures { result ≡ number_in (place.Event k) plan.now.registers (view name.now) }
 {

@@ -92,7 +92,6 @@ impl From<ShapeFault> for PlanFault {
     }
 }
 
-/// A fault of arbiter sets, as it is printed.
 #[derive(Clone, Copy)]
 struct QuorumText(QuorumFault);
 
@@ -130,7 +129,6 @@ impl fmt::Display for QuorumText {
     }
 }
 
-/// A fault of a tree, as it is printed.
 #[derive(Clone, Copy)]
 struct TreeText(TreeFault);
 

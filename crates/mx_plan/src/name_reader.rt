@@ -1,5 +1,3 @@
-//! Reading lists of names, and the numbers of names.
-
 ghost use Rattle.std.specs.Prelude.{◌≡◌, ◌<◌, ◌≤◌, IfOk, map, option_map, length};
 ghost use Rattle.std.specs.List.{list_all};
 ghost use Rattle.serde_json.specs.View.{view};
@@ -38,7 +36,6 @@ pub fn names_at(
     }
 }
 
-/// Returns whether there are 1 to `most` values, each a name.
 fn are_names(values: &[Value], most: usize) -> bool
     ensures { result ≡ spec.are_names most (map view values.now) }
 {
@@ -46,7 +43,6 @@ fn are_names(values: &[Value], most: usize) -> bool
     1 <= len && len <= most && all_names(values)
 }
 
-/// Returns whether each value is a name.
 fn all_names(values: &[Value]) -> bool
     ensures { result ≡ list_all spec.is_name_value (map view values.now) }
 {
@@ -58,7 +54,6 @@ fn all_names(values: &[Value]) -> bool
     true
 }
 
-/// Returns these values as names, or `DoubleName` with `place` if two are equal.
 fn distinct_names(alloc: Global, values: &[Value], place: Place) -> Result<Names, PlanFault>
     ensures { Answers (spec.distinct_names place (map text_of (map view values.now))) result }
 {

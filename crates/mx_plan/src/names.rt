@@ -1,4 +1,3 @@
-//! Names in the order of the plan, and their numbers.
 ghost use Rattle.std.specs.Prelude.{◌≡◌, ℕ, ◌++◌, ◌∷◌, ◌≤◌, ◌<◌, ◌↔◌, [], List, length, map, not, true, position, slice_get, option_map, string_bytes, IfOk, OnErr, IfSome, IsSome};
 ghost use Rattle.std.specs.List.{list_all, list_any};
 ghost use Rattle.std.specs.Str.{bytes_eq};
@@ -78,14 +77,12 @@ pub fn is_name(text: &str) -> bool
     has_name_bytes(bytes)
 }
 
-/// Returns whether each byte may be in a name.
 fn has_name_bytes(bytes: &[u8]) -> bool
     ensures { result ≡ list_all is_name_byte bytes.now }
 {
     bytes.iter().all(|b| is_name_byte(*b))
 }
 
-/// Returns whether a byte may be in a name: an ASCII letter, a digit, `_` or `-`.
 #[tactic(auto, unfolding(crate::specs::Text::is_name_byte))]
 fn is_name_byte(b: u8) -> bool
     ensures { result ≡ is_name_byte b }

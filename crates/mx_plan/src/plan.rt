@@ -1,5 +1,3 @@
-//! A plan.
-
 ghost use Rattle.std.specs.Prelude.{◌≡◌, ◌<◌, ◌≤◌, IfSome, length, option_map, slice_get};
 ghost use Rattle.mx_plan.specs.Text.{AreNames};
 ghost use Rattle.mx_plan.specs.Fields.{node_of, register_of, IsShape};
@@ -46,7 +44,6 @@ impl Model for Plan {
 }
 
 impl Plan {
-    /// Creates the plan with these parts.
     pub(crate) fn of(
         nodes: Names,
         registers: Names,

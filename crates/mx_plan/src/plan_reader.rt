@@ -1,5 +1,3 @@
-//! Reading a plan.
-
 ghost use Rattle.std.specs.Prelude.{◌≡◌, ◌⊎◌, ◌≤◌, Err, IfOk, codes, length};
 ghost use Rattle.serde_json.specs.Find.{get};
 ghost use Rattle.serde_json.specs.View.{view};
@@ -42,7 +40,6 @@ pub fn read_plan(alloc: Global, text: &[u8]) -> Result<Plan, PlanFault>
     plan_in(alloc, &value)
 }
 
-/// Reads a plan from its JSON value.
 fn plan_in(alloc: Global, value: &Value) -> Result<Plan, PlanFault>
     ensures answers { spec.IsOutcome (spec.draft_of (view value.now)) result
         ⊎ (result ≡ Err PlanFault.Memory) }
@@ -58,7 +55,6 @@ fn plan_in(alloc: Global, value: &Value) -> Result<Plan, PlanFault>
     ))
 }
 
-/// Reads the names of a plan's nodes and of its registers.
 fn both_names(alloc: Global, value: &Value) -> Result<(Names, Names), PlanFault>
     ensures answers { Answers (part.both_names (view value.now)) result }
     ensures nodes { IfOk result (λ names. AreNames MAX_NODES names.0) }
@@ -93,7 +89,6 @@ fn setting_in(
     shape_in(alloc, algorithm, value, nodes).map(|shape| (sections, origin, shape))
 }
 
-/// Returns the greatest section number of a plan: the value of its key `sections`, 1 to 1,000,000.
 fn sections_in(value: &Value) -> Result<u64, PlanFault>
     ensures value { result
         ≡ spec.in_range Place.Sections (number_of (get (codes "sections") (view value.now))) }
@@ -106,8 +101,6 @@ fn sections_in(value: &Value) -> Result<u64, PlanFault>
     }
 }
 
-/// Returns the origin of a plan, from which stamps, grants and hops count on: the value of its key
-/// `origin`, or 0 if the key is missing.
 fn origin_in(value: &Value) -> Result<u64, PlanFault>
     ensures { result ≡ spec.origin_of (get (codes "origin") (view value.now)) }
 {
@@ -117,7 +110,6 @@ fn origin_in(value: &Value) -> Result<u64, PlanFault>
     origin.as_u64().ok_or(PlanFault::NotPlan(Place::Origin))
 }
 
-/// Reads the shape that a plan for `algorithm` gives its nodes.
 fn shape_in(
     alloc: Global,
     algorithm: Algorithm,

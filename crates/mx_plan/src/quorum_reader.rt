@@ -1,5 +1,3 @@
-//! Reading the arbiter sets of a plan for Maekawa's algorithm.
-
 ghost use Rattle.std.specs.Prelude.{◌≡◌, ◌*◌, ◌<◌, ◌≤◌, ◌==◌, IfOk, map, option_map, length};
 ghost use Rattle.std.specs.List.{list_all};
 ghost use Rattle.serde_json.specs.View.{view};
@@ -36,7 +34,6 @@ pub fn quorums_in(alloc: Global, value: Option<&Value>, nodes: &Names) -> Result
     }
 }
 
-/// Reads the arbiter sets that a value describes, by its key `kind`.
 fn quorums_from(alloc: Global, value: &Value, nodes: &Names) -> Result<Shape, PlanFault>
     requires { AreNames MAX_NODES nodes.now }
     ensures { ShapeAnswers (length nodes.now)
@@ -48,8 +45,6 @@ fn quorums_from(alloc: Global, value: &Value, nodes: &Names) -> Result<Shape, Pl
     }
 }
 
-/// Reads arbiter sets of this kind from the other keys of `value`. A kind is `plane`, `grid` or
-/// `listed`.
 fn of_kind(alloc: Global, kind: &str, value: &Value, nodes: &Names) -> Result<Shape, PlanFault>
     requires { AreNames MAX_NODES nodes.now }
     ensures { ShapeAnswers (length nodes.now)
@@ -68,8 +63,6 @@ fn of_kind(alloc: Global, kind: &str, value: &Value, nodes: &Names) -> Result<Sh
     }
 }
 
-/// Returns the arbiter sets of a grid. Returns `NotPlan` unless rows times columns is the number of
-/// nodes.
 fn grid_in(nodes: u8, rows: Option<u64>, cols: Option<u64>) -> Result<Shape, PlanFault>
     requires some { 0 < nodes }
     requires few { nodes ≤ MAX_NODES }
@@ -83,14 +76,12 @@ fn grid_in(nodes: u8, rows: Option<u64>, cols: Option<u64>) -> Result<Shape, Pla
     }
 }
 
-/// Returns whether rows times columns is the number of nodes.
 fn is_size(nodes: u8, rows: u64, cols: u64) -> bool
     ensures { result ≡ (rows * cols == nodes) }
 {
     rows.checked_mul(cols) == Some(u64::from(nodes))
 }
 
-/// Reads the arbiter sets that the value of the key `sets` lists, one for each node.
 fn sets_in(alloc: Global, value: Option<&Value>, nodes: &Names) -> Result<Shape, PlanFault>
     requires { AreNames MAX_NODES nodes.now }
     ensures { ShapeAnswers (length nodes.now)
@@ -102,14 +93,12 @@ fn sets_in(alloc: Global, value: Option<&Value>, nodes: &Names) -> Result<Shape,
     }
 }
 
-/// Returns whether the values are arrays of names, and as many as nodes.
 fn are_sets(values: &[Value], nodes: usize) -> bool
     ensures { result ≡ spec.are_sets nodes (map view values.now) }
 {
     values.len() == nodes && all_name_lists(values)
 }
 
-/// Returns whether each value is an array of names.
 fn all_name_lists(values: &[Value]) -> bool
     ensures { result ≡ list_all is_name_list (map view values.now) }
 {
@@ -121,7 +110,6 @@ fn all_name_lists(values: &[Value]) -> bool
     true
 }
 
-/// Reads arbiter sets from these arrays of names, one for each node.
 fn family_of(alloc: Global, values: &[Value], nodes: &Names) -> Result<Shape, PlanFault>
     requires few { length nodes.now ≤ MAX_NODES }
     requires one_each { length values.now ≡ length nodes.now }
@@ -132,7 +120,6 @@ fn family_of(alloc: Global, values: &[Value], nodes: &Names) -> Result<Shape, Pl
     Ok(Shape::listed(nodes.len() as u8, sets.as_slice())?)
 }
 
-/// Returns, for each of these arrays of names, the numbers of the nodes in it.
 fn all_sets(alloc: Global, values: &[Value], nodes: &Names) -> Result<Vec<Vec<u8>>, PlanFault>
     requires { length nodes.now ≤ MAX_NODES }
     ensures sets { spec.GivesSets (each (spec.set_of nodes.now) (map view values.now)) result }

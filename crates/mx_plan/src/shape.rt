@@ -1,5 +1,3 @@
-//! The shape of a cluster.
-
 ghost use Rattle.std.specs.Prelude.{◌≡◌, ◌*◌, ◌<◌, ◌≤◌, length};
 ghost use Rattle.mx_quorums.specs.Lists.{lists_of};
 ghost use Rattle.mx_plan.specs.Shapes.{IsShaped};
@@ -24,7 +22,6 @@ pub enum Shape {
 }
 
 impl Shape {
-    /// Creates the shape in which each of `n` nodes asks all others.
     pub(crate) fn all_others(n: u8) -> Shape
         requires some { 0 < n }
         requires few { n ≤ MAX_NODES }
@@ -33,16 +30,12 @@ impl Shape {
         Shape::Ricart(Count::of(n).unwrap())
     }
 
-    /// Creates the arbiter sets of the projective plane of `n` nodes, or fails if `n` is not 7, 13
-    /// or 21.
     pub(crate) fn plane(n: u8) -> Result<Shape, ShapeFault>
         ensures { IsShaped n shape_planned.plane result }
     {
         Ok(Shape::Maekawa(Quorums::plane(n)?))
     }
 
-    /// Creates the arbiter sets of a grid of `n` nodes with these rows and columns. The set of a
-    /// node is its row and its column.
     pub(crate) fn grid(n: u8, rows: u8, cols: u8) -> Result<Shape, ShapeFault>
         requires some { 0 < n }
         requires few { n ≤ MAX_NODES }
@@ -52,7 +45,6 @@ impl Shape {
         Ok(Shape::Maekawa(Quorums::grid(rows, cols)?))
     }
 
-    /// Creates the shape with these arbiter sets, one for each of `n` nodes, in order.
     pub(crate) fn listed(n: u8, sets: &[Vec<u8>]) -> Result<Shape, ShapeFault>
         requires { length sets.now ≡ n }
         ensures { IsShaped n (shape_planned.listed (lists_of sets.now)) result }
@@ -60,7 +52,6 @@ impl Shape {
         Ok(Shape::Maekawa(Quorums::listed(sets)?))
     }
 
-    /// Creates the tree of `n` nodes with these edges. The privilege is with `holder` at the start.
     pub(crate) fn tree(n: u8, edges: &[(u8, u8)], holder: u8) -> Result<Shape, ShapeFault>
         ensures { IsShaped n (shape_planned.tree edges.now holder) result }
     {

@@ -1,5 +1,3 @@
-//! Reading the tree of a plan for Raymond's algorithm.
-
 ghost use Rattle.std.specs.Prelude.{◌≡◌, ◌≤◌, map, option_map, length};
 ghost use Rattle.std.specs.List.{list_all};
 ghost use Rattle.serde_json.specs.View.{view};
@@ -46,7 +44,6 @@ fn edges_in(alloc: Global, value: Option<&Value>, nodes: &Names) -> Result<Vec<(
     }
 }
 
-/// Returns whether each value is an array of two names.
 fn all_edges(values: &[Value]) -> bool
     ensures { result ≡ list_all spec.is_edge (map view values.now) }
 {
@@ -58,7 +55,6 @@ fn all_edges(values: &[Value]) -> bool
     true
 }
 
-/// Returns whether a value is an array of two names.
 #[tactic(auto, unfolding(crate::specs::TreeKeys::is_edge))]
 fn is_edge(value: &Value) -> bool
     ensures { result ≡ spec.is_edge (view value.now) }
@@ -69,7 +65,6 @@ fn is_edge(value: &Value) -> bool
     }
 }
 
-/// Returns the numbers of the two nodes that each edge joins, in order.
 fn each_edge(alloc: Global, values: &[Value], nodes: &Names) -> Result<Vec<(u8, u8)>, PlanFault>
     requires { length nodes.now ≤ MAX_NODES }
     ensures { Gives (each (spec.edge_of nodes.now) (map view values.now)) result }
@@ -82,7 +77,6 @@ fn each_edge(alloc: Global, values: &[Value], nodes: &Names) -> Result<Vec<(u8, 
     Ok(edges)
 }
 
-/// Returns the numbers of the two nodes that an edge joins.
 fn edge_in(value: &Value, nodes: &Names) -> Result<(u8, u8), PlanFault>
     requires { length nodes.now ≤ MAX_NODES }
     ensures { result ≡ spec.edge_of nodes.now (view value.now) }
@@ -97,7 +91,6 @@ fn edge_in(value: &Value, nodes: &Names) -> Result<(u8, u8), PlanFault>
     }
 }
 
-/// Returns the number of the node that the value of the key `holder` names.
 fn holder_in(value: Option<&Value>, nodes: &Names) -> Result<u8, PlanFault>
     requires { length nodes.now ≤ MAX_NODES }
     ensures { result ≡ spec.holder_of nodes.now (option_map (λ v. view v.now) value.entry) }

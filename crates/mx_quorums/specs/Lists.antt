@@ -27,7 +27,6 @@ IsCounted lists = (0 < length lists) × (length lists ≤ MAX_NODES)
 abbrev pub NoneEmpty : List (List ℕ) → Type 0
 NoneEmpty lists = (i : ℕ) → i < length lists → list_of lists i ≢ []
 
--- each member is a node
 abbrev pub AllNodes : List (List ℕ) → Type 0
 AllNodes lists = (i j : ℕ) → i < length lists → IsListed lists i j → j < length lists
 
@@ -74,11 +73,9 @@ abbrev pub IsCountFault : ℕ → QuorumFault → Type 0
 IsCountFault count fault =
     ((fault ≡ NoNodes) × (count ≡ 0)) ⊎ ((fault ≡ TooMany) × (MAX_NODES < count))
 
--- the fault of the first empty list
 abbrev pub IsEmptyFault : List (List ℕ) → QuorumFault → Type 0
 IsEmptyFault lists fault = (i : ℕ) × (fault ≡ EmptySet i) × IsFirstEmpty lists i
 
--- the fault of the first member that is no node
 abbrev pub IsStrangerFault : List (List ℕ) → QuorumFault → Type 0
 IsStrangerFault lists fault =
     (i : ℕ) × (j : ℕ) × (fault ≡ Stranger i j) × IsFirstStranger lists i j

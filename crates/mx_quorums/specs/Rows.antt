@@ -6,7 +6,6 @@ use Rattle.mx_quorums.specs.Rules.{AllOwn, IsFirstNotOwn, IsFirstApart}
 use Rattle.mx_quorums.specs.declared.fault.QuorumFault.{QuorumFault}
 use Rattle.mx_quorums.specs.declared.fault.QuorumFault.TheVariants.{NotOwnMember, Apart}
 
--- node j is marked in the row
 abbrev pub IsMarked : List Bool → ℕ → Type 0
 IsMarked row j = slice_index_or row j false ≡ true
 
@@ -14,7 +13,6 @@ IsMarked row j = slice_index_or row j false ≡ true
 abbrev pub IsMember : List (List Bool) → ℕ → ℕ → Type 0
 IsMember rows i j = IsMarked (slice_index_or rows i []) j
 
--- both rows mark node k
 abbrev pub BothMark : List Bool → List Bool → ℕ → Type 0
 BothMark a b k = IsMarked a k × IsMarked b k
 

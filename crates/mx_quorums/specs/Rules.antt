@@ -9,7 +9,6 @@ IsLeast P n i = (i < n) × P i × ((k : ℕ) → k < i → P k → ⊥)
 abbrev pub Meet : (ℕ → ℕ → Type 0) → ℕ → ℕ → Type 0
 Meet In i j = (a : ℕ) × In i a × In j a
 
--- each node is in its own set
 abbrev pub AllOwn : (ℕ → ℕ → Type 0) → ℕ → Type 0
 AllOwn In n = (i : ℕ) → i < n → In i i
 

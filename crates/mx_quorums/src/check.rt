@@ -45,7 +45,6 @@ pub fn first_common(a: &Row, b: &Row) -> Option<NodeId>
     None
 }
 
-/// Returns the least node whose set has no node in common with that of node i.
 fn first_apart(nodes: u8, rows: &Rows, i: u8) -> Option<u8>
     requires few { nodes ≤ MAX_NODES }
     requires node { i < nodes }
@@ -61,11 +60,6 @@ fn first_apart(nodes: u8, rows: &Rows, i: u8) -> Option<u8>
     None
 }
 
-/// Checks that each node is in its own set.
-///
-/// # Errors
-///
-/// Returns `NotOwnMember` with the least node that is not.
 fn check_own(nodes: u8, rows: &Rows) -> Result<(), QuorumFault>
     requires { nodes ≤ MAX_NODES }
     ensures { MatchResult result
@@ -80,11 +74,6 @@ fn check_own(nodes: u8, rows: &Rows) -> Result<(), QuorumFault>
     Ok(())
 }
 
-/// Checks that any two sets meet.
-///
-/// # Errors
-///
-/// Returns `Apart` with the least pair of nodes whose sets do not meet.
 fn check_pairs(nodes: u8, rows: &Rows) -> Result<(), QuorumFault>
     requires few { nodes ≤ MAX_NODES }
     requires own { AllOwn (IsMember rows.now) nodes }

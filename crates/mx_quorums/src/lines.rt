@@ -7,7 +7,6 @@ ghost use Rattle.mx_quorums.specs.Shapes.{ShareLine, IsInLine};
 use crate::check::{Row, Rows};
 use mx_stamps::MAX_NODES;
 
-/// Returns whether nodes i and j are in the same row or in the same column.
 fn share_line(cols: u8, i: u8, j: u8) -> bool
     requires { 0 < cols }
     ensures { IsTrue result ↔ ShareLine cols i j }
@@ -15,7 +14,6 @@ fn share_line(cols: u8, i: u8, j: u8) -> bool
     i / cols == j / cols || i % cols == j % cols
 }
 
-/// Returns the row and the column of node i, as one set.
 fn lines_of(nodes: u8, cols: u8, i: u8) -> Row
     requires few { nodes ≤ MAX_NODES }
     requires some { 0 < cols }

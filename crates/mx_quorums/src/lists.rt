@@ -28,7 +28,6 @@ pub fn check_filled(sets: &[Vec<u8>]) -> Result<(), QuorumFault>
     Ok(())
 }
 
-/// Returns the first member that is no node.
 fn first_stranger(set: &[u8], nodes: u8) -> Option<u8>
     ensures { result ≡ find (nat_le nodes) set.now }
 {
@@ -56,7 +55,6 @@ pub fn check_members(sets: &[Vec<u8>], nodes: u8) -> Result<(), QuorumFault>
     Ok(())
 }
 
-/// Returns the row that marks the nodes of a list.
 fn row_of(set: &[u8]) -> Row
     requires { (j : ℕ) → IsIn j set.now → j < MAX_NODES }
     ensures { Marks result set.now }

@@ -1,5 +1,3 @@
-//! The family of arbiter sets.
-
 ghost use Rattle.std.specs.Prelude.{◌≡◌, ℕ, ◌*◌, ◌<◌, ◌≤◌, ◌↔◌, IsTrue, IsOk, IfOk, IfErr, IsErrOf};
 ghost use Rattle.mx_quorums.specs.Family.{Family, row_of, has_of, IsMeeting, IsWithin, IsCommon};
 ghost use Rattle.mx_quorums.specs.Rules.{IsLeast};
@@ -90,11 +88,6 @@ impl Quorums {
         Quorums::checked(n, plane_rows(n, differences))
     }
 
-    /// Creates the family of these sets, which contain only nodes.
-    ///
-    /// # Errors
-    ///
-    /// Returns `NotOwnMember` if a node is not in its own set, and `Apart` if two sets do not meet.
     fn checked(nodes: u8, rows: Rows) -> Result<Quorums, QuorumFault>
         requires some { 0 < nodes }
         requires few { nodes ≤ MAX_NODES }

@@ -23,7 +23,6 @@ pub fn differences(n: u8) -> Option<&'static [u8]>
     }
 }
 
-/// Returns node i plus each of the differences, modulo n, as one set.
 fn shifted(n: u8, differences: &[u8], i: u8) -> Row
     requires some { 0 < n }
     requires few { n ≤ MAX_NODES }

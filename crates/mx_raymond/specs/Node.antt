@@ -1,4 +1,3 @@
--- The state of a node.
 use Rattle.std.specs.Prelude.{ℕ, ◌≤◌, ◌≡◌, Bool, true, List, Option, Some}
 use Rattle.mx_stamps.specs.declared.limits.TheConstants.{MAX_SECTIONS}
 use Rattle.mx_nodelaws.specs.declared.phase.Phase.{Phase}
@@ -10,7 +9,6 @@ use Rattle.mx_raymond.specs.Queue.{is_queued}
 
 pub record Node : Type 0 where
   pub me : ℕ
-  -- the tree of the cluster
   pub tree : Rooted
   -- the greatest number that a section may have
   pub limit : ℕ

@@ -5,7 +5,6 @@ use Rattle.mx_stamps.specs.declared.limits.TheConstants.{MAX_NODES}
 use Rattle.mx_knowledge.specs.declared.fact.Item.{Item}
 use Rattle.mx_knowledge.specs.declared.fact.Item.TheVariants as item
 
--- whether this name is in the queue
 abbrev pub is_queued : List ℕ → ℕ → Bool
 is_queued queue node = list_any (nat_eq node) queue
 

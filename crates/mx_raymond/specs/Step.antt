@@ -239,7 +239,6 @@ request_again s = if s.has_asked && not (is_holder s) then (s.holder, Request s.
 abbrev pub tick_of : Node → NodeDone (Unit {0})
 tick_of s = sending s (privilege_again s.unacked ++ request_again s)
 
--- the whole table
 abbrev pub raymond_rows : Rows Rooted Node RaymondMsg
 raymond_rows = record {
   count = λ tree. tree.count;

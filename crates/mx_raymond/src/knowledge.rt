@@ -1,5 +1,3 @@
-//! The knowledge of a node, as it is shown.
-
 ghost use Rattle.std.specs.Prelude.{◌≡◌, ◌++◌, OnOk};
 ghost use Rattle.mx_raymond.specs.Knows.{asked_of, granted_of, permission_of, place_of, unacked_of};
 
@@ -26,7 +24,6 @@ impl Knowledge for Raymond {
 }
 
 impl Raymond {
-    /// Adds the place of the privilege.
     fn add_place(&self, facts: &mut Facts) -> Result<(), AllocError>
         ensures { OnOk result (facts.new ≡ facts.old ++ place_of self.now) }
     {
@@ -37,7 +34,6 @@ impl Raymond {
         }
     }
 
-    /// Adds `has asked` if the node sent a request towards the privilege and has not had it since.
     fn add_asked(&self, facts: &mut Facts) -> Result<(), AllocError>
         ensures { OnOk result (facts.new ≡ facts.old ++ asked_of self.now) }
     {
@@ -48,7 +44,6 @@ impl Raymond {
         }
     }
 
-    /// Adds where the node sent the privilege last, and its hop, until that is acknowledged.
     fn add_unacked(&self, facts: &mut Facts) -> Result<(), AllocError>
         ensures { OnOk result (facts.new ≡ facts.old ++ unacked_of self.now.unacked) }
     {
@@ -60,7 +55,6 @@ impl Raymond {
         }
     }
 
-    /// Adds that a waiting node may enter, if it may.
     fn add_permission(&self, facts: &mut Facts) -> Result<(), AllocError>
         ensures { OnOk result (facts.new ≡ facts.old ++ permission_of self.now) }
     {
@@ -70,7 +64,6 @@ impl Raymond {
         }
     }
 
-    /// Adds that the node has the permission to enter, if it has.
     fn add_granted(&self, facts: &mut Facts) -> Result<(), AllocError>
         ensures { OnOk result (facts.new ≡ facts.old ++ granted_of self.now) }
     {

@@ -1,5 +1,3 @@
-//! The queue of a node.
-
 ghost use Rattle.std.specs.Prelude.{ℕ, ◌≡◌, false, [], ◌∷◌, ◌++◌, Some, IfOk};
 ghost use Rattle.mx_raymond.specs.Queue.{is_queued, is_empty, head_of, rest_of, joined, queue_items, without};
 

@@ -99,14 +99,12 @@ impl Raymond {
     ghost use Rattle.mx_letters.specs.declared.outbox.TheConstants.{OUTBOX_ROOM};
     ghost use Rattle.mx_raymond.specs.Step.{is_holder, HasPermission, has_permission, assign_privilege, make_request, withdrawing, privilege_again, request_again, is_neighbour, take_request, take_privilege, take_got};
 
-    /// Returns whether the node has the privilege.
     pub(crate) fn is_holder(&self) -> bool
         ensures { result ≡ is_holder self.now }
     {
         self.holder.get() == self.me.get()
     }
 
-    /// Returns whether the node has the privilege and heads its own queue.
     pub(crate) fn has_permission(&self) -> bool
         ensures value { result ≡ has_permission self.now }
         ensures all { IsTrue result ↔ HasPermission self.now }
@@ -168,7 +166,6 @@ impl Raymond {
         self.make_request(out);
     }
 
-    /// Withdraws the request: the node leaves its own queue, and becomes idle.
     pub(crate) fn withdraw(&mut self)
         ensures { self.new ≡ withdrawing self.old }
     {
@@ -176,7 +173,6 @@ impl Raymond {
         self.phase = Phase::Idle;
     }
 
-    /// Sends the latest privilege again, while its arrival is not acknowledged.
     pub(crate) fn send_again(&self, out: &mut Outbox<RaymondMsg>)
         requires { out.old ≡ [] }
         ensures letters { out.new ≡ privilege_again self.now.unacked }
@@ -187,7 +183,6 @@ impl Raymond {
         }
     }
 
-    /// Sends the latest request again, while the privilege has not come.
     pub(crate) fn request_again(&self, out: &mut Outbox<RaymondMsg>)
         requires { length out.old < OUTBOX_ROOM }
         ensures { out.new ≡ out.old ++ request_again self.now }
@@ -197,7 +192,6 @@ impl Raymond {
         }
     }
 
-    /// Returns whether this node is a neighbour.
     pub(crate) fn is_neighbour(&self, node: NodeId) -> bool
         ensures value { result ≡ is_neighbour self.now node }
         ensures other { result ≡ true → node ≢ self.now.me }
@@ -205,7 +199,6 @@ impl Raymond {
         self.tree.neighbours(self.me, node)
     }
 
-    /// Takes a request of a neighbour.
     pub(crate) fn take_request(&mut self, from: NodeId, number: u64, out: &mut Outbox<RaymondMsg>)
         requires empty { out.old ≡ [] }
         requires other { from ≢ self.old.me }
@@ -248,7 +241,6 @@ impl Raymond {
         }
     }
 
-    /// Takes the acknowledgement of a neighbour that a privilege has arrived.
     pub(crate) fn take_got(&mut self, from: NodeId, hop: u64)
         ensures { self.new ≡ (take_got from hop self.old).state }
     {

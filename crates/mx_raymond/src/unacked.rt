@@ -1,5 +1,3 @@
-//! A privilege whose arrival is not acknowledged yet.
-
 use mx_stamps::NodeId;
 
 /// The privilege that a node sent last, while its arrival is not acknowledged.

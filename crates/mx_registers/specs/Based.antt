@@ -15,7 +15,6 @@ abbrev pub shown_cell : Cell → Content
 shown_cell cell =
     if nat_eq cell.number 0 then blank else record { value = cell.value; by = Some cell.number }
 
--- the contents of the register in a base
 abbrev pub cell_in : ℕ → BaseState → Content
 cell_in register base = shown_cell (get_or base.cells register unwritten)
 

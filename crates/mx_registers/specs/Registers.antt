@@ -15,7 +15,6 @@ use Rattle.mx_registers.specs.declared.contents.Content.{Content}
 abbrev pub written : ℕ → Record → Option ℕ
 written register entry = last_value register entry.writes.items
 
--- no record writes the register
 abbrev pub IsUnwritten : ℕ → List Record → Type 0
 IsUnwritten register records = (x : Record) → IsIn x records → written register x ≡ None
 
@@ -46,7 +45,6 @@ AreHeld records contents =
 abbrev pub HaveSameMembers : List Record → List Record → Type 0
 HaveSameMembers xs ys = IsSubmap xs ys × IsSubmap ys xs
 
--- a register that no section wrote
 abbrev pub blank : Content
 blank = record { value = 0; by = None }
 
@@ -62,11 +60,9 @@ after_write n None content = content
 after_write n (Some value) content =
     if nat_le (number_by content.by) n then record { value = value; by = Some n } else content
 
--- a register after one more record
 abbrev pub after_record : ℕ → Record → Content → Content
 after_record register entry content = after_write entry.number (written register entry) content
 
--- a register after these records, one by one
 abbrev pub after_records : ℕ → List Record → Content → Content
 after_records register [] content = content
 after_records register (x ∷ xs) content =
@@ -80,7 +76,6 @@ register_of register records = after_records register records blank
 abbrev pub registers_of : ℕ → List Record → List Content
 registers_of count records = each_below (λ register. register_of register records) count
 
--- each register after one more record
 abbrev pub with_taken : Record → List Content → List Content
 with_taken entry contents =
     each_below (λ register. after_record register entry (get_or contents register blank))
@@ -107,7 +102,6 @@ applied register [] value = value
 applied register (w ∷ ws) value =
     applied register ws (if nat_eq w.register register then w.value else value)
 
--- the writes of the record; none if there is no record
 abbrev pub writes_of : Option Record → List Write
 writes_of None = []
 writes_of (Some entry) = entry.writes.items

@@ -1,5 +1,3 @@
-//! The contents of a register: its value, and the section that wrote it.
-
 ghost use Rattle.std.specs.Prelude.{ℕ, ◌≡◌, ◌<◌, length, get_or};
 ghost use Rattle.mx_journal.specs.Drafted.{last_value};
 ghost use Rattle.mx_journal.specs.Written.{after_one};
@@ -18,10 +16,8 @@ pub struct Content {
     pub by: Option<u64>,
 }
 
-/// A register that no section wrote.
 pub(crate) const BLANK: Content = Content { value: 0, by: None };
 
-/// Returns the contents in a base's cell, whose number is 0 if no section wrote it.
 pub(crate) fn shown_cell(cell: Cell) -> Content
     ensures { result ≡ shown_cell cell }
 {
@@ -34,7 +30,6 @@ pub(crate) fn shown_cell(cell: Cell) -> Content
     }
 }
 
-/// Applies the writes of section `number` to the registers, in order.
 pub(crate) fn write_all(contents: &mut [Content], number: u64, writes: &[Write])
     ensures { (register : ℕ) → register < length contents.old
         → get_or contents.new register blank
@@ -45,8 +40,6 @@ pub(crate) fn write_all(contents: &mut [Content], number: u64, writes: &[Write])
     }
 }
 
-/// Applies one write of section `number`, unless its register does not exist or a section with a
-/// greater number wrote that register.
 fn put(contents: &mut [Content], number: u64, write: Write)
     ensures { (register : ℕ) → register < length contents.old
         → get_or contents.new register blank

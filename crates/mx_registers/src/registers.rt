@@ -1,5 +1,3 @@
-//! A view of the registers: their contents after some records of sections.
-
 ghost use Rattle.std.specs.Prelude.{ℕ, ◌≡◌, ◌≤◌, List, [], ◌∷◌, ◌++◌, length};
 ghost use Rattle.mx_journal.specs.declared.records.Record.{Record};
 ghost use Rattle.mx_journal.specs.Agreement.{AgreesWith};
@@ -14,7 +12,6 @@ use mx_journal::{Base, Record};
 use mx_stamps::MAX_REGISTERS;
 use std::marker::Model;
 
-/// The greatest number of registers in a view.
 const ROOM: usize = MAX_REGISTERS as usize;
 
 /// The contents of some registers, numbered from 0, after the records that were applied. Each
@@ -48,8 +45,6 @@ impl View {
         View { contents }
     }
 
-    /// Creates a view of the first `count` (1 to 32) registers after the sections that the base
-    /// covers.
     pub(crate) fn at(base: &Base, count: u8) -> View
         requires least { 1 ≤ count }
         requires most { count ≤ MAX_REGISTERS }

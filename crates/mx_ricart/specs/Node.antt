@@ -1,11 +1,9 @@
--- The state of a node.
 use Rattle.std.specs.Prelude.{ℕ, Bool, List, Option}
 use Rattle.mx_stamps.specs.declared.stamp.Stamp.{Stamp}
 use Rattle.mx_nodelaws.specs.declared.phase.Phase.{Phase}
 
 pub record Node : Type 0 where
   pub me : ℕ
-  -- the number of nodes in the cluster
   pub count : ℕ
   -- the greatest number that a section may have
   pub limit : ℕ

@@ -95,13 +95,11 @@ abbrev pub later_of : Option Stamp → Stamp → Stamp
 later_of None stamp = stamp
 later_of (Some old) stamp = if is_before_of old stamp then stamp else old
 
--- the reply to the request is deferred
 abbrev pub deferring : Node → Stamp → Node
 deferring s stamp = record s {
   deferred = slice_set s.deferred stamp.node (Some (later_of (deferred_at s stamp.node) stamp));
 }
 
--- the reply to the request is sent
 abbrev pub replied : Node → Stamp → Done Node (Unit {0}) RicartMsg
 replied s stamp = sending s ((stamp.node, Reply stamp s.top) ∷ [])
 
@@ -166,7 +164,6 @@ ticked s = sending s (addressed (request_missing s) s.count)
 abbrev pub tick_of : Node → Done Node (Unit {0}) RicartMsg
 tick_of s = if is_waiting s.phase then ticked s else becoming s
 
--- the whole table
 abbrev pub ricart_rows : Rows ℕ Node RicartMsg
 ricart_rows = record {
   count = λ count. count;

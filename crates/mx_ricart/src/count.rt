@@ -1,5 +1,3 @@
-//! The number of nodes in a cluster.
-
 ghost use Rattle.std.specs.Prelude.{◌≡◌, ◌<◌, ◌≤◌, ◌↔◌, IsSome, IfSome};
 
 use mx_stamps::MAX_NODES;

@@ -1,5 +1,3 @@
-//! The knowledge of a node, as it is shown.
-
 ghost use Rattle.std.specs.Prelude.{◌≡◌, ◌++◌, IfOk, OnOk};
 ghost use Rattle.mx_knowledge.specs.Tables.{below};
 ghost use Rattle.mx_ricart.specs.Knows.{missing_at, missing_of, permission_of, request_of};
@@ -27,7 +25,6 @@ impl Knowledge for Ricart {
 }
 
 impl Ricart {
-    /// Adds the stamp of the current request, if there is one.
     fn add_request(&self, facts: &mut Facts) -> Result<(), AllocError>
         ensures { OnOk result (facts.new ≡ facts.old ++ request_of self.now) }
     {
@@ -37,7 +34,6 @@ impl Ricart {
         }
     }
 
-    /// Adds what a waiting node still waits for.
     fn add_permission(&self, alloc: Global, facts: &mut Facts) -> Result<(), AllocError>
         ensures { OnOk result (facts.new ≡ facts.old ++ permission_of self.now) }
     {
@@ -47,7 +43,6 @@ impl Ricart {
         }
     }
 
-    /// Adds the nodes whose replies are missing. If none is missing, adds that the node may enter.
     fn add_missing(&self, alloc: Global, facts: &mut Facts) -> Result<(), AllocError>
         ensures { OnOk result (facts.new ≡ facts.old ++ missing_of self.now) }
     {
@@ -59,7 +54,6 @@ impl Ricart {
         }
     }
 
-    /// Returns the other nodes from which this node has no reply to its current request yet.
     fn missing(&self, alloc: Global) -> Result<Vec<Item>, AllocError>
         ensures { IfOk result (λ items. items.items ≡ below (missing_at self.now) self.now.count) }
     {

@@ -73,21 +73,18 @@ impl Ricart {
     ghost use Rattle.mx_nodelaws.specs.Phases.{is_busy};
     ghost use Rattle.mx_ricart.specs.Step.{is_other, HasAllReplies, has_all_replies, request_others, request_missing, reply_deferred, ended, take_request, take_reply};
 
-    /// Returns whether this is another node of the cluster.
     pub(crate) fn is_other(&self, node: NodeId) -> bool
         ensures { result ≡ is_other self.now node }
     {
         node.get() < self.count.get() && node.get() != self.me.get()
     }
 
-    /// Returns whether the node has a current stamp: it waits or is inside.
     fn is_busy(&self) -> bool
         ensures { result ≡ is_busy self.now.phase }
     {
         !matches!(self.phase, Phase::Idle)
     }
 
-    /// Returns whether the reply of every other node has counted.
     pub(crate) fn has_all_replies(&self) -> bool
         ensures value { result ≡ has_all_replies self.now }
         ensures all { IsTrue result ↔ HasAllReplies self.now }
@@ -101,7 +98,6 @@ impl Ricart {
         all
     }
 
-    /// Sends the current request to every other node.
     pub(crate) fn send_requests(&self, out: &mut Outbox<RicartMsg>)
         requires { out.old ≡ [] }
         ensures { out.new ≡ addressed (request_others self.now) self.now.count }
@@ -115,7 +111,6 @@ impl Ricart {
         }
     }
 
-    /// Sends the current request to every other node whose reply is missing.
     pub(crate) fn send_missing(&self, out: &mut Outbox<RicartMsg>)
         requires { out.old ≡ [] }
         ensures { out.new ≡ addressed (request_missing self.now) self.now.count }
@@ -129,7 +124,6 @@ impl Ricart {
         }
     }
 
-    /// Sends a reply to each deferred request.
     fn send_replies(&self, out: &mut Outbox<RicartMsg>)
         requires { out.old ≡ [] }
         ensures { out.new ≡ addressed (reply_deferred self.now) self.now.count }
@@ -143,7 +137,6 @@ impl Ricart {
         }
     }
 
-    /// Ends the current request: the node becomes idle, and sends each deferred reply.
     pub(crate) fn end_request(&mut self, out: &mut Outbox<RicartMsg>)
         requires { out.old ≡ [] }
         ensures state { self.new ≡ (ended self.old).state }
@@ -184,7 +177,6 @@ impl Ricart {
     }
 }
 
-/// Returns the later of the deferred request, if there is one, and the new one.
 fn later(waiting: &Option<Stamp>, stamp: Stamp) -> Stamp
     ensures { result ≡ later_of waiting.now stamp }
 {

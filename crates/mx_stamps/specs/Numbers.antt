@@ -1,4 +1,3 @@
--- The last number that a node can draw.
 use Rattle.std.specs.Prelude.{ℕ}
 
 -- the greatest number of a stamp, grant, request or hop: after it no other is drawn

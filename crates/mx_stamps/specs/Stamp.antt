@@ -6,10 +6,8 @@ use Rattle.mx_stamps.specs.declared.stamp.Stamp.{Stamp}
 abbrev pub Before : Stamp → Stamp → Type 0
 Before a b = (a.number < b.number) ⊎ ((a.number ≡ b.number) × (a.node < b.node))
 
--- whether stamp a comes before stamp b
 abbrev pub is_before_of : Stamp → Stamp → Bool
 is_before_of a b = nat_lt a.number b.number || (nat_eq a.number b.number && nat_lt a.node b.node)
 
--- whether both are the same stamp
 abbrev pub is_same_as : Stamp → Stamp → Bool
 is_same_as a b = nat_eq a.number b.number && nat_eq a.node b.node

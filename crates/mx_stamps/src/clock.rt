@@ -1,5 +1,3 @@
-//! The clock that draws the numbers of stamps.
-
 ghost use Rattle.std.specs.Prelude.{◌≡◌, ◌+◌, ◌<◌, ◌↔◌, IsNone, IfNone, IfSome, max};
 ghost use Rattle.mx_stamps.specs.Numbers.{last_number};
 

@@ -1,5 +1,3 @@
-//! Node numbers.
-
 ghost use Rattle.std.specs.Prelude.{◌≡◌, ◌<◌, ◌↔◌, IsSome, IfSome, Some, decimal};
 
 use crate::limits::MAX_NODES;
@@ -47,7 +45,6 @@ impl NodeId {
     }
 }
 
-/// Writes the number in decimal.
 impl fmt::Display for NodeId {
     ghost output = { λ n. Some (decimal n) };
 

@@ -1,5 +1,3 @@
-//! The stamp of a request, and the order of stamps.
-
 ghost use Rattle.std.specs.Prelude.{◌≡◌, ◌↔◌, ◌⊎◌, IsTrue};
 ghost use Rattle.mx_stamps.specs.Stamp.{Before, is_before_of, is_same_as};
 
@@ -26,7 +24,6 @@ impl PartialEq for Stamp {
 
     ghost laws = { Prim.search (comparing, rules) };
 
-    /// Returns whether both are the same stamp.
     fn eq(&self, other: &Stamp) -> bool
         ensures value { result ≡ is_same_as self.now other.now }
         ensures same { IsTrue result ↔ (self.now ≡ other.now) }

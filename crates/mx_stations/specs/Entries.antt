@@ -1,4 +1,3 @@
--- What a seat knows about one node.
 use Rattle.std.specs.Prelude.{ℕ, List, Option}
 use Rattle.mx_journal.specs.declared.receipts.Receipt.{Receipt}
 use Rattle.mx_member.specs.declared.parcel.Parcel.{Parcel}
@@ -24,7 +23,6 @@ pub record Entry (T P : Type 0) : Type 0 where
   pub placed : List (ℕ × P)
   pub taken : List (ℕ × P)
 
--- an entry with the state of a member, and with parcels
 abbrev pub Node : Type 0 → Type 0 → Type 0
 Node S M = Entry (MemberState S) (Parcel M)
 

@@ -1,4 +1,3 @@
--- What the stations of one table show together, and the result of gathering them.
 use Rattle.std.specs.Prelude.{◌≡◌, ◌≢◌, ◌↔◌, ℕ, suc, ◌<◌, ◌≤◌, List, [], ◌∷◌, ◌++◌, Some, map, length, take, slice_get}
 use Rattle.std.specs.List.Sorted.{IsNonDecreasingBy, IsPermutation}
 use mathlib.Core.Option.{some}
@@ -54,7 +53,6 @@ module _ {T P : Type 0} where
   abbrev pub IsWhole : List (Post T P) → Type 0
   IsWhole posts = (i : ℕ) → i < nodes_in posts → Has posts i
 
-  -- the least node whose station is missing
   abbrev pub IsLeastMissing : List (Post T P) → ℕ → Type 0
   IsLeastMissing posts i = (i < nodes_in posts) × Lacks posts i × ((j : ℕ) → j < i → Has posts j)
 
@@ -77,7 +75,6 @@ module _ {H S M : Type 0} (core : Core H S M) where
   abbrev pub IsQuiet : List (Post (MemberState S) (Parcel M)) → Type 0
   IsQuiet posts = (i : ℕ) → i < nodes_in posts → NotInside posts i
 
-  -- the least node that is inside
   abbrev pub IsLeastInside : List (Post (MemberState S) (Parcel M)) → ℕ → Type 0
   IsLeastInside posts i = (i < nodes_in posts) × HasInside posts i
       × ((j : ℕ) → j < i → NotInside posts j)

@@ -26,11 +26,9 @@ slot_at n from to index = (from * n + to) * SLOTS + index
 abbrev pub slot_in : ℕ → Link → ℕ → ℕ
 slot_in n link index = slot_at n link.from link.to index
 
--- both ends of the link are among n nodes
 abbrev pub IsLink : ℕ → Link → Type 0
 IsLink n link = (link.from < n) × (link.to < n)
 
--- the seat is at this table, and both ends of the link are among its n nodes
 abbrev pub IsLinkAt : TableId → TableId → ℕ → Link → Type 0
 IsLinkAt seat table n link = (seat ≡ table) × (IsLink n link)
 

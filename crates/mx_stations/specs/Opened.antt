@@ -1,4 +1,3 @@
--- The stations of a new table.
 use Rattle.std.specs.Prelude.{◌≡◌, ℕ, List, [], length}
 use mathlib.Core.Option.{some}
 use lib.ListN.{get_elem?}

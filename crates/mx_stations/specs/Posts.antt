@@ -1,4 +1,3 @@
--- The station as callers see it, and the effects of its calls.
 use Rattle.std.specs.Prelude.{◌≡◌, ◌≢◌, ◌⊎◌, ℕ, ◌<◌, Bool, true, false, List, [], ◌∷◌, ◌++◌, Option, Some, None, OnErr, OnOk, take}
 use Rattle.atomic_table.specs.Seated.{TableId}
 use Rattle.mx_stamps.specs.Lists.{IsIn}
@@ -84,7 +83,6 @@ abbrev pub left_in : {P : Type 0} → Bool → Option (ℕ × P) → Option (ℕ
 left_in true hand = hand
 left_in false hand = None
 
--- if the result is no refusal, P holds
 abbrev pub OnDone : Answer → Type 0 → Type 0
 OnDone (answer.Asked r) P = OnOk r P
 OnDone (answer.Entered r) P = OnOk r P
@@ -95,7 +93,6 @@ OnDone (answer.Cancelled r) P = OnOk r P
 OnDone (answer.Settled r) P = OnOk r P
 OnDone _ P = P
 
--- if the result is a refusal, P holds
 abbrev pub OnRefusal : Answer → Type 0 → Type 0
 OnRefusal (answer.Asked r) P = OnErr r P
 OnRefusal (answer.Entered r) P = OnErr r P

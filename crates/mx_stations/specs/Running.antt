@@ -1,4 +1,3 @@
--- What the seats of a table know about the nodes, and the rule that the table keeps.
 use Rattle.std.specs.Prelude.{◌≡◌, ◌≢◌, ◌⊎◌, ℕ, zero, suc, ◌+◌, ◌*◌, ◌<◌, List, [], ◌∷◌, ◌++◌, map, length, Option, Some, None}
 use mathlib.Core.Option.{some}
 use lib.ListN.{get_elem?}
@@ -135,7 +134,6 @@ module _ {T P : Type 0} where
   acted e y out hand receipts =
       record e { member = y; receipts = receipts; sent = e.sent ++ out; hand = hand }
 
-  -- the view of a seat with one node, after an act
   abbrev pub acted_view : List (Entry T P) → T → List (ℕ × P) → Option (ℕ × P) → List Receipt
       → List (Entry T P)
   acted_view [] y out hand receipts = []

@@ -1,4 +1,3 @@
--- The steps by which a parcel crosses a slot.
 use Rattle.std.specs.Prelude.{◌≡◌, ◌≢◌, ◌⊎◌, ℕ, List, [], ◌∷◌, ◌++◌, Option, Some, None}
 use Rattle.atomic_table.specs.Table.{Me}
 use Rattle.mx_stations.specs.declared.slots.TheConstants.{EMPTY, FILLED}
@@ -28,7 +27,6 @@ module _ {T P : Type 0} where
   Claims k m m' =
       (e : Entry T P) × (m.0 ≡ e ∷ []) × (m' ≡ (claiming k e ∷ [], (k, None) ∷ m.1))
 
-  -- the seat has placed a parcel in this slot before
   abbrev pub HasUsed : ℕ → Me (Option P) (List (Entry T P)) → Type 0
   HasUsed k m = (e : Entry T P) × (m.0 ≡ e ∷ []) × (of k e.placed ≢ [])
 

@@ -1,4 +1,3 @@
--- What stations of one table show together, between two steps.
 use Rattle.std.specs.Prelude.{◌≡◌, ℕ, ◌%◌, ◌<◌, List, length, Some}
 use mathlib.Core.Option.{some}
 use lib.ListN.{get_elem?}
@@ -9,11 +8,9 @@ use Rattle.mx_member.specs.declared.parcel.Parcel.{Parcel}
 use Rattle.mx_stations.specs.Entries.{Node}
 use Rattle.mx_stations.specs.Running.{Once, Shown, word_of}
 
--- the word at this place is odd
 abbrev pub IsOddAt : List ℕ → ℕ → Type 0
 IsOddAt words i = (w : ℕ) × (get_elem? words i ≡ some w) × (w % 2 ≡ 1)
 
--- no two of the first n words are odd
 abbrev pub AtMostOneOdd : ℕ → List ℕ → Type 0
 AtMostOneOdd n words =
     (i j : ℕ) → i < n → j < n → IsOddAt words i → IsOddAt words j → i ≡ j

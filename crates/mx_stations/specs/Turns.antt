@@ -1,4 +1,3 @@
--- A turn of a station, as a list of its acts and moves.
 use Rattle.std.specs.Prelude.{◌≡◌, ◌⊎◌, ℕ, suc, ◌+◌, ◌<◌, ◌==◌, ◌&&◌, Bool, true, false, MatchBool, List, [], ◌∷◌, length, Option, Some, None}
 use Rattle.mx_letters.specs.declared.fates.Fate.{Fate}
 use Rattle.mx_letters.specs.declared.fates.Fate.TheVariants.{Pass, Drop, Twice}
@@ -59,7 +58,6 @@ module _ {H S M : Type 0} (core : Core H S M) where
   abbrev pub Goes : Station → Station → Type 0
   Goes s t = (ms : List Station) × Chain ms s t
 
--- the report of a turn, with one more parcel counted, which had this fate
 abbrev pub noted_fate : Fate → TurnReport → TurnReport
 noted_fate Pass r = record r { taken = r.taken + 1 }
 noted_fate Drop r = record r { taken = r.taken + 1; dropped = r.dropped + 1 }

@@ -1,4 +1,3 @@
--- The acts and moves of a worker's station, and of one that settles too.
 use Rattle.std.specs.Prelude.{◌≡◌, ◌≢◌, ◌⊎◌, ℕ, ◌-◌, ◌%◌, ◌<◌, ◌≤◌, List, [], ◌∷◌, length, None}
 use Rattle.mx_nodelaws.specs.Core.{Core}
 use Rattle.mx_nodelaws.specs.declared.phase.Phase.TheVariants.{Idle}
@@ -98,7 +97,6 @@ module _ {H S M : Type 0} (core : Core H S M) (register every : ℕ) where
   abbrev pub WorksFor : ℕ → Station core → Station core → Type 0
   WorksFor turns s t = (ms : List (Station core)) × (length ms ≡ turns) × Rounds ms s t
 
-  -- at most this number of rounds, one after another, lead from s to t
   abbrev pub WorksAtMost : ℕ → Station core → Station core → Type 0
   WorksAtMost turns s t = (made : ℕ) × (made ≤ turns) × WorksFor made s t
 

@@ -189,9 +189,6 @@ impl<C: Exclusion> Station<C> {
         Ok(receipt)
     }
 
-    /// Performs an act that takes no memory, delivers no parcel and leaves no section, and returns
-    /// the member's answer. Stores the node's status word once, or not at all if the act is
-    /// refused.
     fn does(&mut self, act: Act<C::Msg>) -> Answer
         requires { IsPlain self.old.nodes act }
         ensures answer { result ≡ (act_of C.core act self.old.me.member).answer }
@@ -209,8 +206,6 @@ impl<C: Exclusion> Station<C> {
         answer
     }
 
-    /// Delivers the parcel in hand, which the member takes by reference. Empties the hand, unless
-    /// the parcel is to be delivered `again`.
     pub(crate) fn hand_over(&mut self, again: bool) -> Result<(), TakeFault>
         requires { (from : ℕ) × (p : OneParcel C.Msg) × (self.old.me.hand ≡ Some (from, p))
             × IsTakeable from p self.old.me.member }
@@ -228,8 +223,6 @@ impl<C: Exclusion> Station<C> {
     }
 }
 
-/// Delivers a parcel to the member, and puts the parcels that the member sends into `out`. The
-/// member can take the parcel, so the only possible fault is that memory runs out.
 fn receive<C: Exclusion>(
     member: &mut Member<C>,
     from: NodeId,
@@ -251,7 +244,6 @@ fn receive<C: Exclusion>(
     }
 }
 
-/// Leaves the section that the member is inside, and appends the section's receipt to `receipts`.
 fn close<C: Exclusion>(
     member: &mut Member<C>,
     receipts: &mut Vec<Receipt>,
@@ -278,7 +270,6 @@ fn close<C: Exclusion>(
     Ok(receipt)
 }
 
-/// Returns whether the member refused the act.
 fn is_refusal(answer: &Answer) -> bool
     ensures { MatchBool result (IsRefusal answer.now) (IsRefusal answer.now → ⊥) }
 {
@@ -294,7 +285,6 @@ fn is_refusal(answer: &Answer) -> bool
     }
 }
 
-/// Empties the hand, unless its parcel is to be delivered again.
 fn let_go<M: Copy + Default>(hand: &mut Option<(NodeId, Parcel<M>)>, again: bool)
     ensures { hand.new ≡ left_in again hand.old }
 {
@@ -303,7 +293,6 @@ fn let_go<M: Copy + Default>(hand: &mut Option<(NodeId, Parcel<M>)>, again: bool
     }
 }
 
-/// Reserves room for one more receipt.
 fn make_room(receipts: &mut Vec<Receipt>) -> Result<(), CloseFault>
     ensures same { receipts.new.items ≡ receipts.old.items }
     ensures room { OnOk result (vec_len receipts.new < vec_capacity receipts.new) }

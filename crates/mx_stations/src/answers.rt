@@ -45,7 +45,6 @@ pub struct TurnReport {
 }
 
 impl TurnReport {
-    /// Creates the report of a new turn. `had` says whether a parcel was in hand at its start.
     pub(crate) fn begin(had: bool) -> TurnReport
         ensures { result ≡ begun had }
     {
@@ -59,8 +58,6 @@ impl TurnReport {
         }
     }
 
-    /// Counts a parcel that was taken, by its fate. `None` means that none was taken, and counts
-    /// nothing.
     pub(crate) fn note_taken(&mut self, took: Option<Fate>)
         requires taken { self.old.taken < 1000 }
         requires dropped { self.old.dropped < 1000 }
@@ -78,7 +75,6 @@ impl TurnReport {
         }
     }
 
-    /// Counts a try to put a parcel out.
     pub(crate) fn note_put(&mut self, answer: PutOut)
         requires put { self.old.put < 1000 }
         requires full { self.old.full < 1000 }

@@ -52,7 +52,6 @@ pub struct Ungathered<C: Exclusion> {
     pub stations: Vec<Station<C>>,
 }
 
-/// Returns the number of nodes of the stations' table, or 1 if there is no station.
 fn count_of<C: Exclusion>(stations: &[Station<C>]) -> u8
     ensures value { result ≡ nodes_in stations.now }
     ensures few { result ≤ MAX_NODES }
@@ -63,14 +62,12 @@ fn count_of<C: Exclusion>(stations: &[Station<C>]) -> u8
     }
 }
 
-/// Returns whether the station is this node's.
 fn is_of<C: Exclusion>(station: &Station<C>, node: NodeId) -> bool
     ensures { IsTrue result ↔ (station.now.me.node ≡ node) }
 {
     station.node().get() == node.get()
 }
 
-/// Returns whether the node's station is among these.
 fn has<C: Exclusion>(stations: &[Station<C>], node: NodeId) -> bool
     ensures { MatchBool result (Has stations.now node) (Lacks stations.now node) }
 {
@@ -82,14 +79,12 @@ fn has<C: Exclusion>(stations: &[Station<C>], node: NodeId) -> bool
     false
 }
 
-/// Returns whether the station's node is inside.
 pub(crate) fn is_inside<C: Exclusion>(station: &Station<C>) -> bool
     ensures { IsTrue result ↔ IsInside C.core station.now.me.member.core }
 {
     matches!(station.phase(), Phase::Inside(_))
 }
 
-/// Returns whether the station of this node is among these, and the node is inside.
 fn has_inside<C: Exclusion>(stations: &[Station<C>], node: NodeId) -> bool
     ensures { MatchBool result (HasInside C.core stations.now node)
         (NotInside C.core stations.now node) }
@@ -102,7 +97,6 @@ fn has_inside<C: Exclusion>(stations: &[Station<C>], node: NodeId) -> bool
     false
 }
 
-/// Returns the least node whose station is not among these.
 fn least_missing<C: Exclusion>(stations: &[Station<C>]) -> Option<NodeId>
     ensures some { IfSome result (λ i. IsLeastMissing stations.now i) }
     ensures none { IfNone result (IsWhole stations.now) }
@@ -118,7 +112,6 @@ fn least_missing<C: Exclusion>(stations: &[Station<C>]) -> Option<NodeId>
     None
 }
 
-/// Returns the least node that is inside.
 fn least_inside<C: Exclusion>(stations: &[Station<C>]) -> Option<NodeId>
     ensures some { IfSome result (λ i. IsLeastInside C.core stations.now i) }
     ensures none { IfNone result (IsQuiet C.core stations.now) }
@@ -134,8 +127,6 @@ fn least_inside<C: Exclusion>(stations: &[Station<C>]) -> Option<NodeId>
     None
 }
 
-/// Returns why the stations cannot be gathered: one is missing, or a node is inside. Returns `None`
-/// if neither is the case.
 fn fault_of<C: Exclusion>(stations: &[Station<C>]) -> Option<GatherFault>
     ensures some { IfSome result (λ fault. Refuses C.core stations.now fault) }
     ensures none { IfNone result (IsReady C.core stations.now) }
@@ -149,7 +140,6 @@ fn fault_of<C: Exclusion>(stations: &[Station<C>]) -> Option<GatherFault>
     None
 }
 
-/// Merges the journals of all stations, one after another, into an empty one.
 fn merge_all<C: Exclusion>(alloc: Global, stations: &[Station<C>]) -> Result<Journal, MergeFault>
     ensures join { IfOk result (λ journal. IsJoinOfNodes (owned_in stations.now) journal) }
     ensures ordered { IfOk result (λ journal.
@@ -164,7 +154,6 @@ fn merge_all<C: Exclusion>(alloc: Global, stations: &[Station<C>]) -> Result<Jou
     Ok(all)
 }
 
-/// Appends copies of the receipts.
 fn add_copies(all: &mut Vec<Receipt>, receipts: &[Receipt]) -> Result<(), AllocError>
     ensures { OnOk result (all.new.items ≡ all.old.items ++ receipts.now) }
 {
@@ -174,7 +163,6 @@ fn add_copies(all: &mut Vec<Receipt>, receipts: &[Receipt]) -> Result<(), AllocE
     Ok(())
 }
 
-/// Returns the receipts of all stations, in order of number.
 fn sorted_receipts<C: Exclusion>(
     alloc: Global,
     stations: &[Station<C>],

@@ -59,7 +59,6 @@ impl<C: Exclusion> Field<C> {
     }
 }
 
-/// Creates an idle member for each node, in order.
 fn start_members<C: Exclusion>(
     alloc: Global,
     setup: &Setup<C::Shape>,
@@ -88,7 +87,6 @@ fn start_members<C: Exclusion>(
     Ok(members)
 }
 
-/// Creates a station for each node, in order, with an idle member and a seat split off from `seat`.
 /// Also returns the list of members, from which all were removed.
 fn seat_all<C: Exclusion>(
     alloc: Global,

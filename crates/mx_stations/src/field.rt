@@ -25,7 +25,6 @@ pub type SeatOf<C> = Seat<Slot<C>, Knowledge<C>>;
 /// link from one node to another or to itself, four slots with a word each.
 #[derive(Drop)]
 pub struct Field<C: Exclusion> {
-    /// The words and the slots.
     pub(crate) board: Table<Slot<C>, Knowledge<C>, Setup<C::Shape>, Law<C>, Global>,
     pub(crate) nodes: u8,
     ghost key: { board.shared.key.nodes ≡ nodes },
@@ -35,8 +34,6 @@ pub struct Field<C: Exclusion> {
     ghost few: { nodes ≤ MAX_NODES },
 }
 
-/// Returns the status word of a node: twice the number of the last section that it entered, and one
-/// more while it is inside.
 fn status_of<C: Exclusion>(member: &Member<C>) -> u64
     ensures { result ≡ word_of C.core member.now }
 {
@@ -47,8 +44,6 @@ fn status_of<C: Exclusion>(member: &Member<C>) -> u64
     }
 }
 
-/// Makes the atomic step of `act`, with the same parameters. By `N` the call tells the proof what
-/// the seat knows after the step.
 fn store_as<C: Exclusion, N: Next<Knowledge<C>>>(
     field: &Field<C>,
     seat: &mut SeatOf<C>,

@@ -10,7 +10,6 @@ use crate::station::Station;
 use mx_nodelaws::Exclusion;
 use std::marker::Brand;
 
-/// Does the work of `learn`. By `N` the call tells the proof the number of nodes.
 fn learn_as<C: Exclusion, N: OfCount>(field: &Field<C>, seat: &mut SeatOf<C>)
     requires table { seat.old.table_id ≡ field.now.board.shared.table_id }
     requires count { N.count ≡ field.now.nodes }
@@ -30,8 +29,6 @@ fn learn<C: Exclusion>(field: &Field<C>, seat: &mut SeatOf<C>)
     learn_as::<C, Brand>(field, seat);
 }
 
-/// Joins the seats of the stations into one, and drops the stations. The proof learns from the
-/// joined seat that these are nodes of one running cluster.
 pub(crate) fn join_all<C: Exclusion>(mut stations: Vec<Station<C>>)
     requires one { OfOneTable stations.items }
     requires some { 0 < length stations.items }

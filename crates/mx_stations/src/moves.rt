@@ -16,12 +16,6 @@ use mx_nodelaws::Exclusion;
 use mx_stamps::NodeId;
 
 impl<C: Exclusion> Station<C> {
-    /// Delivers the parcel in hand, and keeps it there if it is to be delivered `again`. Returns
-    /// `false` if the hand was empty.
-    ///
-    /// # Errors
-    ///
-    /// Returns `Memory` if memory runs out. The parcel remains in hand.
     pub(crate) fn deliver_as(&mut self, again: bool) -> Result<bool, TakeFault>
         ensures delivered { IfOk result (λ had.
             MatchBool had (DeliversAs C.core again self.old self.new)
@@ -37,11 +31,6 @@ impl<C: Exclusion> Station<C> {
         Ok(true)
     }
 
-    /// Delivers the parcel in hand. Returns `false` if the hand was empty.
-    ///
-    /// # Errors
-    ///
-    /// Returns `Memory` if memory runs out. The parcel remains in hand.
     pub(crate) fn deliver(&mut self) -> Result<bool, TakeFault>
         ensures delivered { IfOk result (λ had. MatchBool had (Delivers C.core self.old self.new)
             ((self.old.me.hand ≡ None) × (self.new ≡ self.old))) }
@@ -51,8 +40,6 @@ impl<C: Exclusion> Station<C> {
         self.deliver_as(false)
     }
 
-    /// Takes a parcel from the first filled slot of the link from node `from` into the empty hand.
-    /// Returns whether there was a parcel.
     fn fetch(&mut self, from: NodeId) -> bool
         requires within { from < self.old.nodes }
         requires empty { self.old.me.hand ≡ None }

@@ -68,8 +68,6 @@ impl Patience {
         }
     }
 
-    /// Renews the patience if the turn of this report ticked, or the station has entered a section
-    /// since the last wait.
     fn renew<C: Exclusion>(
         &mut self,
         station: &Station<C>,
@@ -97,8 +95,6 @@ impl Patience {
         }
     }
 
-    /// Lets other threads run until a parcel lies in a slot for the station's node, or the patience
-    /// has run out. Lets them run at least once if no parcel lies there at first.
     fn wait_for_mail<C: Exclusion>(&mut self, station: &Station<C>) {
         for _yield in 0..self.left.max(1) {
             self.left = self.left.saturating_sub(1);
@@ -110,12 +106,10 @@ impl Patience {
     }
 }
 
-/// Returns whether the turn of this report ticked.
 fn has_ticked(report: &Result<TurnReport, TakeFault>) -> bool {
     matches!(report, Ok(TurnReport { ticked: true, .. }))
 }
 
-/// Returns whether a parcel lies in a slot for the station's node.
 fn has_mail<C: Exclusion>(station: &Station<C>) -> bool {
     for index in 0..station.nodes() {
         if let Some(from) = NodeId::of(index)
@@ -127,7 +121,6 @@ fn has_mail<C: Exclusion>(station: &Station<C>) -> bool {
     false
 }
 
-/// Returns whether a parcel lies in a slot of the link from node `from` to the station's node.
 fn has_mail_from<C: Exclusion>(station: &Station<C>, from: NodeId) -> bool
     requires { from < station.now.nodes }
 {

@@ -15,7 +15,6 @@ pub const WAITING_ROOM: usize = 64;
 /// The waiting parcels of a station, each with its addressee.
 pub(crate) type Waiting<M> = ArrayVec<(NodeId, Parcel<M>), WAITING_ROOM>;
 
-/// Appends the parcels of an outbox. Those for which there is no room are lost.
 pub(crate) fn store_up<M: Copy + Default>(waiting: &mut Waiting<M>, out: &Outbox<Parcel<M>>)
     ensures { waiting.new.items ≡ waiting_after waiting.old.items out.now }
 {
@@ -28,7 +27,6 @@ pub(crate) fn store_up<M: Copy + Default>(waiting: &mut Waiting<M>, out: &Outbox
     }
 }
 
-/// Removes and returns the first parcel, with its addressee.
 pub(crate) fn take_first<M: Copy + Default>(waiting: &mut Waiting<M>) -> Option<(NodeId, Parcel<M>)>
     ensures first { IfSome result (λ x. waiting.old.items ≡ x ∷ waiting.new.items) }
     ensures room { OnSome result (array_vec_len waiting.new < WAITING_ROOM) }

@@ -41,7 +41,6 @@ pub fn work_settling<C: Exclusion, G: Gate, F: Fates + Drop>(
     (station, worked)
 }
 
-/// Does the work of `work_settling` on a borrowed station, and returns how the worker ended.
 fn settle_on<C: Exclusion, G: Gate, F: Fates>(
     station: &mut Station<C>,
     script: &Script,
@@ -92,8 +91,6 @@ pub fn settle_if_due<C: Exclusion>(station: &mut Station<C>, before: usize, ever
     }
 }
 
-/// Returns whether there are more receipts `now` than `before`, and `every` is not 0 and divides
-/// their number `now`.
 fn is_due(before: usize, now: usize, every: u64) -> bool
     ensures { IsTrue result ↔ IsDue every before now }
 {

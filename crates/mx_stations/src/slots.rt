@@ -19,26 +19,22 @@ use std::marker::Brand;
 /// The number of slots of each link.
 pub const SLOTS: u8 = 4;
 
-/// The word of an empty slot.
 const EMPTY: u64 = 0;
 
 /// The word of a slot that its sender is filling.
 const CLAIMED: u64 = 1;
 
-/// The word of a slot with a parcel.
 const FILLED: u64 = 2;
 
 /// The word of a slot that its receiver is emptying.
 const TAKEN: u64 = 3;
 
-/// The link from one node to another.
 #[derive(Clone, Copy)]
 pub(crate) struct Link {
     pub(crate) from: NodeId,
     pub(crate) to: NodeId,
 }
 
-/// Returns the place, among all slots of the table, of the link's slot with this index (0 to 3).
 fn slot_of<C: Exclusion>(field: &Field<C>, link: &Link, index: u8) -> usize
     requires link { IsLink field.now.nodes link.now }
     requires index { index < SLOTS }
@@ -49,7 +45,6 @@ fn slot_of<C: Exclusion>(field: &Field<C>, link: &Link, index: u8) -> usize
     place * SLOTS as usize + index as usize
 }
 
-/// Makes the atomic step of `claim`. By `N` the call tells the proof which slot it is.
 fn claim_as<C: Exclusion, N: OfSlot>(
     field: &Field<C>,
     seat: &mut SeatOf<C>,
@@ -72,8 +67,6 @@ fn claim_as<C: Exclusion, N: OfSlot>(
         .compare_exchange::<TriesToClaim<N>>(seat, field.nodes as usize + slot, EMPTY, CLAIMED)
 }
 
-/// Tries once to claim the link's slot of this index. Returns the word found: `EMPTY` if the slot
-/// is claimed now.
 fn claim<C: Exclusion>(field: &Field<C>, seat: &mut SeatOf<C>, link: &Link, index: u8) -> u64
     requires link { IsLinkAt seat.old.table_id field.now.board.shared.table_id field.now.nodes
         link.now }
@@ -86,8 +79,6 @@ fn claim<C: Exclusion>(field: &Field<C>, seat: &mut SeatOf<C>, link: &Link, inde
     claim_as::<C, Brand>(field, seat, link, index)
 }
 
-/// Tries the slots of the link in order, and claims the first that is empty. Returns its index, or
-/// `None` if no slot was empty.
 pub(crate) fn claim_empty<C: Exclusion>(
     field: &Field<C>,
     seat: &mut SeatOf<C>,
@@ -110,7 +101,6 @@ pub(crate) fn claim_empty<C: Exclusion>(
     None
 }
 
-/// Does the work of `place`. By `N` the call tells the proof what the seat knows after it.
 fn place_as<C: Exclusion, N: Next<Knowledge<C>>>(
     field: &Field<C>,
     seat: &mut SeatOf<C>,
@@ -138,7 +128,6 @@ fn place_as<C: Exclusion, N: Next<Knowledge<C>>>(
     shared.store::<Gives<N>>(seat, field.nodes as usize + slot, FILLED);
 }
 
-/// Puts the parcel into the slot that the seat has claimed, and gives the slot back filled.
 pub(crate) fn place<C: Exclusion>(
     field: &Field<C>,
     seat: &mut SeatOf<C>,
@@ -158,9 +147,8 @@ pub(crate) fn place<C: Exclusion>(
     place_as::<C, Brand>(field, seat, link, index, parcel);
 }
 
-/// Does the work of `grab`. It reads the word first, since a read of an empty slot, unlike an
-/// exchange, leaves the word in the caches of all readers. By `N` the call tells the proof which
-/// slot it is.
+/// Reads the word first, since a read of an empty slot, unlike an exchange, leaves the word in the
+/// caches of all readers.
 fn grab_as<C: Exclusion, N: OfSlot>(
     field: &Field<C>,
     seat: &mut SeatOf<C>,
@@ -185,8 +173,6 @@ fn grab_as<C: Exclusion, N: OfSlot>(
     shared.compare_exchange::<TriesToTake<N>>(seat, field.nodes as usize + slot, FILLED, TAKEN)
 }
 
-/// Tries once to take the link's slot of this index. Returns the word found: `FILLED` if the slot
-/// is taken now.
 fn grab<C: Exclusion>(field: &Field<C>, seat: &mut SeatOf<C>, link: &Link, index: u8) -> u64
     requires link { IsLinkAt seat.old.table_id field.now.board.shared.table_id field.now.nodes
         link.now }
@@ -199,8 +185,6 @@ fn grab<C: Exclusion>(field: &Field<C>, seat: &mut SeatOf<C>, link: &Link, index
     grab_as::<C, Brand>(field, seat, link, index)
 }
 
-/// Tries the slots of the link in order, and takes the first that is filled. Returns its index, or
-/// `None` if no slot was filled.
 pub(crate) fn grab_filled<C: Exclusion>(
     field: &Field<C>,
     seat: &mut SeatOf<C>,
@@ -223,7 +207,6 @@ pub(crate) fn grab_filled<C: Exclusion>(
     None
 }
 
-/// Removes and returns the parcel of the slot that the seat has taken.
 pub(crate) fn lift<C: Exclusion>(
     field: &Field<C>,
     seat: &mut SeatOf<C>,
@@ -244,7 +227,6 @@ pub(crate) fn lift<C: Exclusion>(
     field.board.shared.exchange(seat, slot, None).unwrap()
 }
 
-/// Does the work of `release`. By `N` the call tells the proof what the seat knows after it.
 fn release_as<C: Exclusion, N: Next<Knowledge<C>>>(
     field: &Field<C>,
     seat: &mut SeatOf<C>,
@@ -290,7 +272,6 @@ pub(crate) fn release<C: Exclusion>(
     release_as::<C, Brand>(field, seat, link, index, hand);
 }
 
-/// Returns whether a parcel lies in a slot of the link. Nothing is proved about the result.
 pub(crate) fn has_filled<C: Exclusion>(field: &Field<C>, link: &Link) -> bool
     requires { IsLink field.now.nodes link.now }
 {

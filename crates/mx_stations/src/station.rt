@@ -20,7 +20,6 @@ use std::sync::Arc;
 /// out; further ones are lost, as in a network.
 #[derive(Drop)]
 pub struct Station<C: Exclusion> {
-    /// The table that all stations of the cluster share.
     pub(crate) field: Arc<Field<C>, Global>,
     pub(crate) seat: SeatOf<C>,
     pub(crate) node: NodeId,
@@ -30,7 +29,6 @@ pub struct Station<C: Exclusion> {
     pub(crate) receipts: Vec<Receipt>,
     /// The parcels of one act before they join the waiting ones.
     pub(crate) out: Outbox<Parcel<C::Msg>>,
-    /// The parcels that wait to be put out.
     pub(crate) waiting: Waiting<C::Msg>,
 }
 

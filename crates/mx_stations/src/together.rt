@@ -27,7 +27,6 @@ impl<C: Exclusion, N: OfCount> Play<Slot<C>, Knowledge<C>> for Sees<C, N> {
         × ShowsNode C.core C.Good N.count step.word found now.0 };
 }
 
-/// Does the work of `see`. By `N` the call tells the proof the number of nodes.
 fn see_as<C: Exclusion, N: OfCount>(field: &Field<C>, seat: &mut SeatOf<C>, node: u8) -> u64
     requires table { seat.old.table_id ≡ field.now.board.shared.table_id }
     requires within { node < field.now.nodes }
@@ -38,8 +37,6 @@ fn see_as<C: Exclusion, N: OfCount>(field: &Field<C>, seat: &mut SeatOf<C>, node
     field.board.shared.load::<Sees<C, N>>(seat, node as usize)
 }
 
-/// Returns the status word of a node. The proof learns from the read that the nodes of the seat are
-/// nodes of one running cluster, in which the node has this word.
 fn see<C: Exclusion>(field: &Field<C>, seat: &mut SeatOf<C>, node: u8) -> u64
     requires table { seat.old.table_id ≡ field.now.board.shared.table_id }
     requires within { node < field.now.nodes }

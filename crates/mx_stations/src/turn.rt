@@ -22,8 +22,6 @@ use mx_member::Parcel;
 use mx_nodelaws::Exclusion;
 use mx_stamps::NodeId;
 
-/// Returns the contents of the hand after a parcel with this fate was taken: the parcel with its
-/// sender, or nothing if the fate is `Drop`.
 fn hand_of<M: Copy + Default>(
     fate: Fate,
     from: NodeId,
@@ -37,9 +35,7 @@ fn hand_of<M: Copy + Default>(
     }
 }
 
-/// Removes the parcel from the slot that the seat has taken, gives the slot back, and returns the
-/// parcel's fate, which `ask` gives. Puts the parcel into the hand, or throws it away if the fate
-/// is `Drop`. It is a separate function, so that a link without a parcel needs no room for one.
+/// A function of its own, so that a link without a parcel needs no room for one.
 #[inline(never)]
 fn lift_fated<C: Exclusion, A: FnOnce() -> Fate>(
     field: &Field<C>,
@@ -73,8 +69,6 @@ fn lift_fated<C: Exclusion, A: FnOnce() -> Fate>(
 }
 
 impl<C: Exclusion> Station<C> {
-    /// Delivers the parcel in hand, which remains there to be delivered again. Returns `false` if
-    /// the hand is empty.
     fn deliver_first(&mut self) -> Result<bool, TakeFault>
         ensures delivered { IfOk result (λ had.
             MatchBool had (DeliversFirst C.core self.old self.new)
@@ -85,9 +79,7 @@ impl<C: Exclusion> Station<C> {
         self.deliver_as(true)
     }
 
-    /// Takes one parcel from the link from node `from`, if there is one, and returns its fate.
-    /// `ask` draws the fate once the parcel is taken. The parcel goes into the empty hand, or is
-    /// thrown away if its fate is `Drop`.
+    /// `ask` draws the fate of the parcel once it is taken. Returns `None` if there is none.
     pub(crate) fn fetch_fated<A: FnOnce() -> Fate>(&mut self, from: NodeId, ask: A) -> Option<Fate>
         requires within { from < self.old.nodes }
         requires empty { self.old.me.hand ≡ None }
@@ -106,8 +98,6 @@ impl<C: Exclusion> Station<C> {
         Some(fate)
     }
 
-    /// Takes one parcel from the link from node `from`, if there is one, and delivers it as often
-    /// as its fate says. Returns this fate.
     fn take_fated<F: Fates>(
         &mut self,
         from: NodeId,
@@ -128,7 +118,6 @@ impl<C: Exclusion> Station<C> {
         Ok(Some(fate))
     }
 
-    /// Delivers the parcel in hand a first time if its fate is `Twice`. The parcel remains in hand.
     fn deliver_more(&mut self, fate: Fate) -> Result<(), TakeFault>
         ensures more { OnOk result ((fate ≡ Twice → self.old.me.hand ≢ None)
             → DeliversMore C.core fate self.old self.new) }
@@ -142,8 +131,6 @@ impl<C: Exclusion> Station<C> {
         Ok(())
     }
 
-    /// Tries once to take a parcel from each node, in order, delivers it as its fate says, and
-    /// counts it in `report`.
     fn take_each<F: Fates>(
         &mut self,
         fates: &mut F,
@@ -167,7 +154,6 @@ impl<C: Exclusion> Station<C> {
         Ok(())
     }
 
-    /// Calls `put_out` once for each waiting parcel, and counts the results in `report`.
     fn put_each(&mut self, report: &mut TurnReport)
         requires few { (report.old.put ≡ 0) × (report.old.full ≡ 0) }
         ensures put { (puts : List ThePutOut) × PutsEach C.core puts self.old self.new
@@ -201,7 +187,6 @@ impl<C: Exclusion> Station<C> {
         Ok(report)
     }
 
-    /// Ticks if the turn took no parcel (`taken` is 0) and none waits. Returns whether it ticked.
     fn tick_if_idle(&mut self, taken: u32) -> bool
         ensures ends { MatchBool result (self.new ≡ does C.core Tick self.old)
             (self.new ≡ self.old) }
@@ -216,7 +201,6 @@ impl<C: Exclusion> Station<C> {
     }
 }
 
-/// Returns whether a turn took no parcel and no parcel waits.
 fn is_idle(taken: u32, waiting: usize) -> bool
     ensures { result ≡ ((taken == 0) && (waiting == 0)) }
 {

@@ -87,7 +87,6 @@ pub fn work<C: Exclusion, G: Gate, F: Fates + Drop>(
     work_settling(station, script, 0, gate, fates, turns)
 }
 
-/// Returns whether the station has left `sections` sections or more, and is not inside another.
 pub(crate) fn is_finished<C: Exclusion>(station: &Station<C>, sections: u64) -> bool
     ensures enough { IsTrue result → sections ≤ length station.now.me.receipts }
     ensures outside { IsTrue result → IsInside C.core station.now.me.member.core → ⊥ }
@@ -98,16 +97,14 @@ pub(crate) fn is_finished<C: Exclusion>(station: &Station<C>, sections: u64) -> 
     has_sections(station, sections)
 }
 
-/// Returns whether the station has left `sections` sections or more.
 fn has_sections<C: Exclusion>(station: &Station<C>, sections: u64) -> bool
     ensures { IsTrue result ↔ (sections ≤ length station.now.me.receipts) }
 {
     station.receipts().len() as u64 >= sections
 }
 
-/// Performs the acts that are due, lets the station take a turn, and then waits by the worker's
-/// patience. An act that is tried before it is due is refused, which changes nothing. A turn in
-/// which memory runs out counts too.
+/// An act that is tried before it is due is refused, which changes nothing. A turn in which memory
+/// runs out counts too.
 pub(crate) fn take_turn<C: Exclusion, F: Fates>(
     station: &mut Station<C>,
     script: &Script,
@@ -127,14 +124,10 @@ pub(crate) fn take_turn<C: Exclusion, F: Fates>(
     stance.patience.wait(station, &report, asks);
 }
 
-/// Returns whether the next turn asks for a section: the node is idle, and has left fewer than
-/// `sections`.
 fn is_to_ask<C: Exclusion>(station: &Station<C>, sections: u64) -> bool {
     matches!(station.phase(), Phase::Idle) && !has_sections(station, sections)
 }
 
-/// Asks for a section if the station has left fewer than `sections`. The member refuses if the node
-/// is not idle.
 fn ask_if_due<C: Exclusion>(station: &mut Station<C>, sections: u64)
     ensures none { (register : ℕ) → LeavesNone C.core register station.old station.new }
     ensures within { IsWithin C.core sections station.old → IsWithin C.core sections station.new }
@@ -144,9 +137,6 @@ fn ask_if_due<C: Exclusion>(station: &mut Station<C>, sections: u64)
     }
 }
 
-/// Reads the register and writes 1 more, or asks the next node in cyclic order for missing records,
-/// which may be the node itself. Does nothing if
-/// the node is not inside, or has written in its section already.
 fn add_if_due<C: Exclusion>(station: &mut Station<C>, register: u8, stance: &mut WorkerState)
     ensures none { LeavesNone C.core register station.old station.new }
     ensures within { (most : ℕ) → IsWithin C.core most station.old
@@ -166,7 +156,6 @@ fn add_if_due<C: Exclusion>(station: &mut Station<C>, register: u8, stance: &mut
     }
 }
 
-/// Asks a node for missing records: in cyclic order, the one after the node asked last.
 fn want_next<C: Exclusion>(station: &mut Station<C>, stance: &mut WorkerState)
     ensures none { (register : ℕ) → LeavesNone C.core register station.old station.new }
     ensures within { (most : ℕ) → IsWithin C.core most station.old
@@ -177,7 +166,6 @@ fn want_next<C: Exclusion>(station: &mut Station<C>, stance: &mut WorkerState)
     stance.wanted = next;
 }
 
-/// Returns the number of nodes.
 fn count_of<C: Exclusion>(station: &Station<C>) -> u8
     ensures value { result ≡ station.now.nodes }
     ensures some { 0 < result }
@@ -185,7 +173,6 @@ fn count_of<C: Exclusion>(station: &Station<C>) -> u8
     station.field.nodes
 }
 
-/// Returns the node after `node`, in cyclic order of `nodes` nodes.
 fn node_after(node: NodeId, nodes: u8) -> NodeId
     requires { 0 < nodes }
     ensures { result < nodes }
@@ -205,7 +192,6 @@ fn first_node() -> NodeId
     first
 }
 
-/// Leaves if the section has its write. If memory runs out, the node remains inside.
 fn leave_if_due<C: Exclusion>(station: &mut Station<C>, stance: &mut WorkerState)
     ensures { MayLeave C.core station.old station.new }
 {

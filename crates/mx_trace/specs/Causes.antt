@@ -1,4 +1,3 @@
--- The words for the cause of a refusal.
 use Rattle.std.specs.Prelude.{ℕ, List, Option, Some, None, codes}
 use Rattle.mx_trace.specs.declared.outcome.Cause.{Cause}
 use Rattle.mx_trace.specs.declared.outcome.Cause.TheVariants.{NotIdle, StampsSpent, NotWaiting, NotGranted, NumbersSpent, NotInside, NoRegister, Gap, Full, Below}

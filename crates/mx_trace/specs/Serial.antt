@@ -1,4 +1,3 @@
--- When the sections that marks make follow one another.
 use Rattle.std.specs.Prelude.{ℕ, suc, ◌≡◌, ◌≤◌, ◌++◌, true, false, List, [], ◌∷◌, Option, Some, None, length, take}
 use Rattle.mx_stamps.specs.Lists.{IsIn}
 use Rattle.mx_journal.specs.declared.records.Write.{Write}

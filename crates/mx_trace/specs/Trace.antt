@@ -23,7 +23,6 @@ mark_of (Leave i) (Left receipt) = Went i receipt ∷ []
 mark_of (Restart i) Woken = Woke i ∷ []
 mark_of _ _ = []
 
--- the marks of the items of a trace, in order
 abbrev pub marks : List Entry → List Mark
 marks [] = []
 marks (e ∷ es) = mark_of e.event e.outcome ++ marks es

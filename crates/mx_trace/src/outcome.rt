@@ -1,5 +1,3 @@
-//! Outcomes of events, and the items of a trace.
-
 ghost use Rattle.std.specs.Prelude.{◌≡◌};
 ghost use Rattle.mx_trace.specs.Causes.{cause_number, cause_words};
 

@@ -7,7 +7,6 @@ use Rattle.mx_trees.specs.declared.growth.Growth.{Growth}
 use Rattle.mx_trees.specs.Paths.{IsPath}
 use Rattle.mx_trees.specs.Edges.{IsLinked}
 
--- whether the tree has reached node i
 abbrev pub is_reached : Growth → ℕ → Bool
 is_reached g i = slice_index_or g.reached i false
 
@@ -23,7 +22,6 @@ is_step g i j = is_reached g i && nat_eq (next_of g i) j
 abbrev pub is_branch : Growth → ℕ × ℕ → Bool
 is_branch g e = is_step g e.0 e.1 || is_step g e.1 e.0
 
--- the tree has reached each of the listed nodes
 abbrev pub AreReached : Growth → List ℕ → Type 0
 AreReached g is = (k : ℕ) → IsIn k is → is_reached g k ≡ true
 

@@ -15,7 +15,6 @@ pub record Rooted : Type 0 where
 abbrev pub toward_of : Rooted → ℕ → ℕ
 toward_of t i = slice_index_or t.next i 0
 
--- whether nodes i and j are neighbours
 abbrev pub are_neighbours : Rooted → ℕ → ℕ → Bool
 are_neighbours t i j = slice_index_or (slice_index_or t.rows i []) j false
 

@@ -16,7 +16,6 @@ pub struct Growth {
 }
 
 impl Growth {
-    /// Creates the tree with only the root.
     fn at(root: u8) -> Growth
         requires { root < MAX_NODES }
         ensures { (edges : List (ℕ × ℕ)) → IsGrown edges root result }
@@ -68,7 +67,6 @@ impl Growth {
         None
     }
 
-    /// Adds a node, reached from another.
     fn add(&mut self, near: u8, far: u8)
         requires { far < MAX_NODES }
         ensures { self.new ≡ with_node self.old near far }

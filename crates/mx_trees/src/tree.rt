@@ -1,5 +1,3 @@
-//! A rooted tree, and the path to its holder.
-
 ghost use Rattle.std.specs.Prelude.{ℕ, ◌≡◌, ◌≢◌, ◌<◌, ◌≤◌, ◌↔◌, true, IsOk, IfOk, IfErr, IsErrOf};
 ghost use Rattle.mx_trees.specs.Edges.{IsTree, IsTreeOf, IsFirstFault};
 ghost use Rattle.mx_trees.specs.Tree.{toward_of, are_neighbours, IsToward, IsRooted, Rooted};
@@ -42,11 +40,6 @@ impl Model for Tree {
     } };
 }
 
-/// Checks that the nodes, edges and holder are a tree, and returns the holder.
-///
-/// # Errors
-///
-/// Returns the first fault, in the order of `TreeFault`.
 fn checked(nodes: u8, edges: &[(u8, u8)], holder: u8) -> Result<NodeId, TreeFault>
     ensures tree { IfOk result (λ root. IsTree nodes edges.now × (holder < nodes)) }
     ensures root { IfOk result (λ root. root ≡ holder) }

@@ -1,5 +1,3 @@
-//! The knowledge of an arbiter, as it is shown.
-
 ghost use Rattle.std.specs.Prelude.{◌≡◌, ◌++◌, OnOk};
 ghost use Rattle.mx_maekawa.specs.Knows.{arbiter_known, grant_of, lock_of};
 
@@ -8,7 +6,6 @@ use mx_knowledge::{Facts, Item, stamps_in};
 use std::alloc::{AllocError, Global};
 
 impl Arbiter {
-    /// Adds all that the arbiter knows.
     pub(crate) fn add_facts(&self, alloc: Global, facts: &mut Facts) -> Result<(), AllocError>
         ensures { OnOk result (facts.new ≡ facts.old ++ arbiter_known self.now) }
     {
@@ -19,7 +16,6 @@ impl Arbiter {
         facts.add("arbiter last", Item::Number(self.last))
     }
 
-    /// Adds the request that has the lock, or that the arbiter is free.
     fn add_lock(&self, facts: &mut Facts) -> Result<(), AllocError>
         ensures { OnOk result (facts.new ≡ facts.old ++ lock_of self.now.lock) }
     {
@@ -29,7 +25,6 @@ impl Arbiter {
         }
     }
 
-    /// Adds the grant of the lock, if there is a lock.
     fn add_grant(&self, facts: &mut Facts) -> Result<(), AllocError>
         ensures { OnOk result (facts.new ≡ facts.old ++ grant_of self.now.lock) }
     {

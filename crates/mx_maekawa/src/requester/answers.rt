@@ -25,14 +25,12 @@ impl Requester {
         any
     }
 
-    /// Returns whether the node waits, and this is the stamp of its request.
     fn is_current_wait(&self, stamp: &Stamp) -> bool
         ensures { result ≡ is_current_wait self.now stamp.now }
     {
         matches!(self.phase, Phase::Waiting) && stamp.is(&self.ours)
     }
 
-    /// Returns whether this stamp of the node has ended: it was drawn, and is no longer current.
     fn has_ended(&self, stamp: &Stamp) -> bool
         ensures { result ≡ has_ended self.now stamp.now }
     {
@@ -40,7 +38,6 @@ impl Requester {
         !is_current && stamp.number <= self.issued
     }
 
-    /// Gives the grant of arbiter b back, if that arbiter has asked for it.
     fn give_remembered(&mut self, b: NodeId, out: &mut Outbox<MaekawaMsg>)
         requires { length out.old < OUTBOX_ROOM }
         ensures state { self.new ≡ (give_remembered b self.old).state }
@@ -57,7 +54,6 @@ impl Requester {
         }
     }
 
-    /// Records that arbiter a has failed the request, and gives back each grant that was asked for.
     fn fail(&mut self, a: NodeId, out: &mut Outbox<MaekawaMsg>)
         requires { length out.old ≤ 1 }
         ensures state { self.new ≡ (fail a self.old).state }
@@ -71,7 +67,6 @@ impl Requester {
         }
     }
 
-    /// Sends a release to an arbiter whose letter is about an ended stamp.
     fn release_ended(&self, stamp: &Stamp, a: NodeId, out: &mut Outbox<MaekawaMsg>)
         requires { out.old ≡ [] }
         ensures { out.new ≡ (release_ended self.now stamp.now a).letters }
@@ -108,7 +103,6 @@ impl Requester {
         }
     }
 
-    /// Takes a FAILED: the arbiter has another request to serve first.
     pub(crate) fn take_failed(&mut self, a: NodeId, stamp: &Stamp, out: &mut Outbox<MaekawaMsg>)
         requires { out.old ≡ [] }
         ensures state { self.new ≡ (take_failed a stamp.now self.old).state }
@@ -119,7 +113,6 @@ impl Requester {
         }
     }
 
-    /// Takes an INQUIRE: the arbiter asks for its grant back.
     pub(crate) fn take_inquire(
         &mut self,
         a: NodeId,

@@ -1,5 +1,3 @@
-//! The knowledge of a requester, as it is shown.
-
 ghost use Rattle.std.specs.Prelude.{◌≡◌, ◌++◌, IfOk, OnOk};
 ghost use Rattle.mx_knowledge.specs.Tables.{below};
 ghost use Rattle.mx_maekawa.specs.Knows.{answers_of, missing_at, missing_of, permission_of, request_of, requester_known};
@@ -11,7 +9,6 @@ use mx_stamps::NodeId;
 use std::alloc::{AllocError, Global};
 
 impl Requester {
-    /// Adds all that the requester knows.
     pub(crate) fn add_facts(&self, alloc: Global, facts: &mut Facts) -> Result<(), AllocError>
         ensures { OnOk result (facts.new ≡ facts.old ++ requester_known self.now) }
     {
@@ -23,7 +20,6 @@ impl Requester {
         self.add_answers(alloc, facts)
     }
 
-    /// Adds the stamp of the current request, if there is one.
     fn add_request(&self, facts: &mut Facts) -> Result<(), AllocError>
         ensures { OnOk result (facts.new ≡ facts.old ++ request_of self.now) }
     {
@@ -33,7 +29,6 @@ impl Requester {
         }
     }
 
-    /// Adds what a waiting node still waits for.
     fn add_permission(&self, alloc: Global, facts: &mut Facts) -> Result<(), AllocError>
         ensures { OnOk result (facts.new ≡ facts.old ++ permission_of self.now) }
     {
@@ -43,7 +38,6 @@ impl Requester {
         }
     }
 
-    /// Adds the arbiters whose grants are missing, or that the node may enter.
     fn add_missing(&self, alloc: Global, facts: &mut Facts) -> Result<(), AllocError>
         ensures { OnOk result (facts.new ≡ facts.old ++ missing_of self.now) }
     {
@@ -55,7 +49,6 @@ impl Requester {
         }
     }
 
-    /// Returns its arbiters whose grant is not held.
     fn missing(&self, alloc: Global) -> Result<Vec<Item>, AllocError>
         ensures { IfOk result (λ items. items.items ≡ below (missing_at self.now) self.now.count) }
     {
@@ -70,7 +63,6 @@ impl Requester {
         Ok(items)
     }
 
-    /// Adds the arbiters that failed the request, and the remembered inquiries.
     fn add_answers(&self, alloc: Global, facts: &mut Facts) -> Result<(), AllocError>
         ensures { OnOk result (facts.new ≡ facts.old ++ answers_of self.now) }
     {

@@ -3,10 +3,10 @@ use Rattle.mx_trace.specs.declared.outcome.Entry.{Entry}
 use Rattle.mx_format.specs.EventTexts.{event_line}
 use Rattle.mx_format.specs.LetterTexts.{letter_text}
 use Rattle.mx_commands.proofs.RunLemmas.{text_on}
-use Rattle.mx_commands.proofs.lines.add_event.Goals as goal
+use Rattle.mx_commands.proofs.lines.LinesSink.event.Goals as goal
 
-pub returns : goal.returns
-returns g c = λ old entry trace before.
+pub returns-clause-text : goal.returns-clause-text
+returns-clause-text g c = λ old entry trace before.
     let is : c.newest-entry.result.now ≡ entry = c.newest-entry.ensures old.trace entry (c.trace.ensures.value ∙ trace) in
     let t = string_bytes c.args.text.now in
     text_on g.C.Exclusion.core (letter_text g.C.Msg.Letter.parts) c.args.plan.now c.args.index c.args.before old c.args.cluster.now entry c.add_parcels.result
