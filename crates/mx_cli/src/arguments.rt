@@ -249,13 +249,6 @@ pub(crate) const PICTURE_NODE: Argument = Argument {
     help: "Draws the events of the node of this name, and those that send it a parcel or deliver one of its own",
 };
 
-pub(crate) const JOURNALS: Argument = Argument {
-    name: "journals",
-    kind: ArgumentKind::Flag,
-    is_required: false,
-    help: "Tells which sections a node's journal has, at each event that changes it",
-};
-
 /// `--script` of `explain`.
 pub(crate) const IS_SCRIPT: Argument = Argument {
     name: "script",

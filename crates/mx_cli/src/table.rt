@@ -5,8 +5,8 @@ ghost use Rattle.mx_cli.specs.Table.{app_of_row, command_app};
 
 use crate::arguments::{
     ASKS, Argument, COUNT_TOO, EVENTS, EVENTS_OR_SCRIPT, FIRST_SCRIPT, FROM, IN_ORDER, IS_SCRIPT,
-    JOURNALS, JSON, LETTERS, LINK_SEED, LOSS, NODE, PICTURE_NODE, PLAN, PROGRESS, QUIET, REPEAT,
-    SCRIPT, SECTIONS, SEED, SEEDS, SETTLE, STATE, STEPS, TO, TRACE, TURNS, WALK, WALK_WANTED,
+    JSON, LETTERS, LINK_SEED, LOSS, NODE, PICTURE_NODE, PLAN, PROGRESS, QUIET, REPEAT, SCRIPT,
+    SECTIONS, SEED, SEEDS, SETTLE, STATE, STEPS, TO, TRACE, TURNS, WALK, WALK_WANTED,
 };
 use crate::{examples, help};
 
@@ -126,7 +126,7 @@ static PLAY: CommandRow = CommandRow {
 static PICTURE: CommandRow = CommandRow {
     name: "picture",
     about: "Draws a run as an SVG in which time goes down",
-    arguments: &[PLAN, EVENTS, FROM, TO, PICTURE_NODE, JOURNALS, LETTERS],
+    arguments: &[PLAN, EVENTS, FROM, TO, PICTURE_NODE, LETTERS],
     example: examples::PICTURE,
 };
 

@@ -5,22 +5,25 @@
 //! refused, refuses the mutant `always_out_of_memory`.
 #![tactic(auto)]
 
-mod clusters;
+mod bench;
 mod harness;
 mod jobs;
-mod journals;
-mod members;
-mod report;
+mod nodes;
 mod stations;
+mod table;
 mod values;
 
+use crate::bench::new_bench;
+use crate::harness::go;
+use crate::table::TABLE;
 use anyhow::Result;
 
 fn main(rt: HostRuntime) -> Result<()> {
-    journals::each(&rt)?;
-    members::each(&rt)?;
-    clusters::each(&rt)?;
-    stations::each(&rt)?;
-    jobs::each(&rt, &rt)?;
-    values::each(&rt)
+    let mut bench = new_bench(rt.alloc())?;
+    for (name, call, rows) in &TABLE {
+        for row in *rows {
+            go(&rt, &rt, &mut bench, *name, *call, *row)?;
+        }
+    }
+    Ok(())
 }
