@@ -42,25 +42,8 @@ pub(crate) fn expect(name: &str, holds: bool) -> Result<()> {
     Ok(())
 }
 
-pub(crate) fn go<R: Threads>(
-    rt: &HostRuntime,
-    threads: &R,
-    bench: &mut Bench,
-    name: &str,
-    call: Call,
-    row: Row,
-) -> Result<()> {
-    let Row::Lists(lists) = row else {
-        return step(rt, threads, bench, name, call, row);
-    };
-    set_up(bench, Row::New)?;
-    for numbers in lists {
-        step(rt, threads, bench, name, call, Row::Numbers(*numbers))?;
-    }
-    Ok(())
-}
-
-fn step<R: Threads>(
+/// Does what a row says with the call of this name.
+pub(crate) fn step<R: Threads>(
     rt: &HostRuntime,
     threads: &R,
     bench: &mut Bench,
