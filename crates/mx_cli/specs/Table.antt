@@ -36,7 +36,6 @@ app_of_row row = app_with row.name.now (map rule_of_argument row.arguments.now)
 
 -- ---- arguments
 
--- an argument that has to be given
 abbrev pub needed : Rule → Rule
 needed rule = record rule { required = true }
 
@@ -141,13 +140,12 @@ script_app = app_with (codes "script") (plan_rule ∷ file_rule (codes "SCRIPT")
 abbrev pub play_app : App
 play_app = app_with (codes "play") (plan_rule ∷ new_rule (codes "SCRIPT") ∷ [])
 
--- `picture PLAN EVENTS`, and perhaps `--from K`, `--to K`, `--node NAME`, `--journals` and
--- `--letters`
+-- `picture PLAN EVENTS`, and perhaps `--from K`, `--to K`, `--node NAME` and `--letters`
 abbrev pub picture_app : App
 picture_app =
     app_with (codes "picture")
     (plan_rule ∷ events_rule ∷ wide_rule (codes "from") ∷ wide_rule (codes "to")
-    ∷ text_rule (codes "node") ∷ flag_rule (codes "journals") ∷ flag_rule (codes "letters") ∷ [])
+    ∷ text_rule (codes "node") ∷ flag_rule (codes "letters") ∷ [])
 
 -- `count PLAN EVENTS`, and perhaps `--json`
 abbrev pub count_app : App

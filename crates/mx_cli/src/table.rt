@@ -5,8 +5,8 @@ ghost use Rattle.mx_cli.specs.Table.{app_of_row, command_app};
 
 use crate::arguments::{
     ASKS, Argument, COUNT_TOO, EVENTS, EVENTS_OR_SCRIPT, FIRST_SCRIPT, FROM, IN_ORDER, IS_SCRIPT,
-    JOURNALS, JSON, LETTERS, LINK_SEED, LOSS, NODE, PICTURE_NODE, PLAN, PROGRESS, QUIET, REPEAT,
-    SCRIPT, SECTIONS, SEED, SEEDS, SETTLE, STATE, STEPS, TO, TRACE, TURNS, WALK, WALK_WANTED,
+    JSON, LETTERS, LINK_SEED, LOSS, NODE, PICTURE_NODE, PLAN, PROGRESS, QUIET, REPEAT, SCRIPT,
+    SECTIONS, SEED, SEEDS, SETTLE, STATE, STEPS, TO, TRACE, TURNS, WALK, WALK_WANTED,
 };
 use crate::{examples, help};
 
@@ -36,15 +36,12 @@ pub enum CommandId {
     Explain,
 }
 
-/// A row of the table of commands.
 #[derive(Clone, Copy)]
-pub struct CommandRow {
-    pub name: &'static str,
-    /// What the command does, as help says it.
-    pub about: &'static str,
-    pub arguments: &'static [Argument],
-    /// The text that ends the help of the command.
-    pub example: &'static str,
+pub(crate) struct CommandRow {
+    pub(crate) name: &'static str,
+    pub(crate) about: &'static str,
+    pub(crate) arguments: &'static [Argument],
+    pub(crate) example: &'static str,
 }
 
 /// The commands that `mx_commands::command` runs.
@@ -129,7 +126,7 @@ static PLAY: CommandRow = CommandRow {
 static PICTURE: CommandRow = CommandRow {
     name: "picture",
     about: "Draws a run as an SVG in which time goes down",
-    arguments: &[PLAN, EVENTS, FROM, TO, PICTURE_NODE, JOURNALS, LETTERS],
+    arguments: &[PLAN, EVENTS, FROM, TO, PICTURE_NODE, LETTERS],
     example: examples::PICTURE,
 };
 
@@ -154,8 +151,7 @@ static EXPLAIN: CommandRow = CommandRow {
     example: examples::EXPLAIN,
 };
 
-/// The row of a command.
-pub fn row_of(id: CommandId) -> &'static CommandRow
+pub(crate) fn row_of(id: CommandId) -> &'static CommandRow
     ensures { app_of_row result.now ≡ command_app id }
 {
     match id {

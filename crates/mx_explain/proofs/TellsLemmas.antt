@@ -12,7 +12,7 @@ use Rattle.mx_cli.proofs.OutputLemmas.{Appends-keeps, Appends-nil, Keeps-refl}
 use Rattle.mx_scripts.specs.declared.script_error.ScriptError.{ScriptError}
 use Rattle.mx_scripts.specs.declared.script_error.ScriptError.TheVariants as script_error
 use Rattle.mx_scripts.specs.Ended.{ClosesScript}
-use Rattle.mx_diagnostics.specs.Reports.{last_line, nothing_at_fault}
+use Rattle.mx_explain.specs.Reports.{last_line, nothing_at_fault}
 use Rattle.mx_explain.specs.Explained.{Prints, PrintsReport, TellsLines}
 
 -- ---- what is printed

@@ -1,6 +1,6 @@
 -- The status of an explanation, and what standard error gets: the same as for the check, the replay
 -- or the script. And what standard output gets.
-use Rattle.std.specs.Prelude.{◌≡◌, ◌≢◌, ◌⊎◌, ◌↔◌, ◌&&◌, ℕ, Bool, false, Option, Result, IfSome, MatchResult}
+use Rattle.std.specs.Prelude.{◌≡◌, ◌≢◌, ◌⊎◌, ◌↔◌, ◌&&◌, ℕ, Bool, false, true, Option, Result, IfSome, MatchResult}
 use Rattle.std.specs.Io.KnownBytes.{Appends}
 use Rattle.mx_cli.specs.Words.{Request}
 use Rattle.mx_plan.specs.Text.{Text}
@@ -13,7 +13,7 @@ use Rattle.mx_commands.specs.Jobs.{HoldsOfReport, job_of, names_in}
 use Rattle.mx_commands.specs.Ran.{end_text, status_of}
 use Rattle.mx_cli.specs.Closed.{FallsShort}
 use Rattle.mx_scripts.specs.Ended.{ScriptsOf}
-use Rattle.mx_diagnostics.specs.Reports.{AreShown, last_line, nothing_at_fault}
+use Rattle.mx_explain.specs.Reports.{AreShown, last_line, nothing_at_fault}
 use Rattle.mx_explain.specs.Asked.{ExplainRequest, run, script}
 
 -- the status is that of this report, and standard error got the line of its fault, if it has one
@@ -42,12 +42,12 @@ ExplainsRequest takes_out takes_err told (script names) old new status =
 abbrev pub FailsToPrint : Bool → CommandError → Type 0
 FailsToPrint takes_all end = (end ≡ Memory) ⊎ ((end ≡ Writer) × (takes_all ≡ false))
 
--- A report was printed: printable lines. The last is `nothing is at fault` exactly if no line is a
--- fault.
+-- A report was printed: printable lines. The last is `nothing is at fault` exactly if the files are
+-- well.
 abbrev pub PrintsReport : Held → Held → Bool → Type 0
-PrintsReport old new is_fault =
+PrintsReport old new is_well =
     (text : Text) × Appends old new text × AreShown text
-    × ((last_line text ≡ nothing_at_fault) ↔ (is_fault ≡ false))
+    × ((last_line text ≡ nothing_at_fault) ↔ (is_well ≡ true))
 
 -- What was printed about the files: printable lines. The last is `nothing is at fault` exactly if
 -- the command succeeds.

@@ -66,8 +66,8 @@ impl<'s, S: Source + DetailedSource> Source for CachedSource<'s, S> {
 
 impl<'s, S: Source + DetailedSource> DetailedSource for CachedSource<'s, S> {
     fn fetched(&mut self, alloc: Global, name: &str) -> Result<Vec<u8>, Refusal> {
-        match take(&mut self.entries, name) {
-            Some(bytes) => Ok(bytes),
+        match index_of(self.entries.as_slice(), name) {
+            Some(index) => Ok(self.entries.swap_remove(index).bytes),
             None => self.source.fetched(alloc, name),
         }
     }
@@ -84,12 +84,6 @@ fn keep(
     let bytes = Vec::from_slice(alloc, bytes)?;
     entries.push(Entry { name, bytes })?;
     Ok(())
-}
-
-/// Takes the bytes that are kept under a name.
-fn take(entries: &mut Vec<Entry>, name: &str) -> Option<Vec<u8>> {
-    let index = index_of(entries.as_slice(), name)?;
-    Some(entries.swap_remove(index).bytes)
 }
 
 /// Returns the index of the entry that has the bytes read under a name.

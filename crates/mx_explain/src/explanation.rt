@@ -1,25 +1,24 @@
 //! `explain`: from words, named bytes and two outputs to an exit status.
 
-ghost use Rattle.std.specs.Prelude.{◌≡◌, ◌&&◌, IsSome, IfSome, IfOk, IfErr, OnErr, OnOk, None, is_some, true, false};
+ghost use Rattle.std.specs.Prelude.{◌≡◌, ◌&&◌, IsSome, IfSome, IfOk, IfErr, OnErr, OnOk, None, true};
 ghost use Rattle.mx_cli.specs.Words.{request_of, texts_of};
 ghost use Rattle.mx_cli.specs.Reports.{Answers, seen};
 ghost use Rattle.mx_cli.specs.Closed.{IsRunStatus, PassesOn};
 ghost use Rattle.mx_commands.specs.Ran.{RanOf};
 ghost use Rattle.mx_explain.specs.Asked.{explain_line, explain_request_of, request_asked};
-ghost use Rattle.mx_explain.specs.Explained.{Explains, ExplainsRequest, FailsToPrint, Prints, PrintsReport, TellsLines};
-ghost use Rattle.mx_diagnostics.specs.Reports.{has_fault};
+ghost use Rattle.mx_explain.specs.Explained.{Explains, ExplainsRequest, FailsToPrint, Prints, TellsLines};
 ghost use Rattle.std.specs.Io.KnownBytes.{Keeps};
 
 use crate::cached_source::{CachedSource, DetailedSource};
-use crate::files::explain_files;
-use crate::replay::{ReplayWarnings, replay};
+use crate::files::{Second, print_files};
+use crate::notes::Notes;
+use crate::replay::replay;
 use crate::request::{ExplainRequest, parse};
 use crate::scripts::explain_script;
-use mx_cli::{CommandError, Fault, Request, close, refuse};
+use mx_cli::{CommandError, Request, close, refuse};
 use mx_commands::{NullOutput, carry_out, names_in};
-use mx_diagnostics::Report;
 use mx_io::{Output, Source};
-use std::alloc::{AllocError, Global};
+use std::alloc::Global;
 
 /// Runs a command line whose first argument is `explain`, without the program's name. Returns the
 /// exit status:
@@ -71,33 +70,11 @@ fn explain_cached<S: Source + DetailedSource, O: Output, E: Output>(
         result }
     ensures status { IsRunStatus result }
 {
-    let mut cached = CachedSource {
-        source,
-        entries: Vec::new(alloc),
-    };
-    explain_cached_request(alloc, request, &mut cached, out, err)
-}
-
-/// Explains a check, a replay or a script, and returns the exit status.
-fn explain_cached_request<S: Source + DetailedSource, O: Output, E: Output>(
-    alloc: Global,
-    request: &ExplainRequest<'_>,
-    source: &mut S,
-    out: &mut O,
-    err: &mut E,
-) -> u8
-    ensures explains { ExplainsRequest (O.takes_all out.old) (E.takes_all err.old)
-        (S.told source.old) (explain_request_of request.now)
-        (E.written err.old) (E.written err.new) result }
-    ensures told { TellsLines (O.takes_all out.old && E.takes_all err.old) (O.written out.old)
-        (O.written out.new) (E.written err.old) (E.written err.new) result }
-    ensures passed { PassesOn (E.written err.old) (E.written err.new) (O.keeps_back out.new)
-        result }
-    ensures status { IsRunStatus result }
-{
+    let entries = Vec::new(alloc);
+    let mut cached = CachedSource { source, entries };
     match request {
-        ExplainRequest::Run(request) => explain_request(alloc, request, source, out, err),
-        ExplainRequest::Script(names) => explain_script(alloc, names, source, out, err),
+        ExplainRequest::Run(request) => explain_request(alloc, request, &mut cached, out, err),
+        ExplainRequest::Script(names) => explain_script(alloc, names, &mut cached, out, err),
     }
 }
 
@@ -135,25 +112,25 @@ fn carry_out_and_explain<S: Source + DetailedSource, O: Output>(
     ensures zero { IfOk result (λ status. status ≡ 0) }
     ensures stays { O.takes_all out.new ≡ O.takes_all out.old }
 {
-    let mut warnings = ReplayWarnings::new(alloc);
-    let ended = run(alloc, request, source, &mut warnings);
-    print_end(alloc, request, &ended, &warnings, source, out)?;
+    let mut notes = Notes::new(alloc);
+    let ended = run(alloc, request, source, &mut notes);
+    print_end(alloc, request, &ended, &notes, source, out)?;
     ended
 }
 
-/// Carries out a check or a replay, and keeps the warnings of a replay. Prints nothing. Ends as the
+/// Carries out a check or a replay, which notes its events. Prints nothing. Ends as the
 /// command does over an output that takes all texts.
 fn run<S: Source>(
     alloc: Global,
     request: &Request<'_>,
     source: &mut S,
-    warnings: &mut ReplayWarnings,
+    notes: &mut Notes,
 ) -> Result<u8, CommandError>
     ensures ran { RanOf true None None (S.told source.old) (request_of request.now) result }
     ensures zero { IfOk result (λ status. status ≡ 0) }
 {
     match request {
-        Request::Replay(names) => replay(alloc, names, source, warnings),
+        Request::Replay(names) => replay(alloc, names, source, notes),
         Request::Check(_) | Request::Asks(_) | Request::Explore(_) => {
             carry_out(alloc, request, source, &mut NullOutput)
         }
@@ -166,7 +143,7 @@ fn print_end<S: Source + DetailedSource, O: Output>(
     alloc: Global,
     request: &Request<'_>,
     ended: &Result<u8, CommandError>,
-    warnings: &ReplayWarnings,
+    notes: &Notes,
     source: &mut S,
     out: &mut O,
 ) -> Result<(), CommandError>
@@ -175,65 +152,14 @@ fn print_end<S: Source + DetailedSource, O: Output>(
     ensures same { OnErr result (Keeps (O.written out.old) (O.written out.new)) }
     ensures stays { O.takes_all out.new ≡ O.takes_all out.old }
 {
+    let names = names_in(request);
+    let second = match request {
+        Request::Replay(_) => Second::Events(notes),
+        Request::Check(_) | Request::Asks(_) | Request::Explore(_) => Second::Nothing,
+    };
     match ended {
-        Ok(_) => print_explanation(alloc, request, None, warnings, source, out),
-        Err(CommandError::Fault(fault)) => print_explanation(
-            alloc,
-            request,
-            Some(*fault),
-            warnings,
-            source,
-            out,
-        ),
+        Ok(_) => print_files(alloc, &names, &second, true, source, out),
+        Err(CommandError::Fault(_)) => print_files(alloc, &names, &second, false, source, out),
         Err(_) => Ok(()),
     }
-}
-
-/// Prints what is wrong in the files of a request that ended with this fault. If it ended with
-/// none, prints the warnings, and that nothing is at fault.
-fn print_explanation<S: Source + DetailedSource, O: Output>(
-    alloc: Global,
-    request: &Request<'_>,
-    fault: Option<Fault>,
-    warnings: &ReplayWarnings,
-    source: &mut S,
-    out: &mut O,
-) -> Result<(), CommandError>
-    ensures fails { IfErr result (FailsToPrint (O.takes_all out.old)) }
-    ensures prints { OnOk result (PrintsReport (O.written out.old) (O.written out.new)
-        (is_some fault)) }
-    ensures same { OnErr result (Keeps (O.written out.old) (O.written out.new)) }
-    ensures stays { O.takes_all out.new ≡ O.takes_all out.old }
-{
-    let report = report_of(alloc, request, fault, warnings, source)?;
-    put_report(&report, out)
-}
-
-/// Prints all lines of a report.
-pub(crate) fn put_report<O: Output>(report: &Report, out: &mut O) -> Result<(), CommandError>
-    ensures fails { IfErr result (FailsToPrint (O.takes_all out.old)) }
-    ensures prints { OnOk result (PrintsReport (O.written out.old) (O.written out.new)
-        (has_fault report.now.lines)) }
-    ensures same { OnErr result (Keeps (O.written out.old) (O.written out.new)) }
-    ensures stays { O.takes_all out.new ≡ O.takes_all out.old }
-{
-    let text = report.text()?;
-    out.put(text.as_bytes())?;
-    Ok(())
-}
-
-/// Returns the report on the files of a request that ended with this fault, or with none.
-fn report_of<S: Source + DetailedSource>(
-    alloc: Global,
-    request: &Request<'_>,
-    fault: Option<Fault>,
-    warnings: &ReplayWarnings,
-    source: &mut S,
-) -> Result<Report, AllocError>
-    ensures { IfOk result (λ report. has_fault report.lines ≡ is_some fault) }
-{
-    let mut report = Report::new(alloc, fault.is_none());
-    explain_files(&mut report, request, fault, warnings, source)?;
-    report.end(names_in(request).plan)?;
-    Ok(report)
 }

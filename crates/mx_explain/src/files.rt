@@ -1,155 +1,136 @@
 //! What is wrong in the files that a check, a replay or a script reads.
 
-ghost use Rattle.mx_diagnostics.specs.Reports.{IsLonger};
+ghost use Rattle.std.specs.Prelude.{◌≡◌, IfErr, OnErr, OnOk};
+ghost use Rattle.std.specs.Io.KnownBytes.{Keeps};
+ghost use Rattle.mx_explain.specs.Explained.{FailsToPrint, PrintsReport};
 
 use crate::cached_source::DetailedSource;
-use crate::replay::ReplayWarnings;
-use crate::script_warnings::ScriptWarnings;
-use mx_cli::{Fault, Names, Request, are_dashes, split_line};
-use mx_diagnostics::{
-    FileReport, PlanNames, Report, Unreadable, explain_event_text, explain_plan_text,
-    explain_script_text,
-};
-use mx_io::{Refusal, Source};
-use std::alloc::AllocError;
+use crate::event_fault::explain_events;
+use crate::location::Part;
+use crate::notes::Notes;
+use crate::plan_fault::explain_plan;
+use crate::report::Report;
+use crate::script_lines::explain_lines;
+use mx_cli::{CommandError, Names, are_dashes, split_line};
+use mx_io::{Output, Refusal, Source};
+use mx_plan::Plan;
+use std::alloc::{AllocError, Global};
 
 /// What comes with a plan, as a second file or in the rest of standard input.
 #[derive(Clone, Copy)]
 pub(crate) enum Second<'a> {
-    /// Events, with the warnings of their run if they were read.
-    Events(Option<&'a ReplayWarnings>),
-    /// A script, with the warnings of its run if it was read.
-    Script(Option<&'a ScriptWarnings>),
+    Nothing,
+    /// Events, with the notes of their replay.
+    Events(&'a Notes),
+    /// A script, with the notes of its run.
+    Script(&'a Notes),
 }
 
-/// Adds what is wrong in the files of a check or a replay that ended with this fault, or with none.
-pub(crate) fn explain_files<S: Source + DetailedSource>(
-    report: &mut Report,
-    request: &Request<'_>,
-    fault: Option<Fault>,
-    warnings: &ReplayWarnings,
-    source: &mut S,
-) -> Result<(), AllocError>
-    ensures { IsLonger report.old report.new }
-{
-    match request {
-        Request::Replay(names) => {
-            let ran = match fault {
-                None | Some(Fault::NoParcel(_)) => Some(warnings),
-                Some(_) => None,
-            };
-            explain_both(report, names, &Second::Events(ran), source)
-        }
-        Request::Check(plan) | Request::Asks(plan) => explain_alone(report, plan, source),
-        Request::Explore(_) => Ok(()),
-    }
-}
-
-/// Adds what is wrong in a plan and in the events or the script that come with it.
-pub(crate) fn explain_both<S: Source + DetailedSource>(
-    report: &mut Report,
+/// Prints what is wrong in the files of these names. If all is well (`is_well`), these are warnings
+/// alone, and that nothing is at fault.
+pub(crate) fn print_files<S: Source + DetailedSource, O: Output>(
+    alloc: Global,
     names: &Names<'_>,
     second: &Second<'_>,
+    is_well: bool,
     source: &mut S,
-) -> Result<(), AllocError>
-    ensures { IsLonger report.old report.new }
+    out: &mut O,
+) -> Result<(), CommandError>
+    ensures fails { IfErr result (FailsToPrint (O.takes_all out.old)) }
+    ensures prints { OnOk result (PrintsReport (O.written out.old) (O.written out.new) is_well) }
+    ensures same { OnErr result (Keeps (O.written out.old) (O.written out.new)) }
+    ensures stays { O.takes_all out.new ≡ O.takes_all out.old }
 {
-    if are_dashes(names) {
-        explain_one(report, names, second, source)
-    } else {
-        explain_two(report, names, second, source)
-    }
-}
-
-/// Adds what is wrong in a plan that comes alone.
-fn explain_alone<S: Source + DetailedSource>(
-    report: &mut Report,
-    name: &str,
-    source: &mut S,
-) -> Result<(), AllocError>
-    ensures { IsLonger report.old report.new }
-{
-    if let Some(text) = fetched(report, name, source)? {
-        let _ = explain_plan_text(report, name, text.as_slice())?;
-    }
+    let mut report = Report::new(alloc);
+    explain_files(&mut report, names, second, source)?;
+    let text = report.into_text(is_well)?;
+    out.put(text.as_bytes())?;
     Ok(())
 }
 
-/// Adds what is wrong in a plan, the first line of a text, and in the rest, its events or script.
-fn explain_one<S: Source + DetailedSource>(
+/// Reports what is wrong in a plan, and in what comes with it, if the plan has no fault.
+fn explain_files<S: Source + DetailedSource>(
     report: &mut Report,
     names: &Names<'_>,
     second: &Second<'_>,
     source: &mut S,
-) -> Result<(), AllocError>
-    ensures { IsLonger report.old report.new }
-{
+) -> Result<(), AllocError> {
     let Some(text) = fetched(report, names.plan, source)? else {
         return Ok(());
     };
+    if !are_dashes(names) || matches!(second, Second::Nothing) {
+        return explain_two(report, names, second, text.as_slice(), source);
+    }
     let (line, rest) = split_line(text.as_slice());
-    let plan = explain_plan_text(report, names.plan, line)?;
-    explain_second(report, names.events, second, &plan, rest, 1)
+    let Some(plan) = explain_plan(report, part_of(names.plan, line, 0))? else {
+        return Ok(());
+    };
+    explain_second(report, second, &plan, part_of(names.events, rest, 1))
 }
 
-/// Adds what is wrong in a plan, and in its events or script in a second file.
+/// Reports what is wrong in a plan with this text, and in what comes with it in a second file.
 fn explain_two<S: Source + DetailedSource>(
     report: &mut Report,
     names: &Names<'_>,
     second: &Second<'_>,
+    text: &[u8],
     source: &mut S,
-) -> Result<(), AllocError>
-    ensures { IsLonger report.old report.new }
-{
-    let Some(text) = fetched(report, names.plan, source)? else {
+) -> Result<(), AllocError> {
+    let Some(plan) = explain_plan(report, part_of(names.plan, text, 0))? else {
         return Ok(());
     };
-    let plan = explain_plan_text(report, names.plan, text.as_slice())?;
-    let Some(rest) = fetched(report, names.events, source)? else {
+    if let Second::Nothing = second {
         return Ok(());
-    };
-    explain_second(report, names.events, second, &plan, rest.as_slice(), 0)
+    }
+    match fetched(report, names.events, source)? {
+        Some(text) => {
+            explain_second(
+                report,
+                second,
+                &plan,
+                part_of(names.events, text.as_slice(), 0),
+            )
+        }
+        None => Ok(()),
+    }
 }
 
-/// Adds what is wrong in `text`, which has the events or the script. It is the end of the file,
-/// after `above` lines.
-fn explain_second<'a>(
+fn part_of<'a>(file: &'a str, text: &'a [u8], above: usize) -> Part<'a> {
+    Part { file, text, above }
+}
+
+fn explain_second(
     report: &mut Report,
-    file: &'a str,
     second: &Second<'_>,
-    plan: &PlanNames,
-    text: &'a [u8],
-    above: usize,
-) -> Result<(), AllocError>
-    ensures { IsLonger report.old report.new }
-{
+    plan: &Plan,
+    part: Part<'_>,
+) -> Result<(), AllocError> {
     match second {
-        Second::Events(Some(warnings)) => warnings.explain(report, file, text, above),
-        Second::Events(None) => explain_event_text(report, file, plan, text, above),
-        Second::Script(warnings) => {
-            let ran = match warnings {
-                Some(warnings) => warnings.explain(file, text, above)?,
-                None => FileReport::new(report.alloc(), file),
-            };
-            explain_script_text(report, file, plan, text, above, ran)
+        Second::Nothing => Ok(()),
+        Second::Events(notes) => match notes.bad_events {
+            Some(fault) => explain_events(report, part, plan, fault),
+            None => notes.explain_replay(report, &part),
+        },
+        Second::Script(notes) => {
+            explain_lines(report, &part, plan)?;
+            notes.explain_script(report, &part)
         }
     }
 }
 
-/// Returns the bytes of a file. If it can't be read, adds the reason to the report, and returns
-/// `None`.
+/// Returns the bytes of a file. If it can't be read, reports the reason, and returns `None`.
 fn fetched<S: Source + DetailedSource>(
     report: &mut Report,
     name: &str,
     source: &mut S,
-) -> Result<Option<Vec<u8>>, AllocError>
-    ensures { IsLonger report.old report.new }
-{
-    match source.fetched(report.alloc(), name) {
+) -> Result<Option<Vec<u8>>, AllocError> {
+    let alloc = report.alloc();
+    match source.fetched(alloc, name) {
         Ok(bytes) => Ok(Some(bytes)),
         Err(Refusal::Memory) => Err(AllocError),
         Err(Refusal::Because(reason)) => {
-            report.add_fault(name, Unreadable(reason))?;
+            let text = format!(in alloc; " this file can't be read: {reason}")?;
+            report.add(name, text.as_str())?;
             Ok(None)
         }
     }

@@ -2,15 +2,22 @@
 //! expected there.
 #![tactic(auto)]
 
+mod bad_token;
 mod cached_source;
+mod document;
+mod event_fault;
 mod explanation;
 mod files;
-mod refusal;
+mod location;
+mod notes;
+mod path;
+mod plan_fault;
 mod replay;
+mod report;
 mod request;
-mod script_warnings;
+mod script_lines;
 mod scripts;
-mod warnings;
+mod shape_fault;
 
 pub use cached_source::DetailedSource;
 pub use explanation::explain;

@@ -1,124 +1,18 @@
-//! The replay that is explained, and the warnings of its run.
+//! The replay that is explained.
 
 ghost use Rattle.std.specs.Prelude.{◌≡◌, None, IfOk, true};
 ghost use Rattle.mx_cli.specs.Words.{names_of};
 ghost use Rattle.mx_cli.specs.Words as wants;
 ghost use Rattle.mx_commands.specs.Jobs.{report_of_events};
 ghost use Rattle.mx_commands.specs.Ran.{Ran, RanOf};
-ghost use Rattle.mx_commands.specs.Runs.{silent};
-ghost use Rattle.mx_diagnostics.specs.Reports.{IsLonger};
 
-use crate::warnings::Warnings;
+use crate::notes::Notes;
 use mx_cli::{CommandError, Fault, Names, fetch_both};
-use mx_commands::{Sink, observe};
-use mx_diagnostics::{EventOffsets, FileReport, Report};
+use mx_commands::observe;
 use mx_events::Event;
 use mx_io::Source;
-use mx_knowledge::Knowledge;
-use mx_network::Cluster;
-use mx_nodelaws::Exclusion;
 use mx_plan::{Plan, read_events};
-use std::alloc::{AllocError, Global};
-use std::fmt;
-
-/// The warnings of a replay: which events are refused, and which parcel was not sent.
-#[derive(Drop)]
-pub(crate) struct ReplayWarnings {
-    refused: Warnings,
-    /// How many parcels were sent.
-    sent: u64,
-    /// The event that ends the run, if it delivers a parcel that was not sent.
-    unsent: Option<Unsent>,
-}
-
-impl<C: Exclusion + Knowledge> Sink<Cluster<C>> for ReplayWarnings {
-    ghost texts = { λ _ _. silent };
-
-    fn event(
-        &mut self,
-        plan: &Plan,
-        index: u64,
-        _before: u64,
-        cluster: &Cluster<C>,
-        _text: &mut String,
-    ) -> Result<(), AllocError> {
-        self.sent = cluster.sent();
-        self.refused.note_newest(plan, cluster, index)
-    }
-
-    fn end(
-        &mut self,
-        _alloc: Global,
-        _plan: &Plan,
-        _cluster: &Cluster<C>,
-        _text: &mut String,
-    ) -> Result<u8, AllocError> {
-        Ok(0)
-    }
-}
-
-impl ReplayWarnings {
-    /// Creates the warnings of a replay before its first event.
-    pub(crate) fn new(alloc: Global) -> Self {
-        ReplayWarnings {
-            refused: Warnings::new(alloc),
-            sent: 0,
-            unsent: None,
-        }
-    }
-
-    /// Notes the event that ends a run if it delivers a parcel that was not sent.
-    fn note_end(&mut self, events: &[Event], error: &CommandError) {
-        let CommandError::Fault(Fault::NoParcel(index)) = error else {
-            return;
-        };
-        if let Some(Event::Deliver(number)) = events.get(*index as usize) {
-            self.unsent = Some(Unsent {
-                index: *index,
-                number: *number,
-                sent: self.sent,
-            });
-        }
-    }
-
-    /// Returns whether no event was refused, and none delivers a parcel that was not sent.
-    fn is_empty(&self) -> bool {
-        self.refused.shown().is_empty() && self.unsent.is_none()
-    }
-
-    /// Adds all warnings to a report. They have their places in `text`, the text of the events,
-    /// which is the end of the file, after `above` lines.
-    pub(crate) fn explain<'a>(
-        &self,
-        report: &mut Report,
-        file: &'a str,
-        text: &'a [u8],
-        above: usize,
-    ) -> Result<(), AllocError>
-        ensures { IsLonger report.old report.new }
-    {
-        if self.is_empty() {
-            return Ok(());
-        }
-        let mut lines = FileReport::new(report.alloc(), file);
-        lines.look_at(text, above);
-        let offsets = EventOffsets::read(report.alloc(), text)?;
-        self.add_to(&mut lines, &offsets)?;
-        report.add(lines)
-    }
-
-    /// Adds all warnings to the lines of a file, each at its event.
-    fn add_to(&self, lines: &mut FileReport<'_>, offsets: &EventOffsets) -> Result<(), AllocError> {
-        for warning in self.refused.shown() {
-            lines.warn_at(offsets.event(warning.number), warning.text.as_str())?;
-        }
-        lines.count_warnings(self.refused.more());
-        match self.unsent {
-            Some(unsent) => lines.fault_at(offsets.argument(unsent.index), unsent),
-            None => Ok(()),
-        }
-    }
-}
+use std::alloc::Global;
 
 /// Reads the plan, then the events, and replays the events. Prints nothing. Ends as the command
 /// `replay` does over an output that takes all texts: with status 0, with the same fault, or
@@ -127,14 +21,14 @@ pub(crate) fn replay<S: Source>(
     alloc: Global,
     names: &Names<'_>,
     source: &mut S,
-    warnings: &mut ReplayWarnings,
+    notes: &mut Notes,
 ) -> Result<u8, CommandError>
     ensures ran { RanOf true None None (S.told source.old) (wants.replay (names_of names.now))
         result }
     ensures zero { IfOk result (λ status. status ≡ 0) }
 {
     let both = fetch_both(alloc, source, names)?;
-    replay_events(alloc, &both.plan, both.text.as_slice(), warnings)
+    replay_events(alloc, &both.plan, both.text.as_slice(), notes)
 }
 
 /// Reads the events in `text`, and replays them in the cluster of the plan. Ends as `replay` does.
@@ -142,41 +36,35 @@ fn replay_events(
     alloc: Global,
     plan: &Plan,
     text: &[u8],
-    warnings: &mut ReplayWarnings,
+    notes: &mut Notes,
 ) -> Result<u8, CommandError>
     ensures ran { Ran true None None (report_of_events text.now plan.now) result }
     ensures zero { IfOk result (λ status. status ≡ 0) }
 {
-    let events = read_events(alloc, text, plan)?;
-    match observe(alloc, plan, events.as_slice(), warnings) {
+    let events = match read_events(alloc, text, plan) {
+        Ok(events) => events,
+        Err(fault) => {
+            notes.bad_events = Some(fault);
+            return Err(CommandError::from(fault));
+        }
+    };
+    match observe(alloc, plan, events.as_slice(), notes) {
         Ok(()) => Ok(0),
         Err(error) => {
-            warnings.note_end(events.as_slice(), &error);
+            notes.unsent = unsent_of(events.as_slice(), &error);
             Err(error)
         }
     }
 }
 
-/// An event that delivers a parcel that was not sent: the index of the event, the number of the
-/// parcel, and how many parcels were sent before.
-#[derive(Clone, Copy)]
-struct Unsent {
-    index: u64,
-    number: u64,
-    sent: u64,
-}
-
-impl fmt::Display for Unsent {
-    fn fmt<W: fmt::Write>(&self, f: &mut fmt::Formatter<W>) -> fmt::Result {
-        let index = self.index;
-        let number = self.number;
-        write!(
-            f,
-            " events[{index}][1]: {number} stands here, expected a parcel that was sent before: "
-        )?;
-        match self.sent.checked_sub(1) {
-            Some(last) => write!(f, "there are {}, from 0 to {last}", self.sent),
-            None => f.write_str("there is none yet"),
-        }
+/// Returns the index of the event that ends a run, and the number of the parcel, if the event
+/// delivers one that was not sent.
+fn unsent_of(events: &[Event], error: &CommandError) -> Option<(u64, u64)> {
+    let CommandError::Fault(Fault::NoParcel(k)) = error else {
+        return None;
+    };
+    match events.get(*k as usize) {
+        Some(Event::Deliver(number)) => Some((*k, *number)),
+        _ => None,
     }
 }

@@ -1,22 +1,19 @@
 //! `explain --script`: how a script ends, and what is wrong in its lines.
 
-ghost use Rattle.std.specs.Prelude.{◌≡◌, ◌&&◌, Bool, IfErr, IfOk, OnErr, OnOk, not};
+ghost use Rattle.std.specs.Prelude.{◌≡◌, ◌&&◌, Bool, IfErr, IfOk, OnErr, OnOk};
 ghost use Rattle.std.specs.Io.KnownBytes.{Keeps};
 ghost use Rattle.mx_cli.specs.Closed.{IsRunStatus, PassesOn};
 ghost use Rattle.mx_cli.specs.Words.{names_of};
-ghost use Rattle.mx_diagnostics.specs.Reports.{has_fault};
-ghost use Rattle.mx_explain.specs.Explained.{FailsToPrint, Prints, PrintsReport, TellsLines};
+ghost use Rattle.mx_explain.specs.Explained.{FailsToPrint, Prints, TellsLines};
 ghost use Rattle.mx_scripts.specs.Ended.{EndsScript, ScriptsOf};
 
 use crate::cached_source::DetailedSource;
-use crate::explanation::put_report;
-use crate::files::{Second, explain_both};
-use crate::script_warnings::ScriptWarnings;
+use crate::files::{Second, print_files};
+use crate::notes::Notes;
 use mx_cli::{CommandError, Names};
-use mx_diagnostics::Report;
 use mx_io::{Output, Source};
 use mx_scripts::{ScriptError, close_script, file_of_names};
-use std::alloc::{AllocError, Global};
+use std::alloc::Global;
 
 /// Prints what is wrong in a plan and a script, reports how the script ends, and returns the exit
 /// status.
@@ -53,27 +50,27 @@ fn end_and_explain<S: Source + DetailedSource, O: Output>(
     ensures zero { IfOk result (λ status. status ≡ 0) }
     ensures stays { O.takes_all out.new ≡ O.takes_all out.old }
 {
-    let mut warnings = ScriptWarnings::new(alloc);
-    let ended = end_of(alloc, names, source, &mut warnings);
-    match print_end(alloc, names, &ended, &warnings, source, out) {
+    let mut notes = Notes::new(alloc);
+    let ended = end_of(alloc, names, source, &mut notes);
+    match print_end(alloc, names, &ended, &notes, source, out) {
         Ok(()) => ended,
         Err(stop) => Err(ScriptError::Command(stop)),
     }
 }
 
-/// Runs a script, and keeps its warnings. Returns how the script ends; the file of its events is
+/// Runs a script, which notes its events. Returns how the script ends; the file of its events is
 /// dropped.
 fn end_of<S: Source>(
     alloc: Global,
     names: &Names<'_>,
     source: &mut S,
-    warnings: &mut ScriptWarnings,
+    notes: &mut Notes,
 ) -> Result<u8, ScriptError>
     ensures ends { (takes : Bool) → EndsScript takes (S.told source.old)
         (names_of names.now) result }
     ensures zero { IfOk result (λ status. status ≡ 0) }
 {
-    match file_of_names(alloc, names, source, warnings) {
+    match file_of_names(alloc, names, source, notes) {
         Ok(_file) => Ok(0),
         Err(error) => Err(error),
     }
@@ -85,7 +82,7 @@ fn print_end<S: Source + DetailedSource, O: Output>(
     alloc: Global,
     names: &Names<'_>,
     ended: &Result<u8, ScriptError>,
-    warnings: &ScriptWarnings,
+    notes: &Notes,
     source: &mut S,
     out: &mut O,
 ) -> Result<(), CommandError>
@@ -94,50 +91,12 @@ fn print_end<S: Source + DetailedSource, O: Output>(
     ensures same { OnErr result (Keeps (O.written out.old) (O.written out.new)) }
     ensures stays { O.takes_all out.new ≡ O.takes_all out.old }
 {
+    let second = Second::Script(notes);
     match ended {
-        Ok(_) => print_wrong(alloc, names, true, Some(warnings), source, out),
-        Err(ScriptError::AtLine(_)) => {
-            print_wrong(alloc, names, false, Some(warnings), source, out)
-        }
-        Err(ScriptError::Command(CommandError::Fault(_))) => {
-            print_wrong(alloc, names, false, None, source, out)
+        Ok(_) => print_files(alloc, names, &second, true, source, out),
+        Err(ScriptError::AtLine(_) | ScriptError::Command(CommandError::Fault(_))) => {
+            print_files(alloc, names, &second, false, source, out)
         }
         Err(ScriptError::Command(_)) => Ok(()),
     }
-}
-
-/// Prints what is wrong in a plan and a script. If the script ended well (`is_well`), prints the
-/// warnings, and that nothing is at fault. `warnings` is given if both files were read.
-fn print_wrong<S: Source + DetailedSource, O: Output>(
-    alloc: Global,
-    names: &Names<'_>,
-    is_well: bool,
-    warnings: Option<&ScriptWarnings>,
-    source: &mut S,
-    out: &mut O,
-) -> Result<(), CommandError>
-    ensures fails { IfErr result (FailsToPrint (O.takes_all out.old)) }
-    ensures prints { OnOk result (PrintsReport (O.written out.old) (O.written out.new)
-        (not is_well)) }
-    ensures same { OnErr result (Keeps (O.written out.old) (O.written out.new)) }
-    ensures stays { O.takes_all out.new ≡ O.takes_all out.old }
-{
-    let report = report_of(alloc, names, is_well, warnings, source)?;
-    put_report(&report, out)
-}
-
-/// Returns the report on a plan and a script. It has only warnings if the script ended well.
-fn report_of<S: Source + DetailedSource>(
-    alloc: Global,
-    names: &Names<'_>,
-    is_well: bool,
-    warnings: Option<&ScriptWarnings>,
-    source: &mut S,
-) -> Result<Report, AllocError>
-    ensures { IfOk result (λ report. has_fault report.lines ≡ not is_well) }
-{
-    let mut report = Report::new(alloc, is_well);
-    explain_both(&mut report, names, &Second::Script(warnings), source)?;
-    report.end(names.plan)?;
-    Ok(report)
 }

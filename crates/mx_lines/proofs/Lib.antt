@@ -1,3 +1,3 @@
-mod NameLemmas
+pub mod EscapeLemmas
 mod NumberLemmas
 mod ArgumentLemmas

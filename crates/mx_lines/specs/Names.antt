@@ -1,5 +1,5 @@
 -- The names of nodes and registers that a line may use.
-use Rattle.std.specs.Prelude.{ℕ, List, map, take}
+use Rattle.std.specs.Prelude.{List, map}
 use Rattle.std.specs.Borrow.{Bor}
 use Rattle.mx_plan.specs.Text.{Text}
 use Rattle.mx_plan.specs.Fields.{Fields}
@@ -15,6 +15,3 @@ known_of p = record { nodes = p.nodes; registers = p.registers }
 -- the texts that the references point to
 abbrev pub texts_of : List (Bor Text) → List Text
 texts_of = map (λ text. text.now)
-
-abbrev pub first_texts : ℕ → List (Bor Text) → List Text
-first_texts most texts = texts_of (take most texts)

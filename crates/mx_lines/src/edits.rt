@@ -13,7 +13,7 @@ const MAX_EDITS: usize = 3;
 const MAX_BYTES: usize = 64;
 
 /// Returns the first of the `known` names that the fewest edits of characters make of `name`: at
-/// most three, and fewer than the longer of both names has bytes.
+/// most three, and at most a third of the bytes of the longer of both names.
 pub fn nearest<'a>(
     alloc: Global,
     name: &str,
@@ -25,7 +25,7 @@ pub fn nearest<'a>(
     let mut best = None;
     for other in known {
         let count = edits(alloc, name, other)?;
-        if count < least && count < name.len().max(other.len()) {
+        if count < least && count <= name.len().max(other.len()) / 3 {
             least = count;
             best = Some(*other);
         }

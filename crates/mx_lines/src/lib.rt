@@ -6,6 +6,7 @@ mod arguments;
 mod commands;
 mod edits;
 mod errors;
+mod escapes;
 mod lines;
 mod messages;
 mod names;
@@ -17,9 +18,12 @@ mod words;
 pub use commands::{SessionCommand, read_command};
 pub use edits::nearest;
 pub use errors::{Expected, LineError, LineFault, OwnWord};
-pub use lines::{Line, first_error, next_error, read_line};
-pub use messages::{FirstWords, message, message_of_line};
-pub use names::{NameLists, Names};
+pub use escapes::add_escaped_text;
+pub use lines::{Line, first_error, read_line};
+pub use messages::{
+    FirstWords, Listed, Nearest, Quoted, message, message_of_line, message_of_unknown_node,
+};
+pub use names::Names;
 pub use numbers::number_of;
 pub use orders::{LinkChange, Order, Scope};
 pub use verbs::Verb;

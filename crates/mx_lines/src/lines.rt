@@ -5,7 +5,7 @@ ghost use Rattle.mx_lines.specs.Names.{texts_of};
 use crate::errors::{Expected, LineError, LineFault, refuse};
 use crate::names::Names;
 use crate::numbers::number_of;
-use crate::orders::{Order, error_after, order_at};
+use crate::orders::{Order, order_at};
 use mx_stamps::MAX_EVENTS;
 
 /// A line: what it asks for, and how often.
@@ -68,26 +68,5 @@ pub fn first_error<N: Names>(names: &N, words: &[&str]) -> Option<LineError>
     match read_line(names, words) {
         Ok(_) => None,
         Err(error) => Some(error),
-    }
-}
-
-/// Returns the next error of a line after `error`, from the left; that a line is missing after
-/// `times` comes after a wrong number there. After an unknown verb, or a wrong number of words,
-/// there is none.
-pub fn next_error<N: Names>(names: &N, words: &[&str], error: &LineError) -> Option<LineError> {
-    match error.expected {
-        Expected::Times => error_after_times(names, words),
-        Expected::Node | Expected::Register | Expected::Number | Expected::Parcel => {
-            let is_repeated = words.first() == Some(&"times");
-            error_after(names, words, if is_repeated { 2 } else { 0 }, error.word)
-        }
-        _ => None,
-    }
-}
-
-fn error_after_times<N: Names>(names: &N, words: &[&str]) -> Option<LineError> {
-    match words.get(2..)?.split_first() {
-        Some((first, rest)) => order_at(names, 2, first, rest).err(),
-        None => refuse::<Line>(LineFault::WordCount, 0, Expected::Repetition).err(),
     }
 }

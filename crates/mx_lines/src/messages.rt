@@ -1,11 +1,16 @@
 //! The messages about lines that are refused.
 
+ghost use Rattle.std.specs.Prelude.{IfOk, string_bytes};
+ghost use Rattle.mx_lines.specs.Escapes.{ArePrintable};
+
 use crate::edits::nearest;
 use crate::errors::{Expected, LineError, LineFault, OwnWord};
+use crate::escapes::add_escaped_text;
 use crate::names::Names;
 use crate::verbs::Verb;
 use crate::words::before_comment;
 use mx_events::{EVENT_KINDS, EventKind};
+use mx_plan::Plan;
 use std::alloc::{AllocError, Global};
 use std::fmt;
 use std::fmt::Display;
@@ -20,20 +25,31 @@ const SESSION_WORDS: [&str; 9] = [
     "show", "undo", "redo", "events", "mark", "help", "end", "quit", "exit",
 ];
 
-/// With which words a line may begin: those of scripts, or those of sessions too.
+/// With which words an event or a line may begin.
 #[derive(Clone, Copy, PartialEq, Eq)]
 pub enum FirstWords {
+    /// The words of events.
+    OfEvents,
+    /// Those, and the words of scripts.
     OfScripts,
+    /// All those, and the words of sessions.
     OfSessions,
 }
 
 impl FirstWords {
-    fn listed(self, alloc: Global) -> Result<Vec<&'static str>, AllocError> {
+    /// Returns the words in the order in which a message lists them.
+    ///
+    /// # Errors
+    ///
+    /// Returns `AllocError` if memory runs out.
+    pub fn listed(self, alloc: Global) -> Result<Vec<&'static str>, AllocError> {
         let mut words = Vec::new(alloc);
         for kind in &EVENT_KINDS {
             words.push(kind.word())?;
         }
-        words.extend_from_slice(&SCRIPT_WORDS)?;
+        if self != FirstWords::OfEvents {
+            words.extend_from_slice(&SCRIPT_WORDS)?;
+        }
         if self == FirstWords::OfSessions {
             words.extend_from_slice(&SESSION_WORDS)?;
         }
@@ -74,8 +90,44 @@ pub fn message<N: Names>(
 pub fn message_of_line(alloc: Global, line: &str) -> Result<String, AllocError> {
     let mut text = String::new(alloc);
     text.push_str(" ")?;
-    text.write(Shown(before_comment(line).trim()))?;
+    add_escaped_text(before_comment(line).trim(), &mut text)?;
     Ok(text)
+}
+
+/// Returns the message about a name that no node of a plan has: printable text. It begins with a
+/// space.
+///
+/// # Errors
+///
+/// Returns `AllocError` if memory runs out.
+pub fn message_of_unknown_node(alloc: Global, plan: &Plan, name: &str) -> Result<String, AllocError>
+    ensures { IfOk result (λ text. ArePrintable (string_bytes text)) }
+{
+    let nodes = plan.node_names(alloc)?;
+    let unknown = UnknownNode {
+        name,
+        nearest: nearest(alloc, name, nodes.as_slice())?,
+    };
+    let mut raw = String::new(alloc);
+    raw.write(unknown)?;
+    let mut message = String::with_capacity(alloc, raw.len())?;
+    add_escaped_text(raw.as_str(), &mut message)?;
+    Ok(message)
+}
+
+/// The message about a name that no node has, with the nearest name of a node, if one is near.
+#[derive(Clone, Copy)]
+struct UnknownNode<'a> {
+    name: &'a str,
+    nearest: Option<&'a str>,
+}
+
+impl Display for UnknownNode<'_> {
+    fn fmt<W: fmt::Write>(&self, f: &mut fmt::Formatter<W>) -> fmt::Result {
+        let name = Quoted(self.name);
+        let nearest = Nearest(self.nearest);
+        write!(f, " {name}, expected a node of the plan{nearest}")
+    }
 }
 
 /// Returns how many words stand after the word of an error, if their number is what is wrong.
@@ -171,7 +223,7 @@ impl Display for WordsAfter {
 
 /// Words in a sentence: with commas, and an `or` before the last.
 #[derive(Clone, Copy)]
-struct Listed<'a>(&'a [&'a str]);
+pub struct Listed<'a>(pub &'a [&'a str]);
 
 impl Display for Listed<'_> {
     fn fmt<W: fmt::Write>(&self, f: &mut fmt::Formatter<W>) -> fmt::Result {
@@ -193,7 +245,7 @@ fn separator(k: usize, count: usize) -> &'static str {
 
 /// A word in quotes; if it has more than 40 bytes, its length.
 #[derive(Clone, Copy)]
-struct Quoted<'a>(&'a str);
+pub struct Quoted<'a>(pub &'a str);
 
 impl Display for Quoted<'_> {
     fn fmt<W: fmt::Write>(&self, f: &mut fmt::Formatter<W>) -> fmt::Result {
@@ -207,7 +259,7 @@ impl Display for Quoted<'_> {
 
 /// The text that suggests the nearest word; empty if none is near.
 #[derive(Clone, Copy)]
-struct Nearest<'a>(Option<&'a str>);
+pub struct Nearest<'a>(pub Option<&'a str>);
 
 impl Display for Nearest<'_> {
     fn fmt<W: fmt::Write>(&self, f: &mut fmt::Formatter<W>) -> fmt::Result {
@@ -215,22 +267,5 @@ impl Display for Nearest<'_> {
             Some(name) => write!(f, "; the nearest is {name:?}"),
             None => Ok(()),
         }
-    }
-}
-
-/// A text, with its control characters escaped.
-#[derive(Clone, Copy)]
-struct Shown<'a>(&'a str);
-
-impl Display for Shown<'_> {
-    fn fmt<W: fmt::Write>(&self, f: &mut fmt::Formatter<W>) -> fmt::Result {
-        for character in self.0.chars() {
-            if character.is_control() {
-                write!(f, "{}", character.escape_debug())?;
-            } else {
-                f.write_char(character)?;
-            }
-        }
-        Ok(())
     }
 }

@@ -1,9 +1,9 @@
-ghost use Rattle.std.specs.Prelude.{◌≡◌, position, IfSome, ◌<◌};
+ghost use Rattle.std.specs.Prelude.{◌≡◌, position};
 ghost use Rattle.std.specs.Str.{bytes_eq};
-ghost use Rattle.mx_lines.specs.Names.{Known, first_texts};
+ghost use Rattle.mx_lines.specs.Names.{Known};
 
 use mx_plan::Plan;
-use mx_stamps::{MAX_NODES, MAX_REGISTERS, NodeId};
+use mx_stamps::NodeId;
 use std::alloc::{AllocError, Global};
 
 /// The names of nodes and registers, each numbered from 0.
@@ -53,48 +53,4 @@ impl Names for Plan {
         }
         Ok(names)
     }
-}
-
-/// Lists of names, in place of a plan. Only the first 21 nodes and 32 registers are found by name.
-#[derive(Clone, Copy)]
-pub struct NameLists<'a> {
-    pub nodes: &'a [&'a str],
-    pub registers: &'a [&'a str],
-}
-
-impl Names for NameLists<'_> {
-    ghost use Rattle.mx_lines.specs.Names.{first_texts};
-
-    ghost known = { λ l. record {
-      nodes = first_texts 21 l.nodes.now;
-      registers = first_texts 32 l.registers.now;
-    } };
-
-    fn node_named(&self, name: &str) -> Option<NodeId> {
-        match place_in(self.nodes, name, MAX_NODES) {
-            Some(place) => NodeId::of(place),
-            None => None,
-        }
-    }
-
-    fn register_named(&self, name: &str) -> Option<u8> {
-        place_in(self.registers, name, MAX_REGISTERS)
-    }
-
-    fn node_names(&self, alloc: Global) -> Result<Vec<&str>, AllocError> {
-        Vec::from_slice(alloc, self.nodes)
-    }
-
-    fn register_names(&self, alloc: Global) -> Result<Vec<&str>, AllocError> {
-        Vec::from_slice(alloc, self.registers)
-    }
-}
-
-fn place_in(names: &[&str], name: &str, most: u8) -> Option<u8>
-    ensures value { result ≡ position (bytes_eq name.now) (first_texts most names.now) }
-    ensures within { IfSome result (λ place. place < most) }
-{
-    let mut first = names.iter().take(usize::from(most));
-    let place = first.position(|known| name == *known)?;
-    Some(place as u8)
 }

@@ -197,33 +197,3 @@ fn number_at(place: usize, word: &str, expected: Expected) -> Result<Argument, L
         None => refuse(LineFault::NotNumber, place, expected),
     }
 }
-
-/// Returns the error of the first wrong argument after the word at `place`, in a line whose verb
-/// begins at word `first`; both count from 0.
-pub(crate) fn error_after<N: Names>(
-    names: &N,
-    words: &[&str],
-    first: usize,
-    place: usize,
-) -> Option<LineError> {
-    let (word, arguments) = words.get(first..)?.split_first()?;
-    let (verb, begin) = verb_before(word, arguments)?;
-    for (i, kind) in verb.arguments().iter().enumerate() {
-        let at = first.saturating_add(begin).saturating_add(i);
-        let found = argument_at(names, *kind, at, words.get(at)?).err();
-        if at > place && found.is_some() {
-            return found;
-        }
-    }
-    None
-}
-
-/// Returns the verb of `word` with the words after it, and how many words the verb itself has.
-fn verb_before(word: &str, arguments: &[&str]) -> Option<(Verb, usize)> {
-    if let Some((next, more)) = arguments.split_first()
-        && let Some(verb) = verb_of_all(word, next, more.len())
-    {
-        return Some((verb, 2));
-    }
-    Some((verb_of(word, arguments.len())?, 1))
-}

@@ -1,29 +1,36 @@
-//! The routes of parcels.
+//! The routes of parcels, and the classes of their arrows.
 
-use crate::style::style_of;
 use mx_format::{Letter, Style};
-use mx_member::SentParcel;
+use mx_member::{Parcel, SentParcel};
 use mx_stamps::NodeId;
 
-/// The sender and the addressee of a parcel, and the style of its arrow.
+/// The sender and the addressee of a parcel, and the class of its arrow, which is also the name of
+/// the arrow's tip.
 #[derive(Clone, Copy)]
 pub(crate) struct Route {
     pub(crate) from: NodeId,
     pub(crate) to: NodeId,
-    pub(crate) style: Style,
+    pub(crate) class: &'static str,
 }
 
 impl Route {
-    /// Returns the route of a parcel.
     pub(crate) fn new<M: Letter>(sent: &SentParcel<'_, M>) -> Self {
+        let style = match sent.parcel {
+            Parcel::Guard(letter) => letter.parts().style,
+            Parcel::Want(_) | Parcel::Base(_) | Parcel::Records(_) => Style::Other,
+        };
+        let class = match style {
+            Style::Request => "request",
+            Style::Grant => "grant",
+            Style::Other => "other",
+        };
         Route {
             from: sent.from,
             to: sent.to,
-            style: style_of(sent.parcel),
+            class,
         }
     }
 
-    /// Returns whether the parcel goes to the left.
     pub(crate) fn is_left(&self) -> bool {
         self.to.get() < self.from.get()
     }

@@ -38,7 +38,6 @@ pub(crate) fn tell_hint<E: Output>(alloc: Global, words: &[&str], err: &mut E) {
     }
 }
 
-/// Whether a command has a hint: `check`, `replay`, `explore` and `live` do, in all their forms.
 fn is_explained(id: CommandId) -> bool {
     match id {
         CommandId::Check

@@ -25,8 +25,6 @@ use std::process::ExitCode;
 use std::rt::{Clock, Env, Files};
 use std::thread::Threads;
 
-/// Runs a command line with the files and threads of the process and two outputs, and returns the
-/// exit status.
 fn carry_out<R: Files + Clock + Input + AllocGlobal + Threads, O: Output, E: Output>(
     rt: &R,
     words: &[&str],
@@ -60,7 +58,6 @@ where
     }
 }
 
-/// Returns the lines of standard input, as they are typed or come through a pipe.
 fn typed_lines<R: Input>(rt: &R) -> Typed<R::Reader>
 where
     R::Reader: IsTerminal,
@@ -72,10 +69,6 @@ where
 
 /// Runs the command line of the process. If its files have a fault, a hint on standard error names
 /// the command that explains it, for a reader at a terminal.
-///
-/// # Errors
-///
-/// Returns an error if memory runs out, or if an argument is not valid UTF-8.
 fn run_words<
     R: Files + Env + Clock + Input + AllocGlobal + Threads,
     O: Write + Drop,

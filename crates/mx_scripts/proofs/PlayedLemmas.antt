@@ -135,17 +135,6 @@ module _ {H S M : Type 0} (core : Core H S M) where
       plays_walked conditions nodes registers steps (walk_after core conditions nodes registers w g) (after_step core conditions nodes registers w g) n r start
       (plays_after nodes registers g (next_step core conditions g nodes registers w).event (next_named nodes registers n r core conditions g w) start played)
 
-  -- an event more, where it may have failed
-  pub plays_on_ok : {E : Type 0} (nodes registers : ℕ) (g new : ClusterState S M) (e : Event) (w : Result ⊤ E) → OnOk w (step_of core g e ≡ Ok new) → IsDrawn nodes registers e
-      → OnOk w (Plays core nodes registers g new)
-  plays_on_ok nodes registers g new e (Ok done) step over = plays_step nodes registers g new e step over
-  plays_on_ok nodes registers g new e (Err fault) step over = tt
-
-  -- nothing happened
-  pub plays_nothing : {E : Type 0} (nodes registers : ℕ) (g : ClusterState S M) (w : Result ⊤ E) → OnOk w (Plays core nodes registers g g)
-  plays_nothing nodes registers g (Ok done) = λ start played. played
-  plays_nothing nodes registers g (Err fault) = tt
-
   pub file_of_played : (p : Fields) (start g : ClusterState S M) (trace : List Entry) (text : Text) → start.trace ≡ [] → Plays core (length p.nodes) (length p.registers) start g
       → trace ≡ g.trace → text ≡ file_text p (events_of trace) → IsFileOf core p start text
   file_of_played p start g trace text empty plays same is =

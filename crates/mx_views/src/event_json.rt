@@ -1,7 +1,7 @@
 //! Events and their outcomes as JSON.
 
 ghost use Rattle.std.specs.Prelude.{◌≡◌, ◌++◌, OnOk, string_bytes};
-ghost use Rattle.mx_views.specs.EventJson.{act_json, bare_json, event_json, left_json, number_json, outcome_json, owner_json, refusal_json, rest_json, with_json};
+ghost use Rattle.mx_views.specs.EventJson.{act_json, event_json, left_json, number_json, outcome_json, owner_json, refusal_json, rest_json, with_json};
 
 use mx_events::Event;
 use mx_format::json::{NumberStart, add_node_name, add_number, add_register_name, add_word};
@@ -11,7 +11,6 @@ use mx_plan::Plan;
 use mx_stamps::NodeId;
 use std::alloc::AllocError;
 
-/// Appends the JSON object of an event with this index, and its outcome, as one line.
 pub(crate) fn add_event_json(
     plan: &Plan,
     index: u64,
@@ -27,7 +26,6 @@ pub(crate) fn add_event_json(
     text.push_str("}\n")
 }
 
-/// Appends the word of an event, its node and its other arguments.
 fn add_act(plan: &Plan, event: &Event, text: &mut String) -> Result<(), AllocError>
     ensures { OnOk result (string_bytes text.new
         ≡ string_bytes text.old ++ act_json plan.now event.now) }
@@ -37,7 +35,6 @@ fn add_act(plan: &Plan, event: &Event, text: &mut String) -> Result<(), AllocErr
     add_rest(plan, event, text)
 }
 
-/// Appends the node of an event. A delivery has none.
 fn add_owner(plan: &Plan, owner: Option<NodeId>, text: &mut String) -> Result<(), AllocError>
     ensures { OnOk result (string_bytes text.new
         ≡ string_bytes text.old ++ owner_json plan.now owner) }
@@ -48,7 +45,6 @@ fn add_owner(plan: &Plan, owner: Option<NodeId>, text: &mut String) -> Result<()
     }
 }
 
-/// Appends the arguments of an event beside its node.
 fn add_rest(plan: &Plan, event: &Event, text: &mut String) -> Result<(), AllocError>
     ensures { OnOk result (string_bytes text.new
         ≡ string_bytes text.old ++ rest_json plan.now event.now) }
@@ -71,7 +67,6 @@ fn add_rest(plan: &Plan, event: &Event, text: &mut String) -> Result<(), AllocEr
     }
 }
 
-/// Appends the outcome of an event.
 fn add_outcome(outcome: &Outcome, text: &mut String) -> Result<(), AllocError>
     ensures { OnOk result (string_bytes text.new
         ≡ string_bytes text.old ++ outcome_json outcome.now) }
@@ -80,35 +75,25 @@ fn add_outcome(outcome: &Outcome, text: &mut String) -> Result<(), AllocError>
         Outcome::Asked(stamp) => add_with("asked", "number", stamp.number, text),
         Outcome::Entered(number) => add_with("entered", "number", *number, text),
         Outcome::Value(value) => add_with("value", "value", *value, text),
-        Outcome::Written => add_bare("written", text),
+        Outcome::Written => add_word("outcome", "written", text),
         Outcome::Left(receipt) => add_left(receipt, text),
-        Outcome::Cancelled => add_bare("cancelled", text),
-        Outcome::Settled => add_bare("settled", text),
+        Outcome::Cancelled => add_word("outcome", "cancelled", text),
+        Outcome::Settled => add_word("outcome", "settled", text),
         Outcome::Sent(count) => add_with("sent", "count", *count, text),
-        Outcome::Delivered => add_bare("delivered", text),
-        Outcome::Woken => add_bare("woken", text),
+        Outcome::Delivered => add_word("outcome", "delivered", text),
+        Outcome::Woken => add_word("outcome", "woken", text),
         Outcome::Refused(cause) => add_refusal(cause, text),
     }
 }
 
-/// Appends the word of an outcome.
-fn add_bare(outcome: &str, text: &mut String) -> Result<(), AllocError>
-    ensures { OnOk result (string_bytes text.new
-        ≡ string_bytes text.old ++ bare_json outcome.now) }
-{
-    add_word("outcome", outcome, text)
-}
-
-/// Appends the word of an outcome, and a number under this key.
 fn add_with(outcome: &str, key: &str, number: u64, text: &mut String) -> Result<(), AllocError>
     ensures { OnOk result (string_bytes text.new
         ≡ string_bytes text.old ++ with_json outcome.now key.now number) }
 {
-    add_bare(outcome, text)?;
+    add_word("outcome", outcome, text)?;
     add_number(key, number, text)
 }
 
-/// Appends the outcome of a leave: the number of the section, and how many writes it made.
 fn add_left(receipt: &Receipt, text: &mut String) -> Result<(), AllocError>
     ensures { OnOk result (string_bytes text.new
         ≡ string_bytes text.old ++ left_json receipt.now) }
@@ -117,17 +102,15 @@ fn add_left(receipt: &Receipt, text: &mut String) -> Result<(), AllocError>
     add_number("writes", receipt.writes.len() as u64, text)
 }
 
-/// Appends a refusal and its cause.
 fn add_refusal(cause: &Cause, text: &mut String) -> Result<(), AllocError>
     ensures { OnOk result (string_bytes text.new
         ≡ string_bytes text.old ++ refusal_json cause.now) }
 {
-    add_bare("refused", text)?;
+    add_word("outcome", "refused", text)?;
     add_word("cause", cause.words(), text)?;
     add_if_some(cause.number(), text)
 }
 
-/// Appends the number of a cause, if it has one.
 fn add_if_some(number: Option<u64>, text: &mut String) -> Result<(), AllocError>
     ensures { OnOk result (string_bytes text.new
         ≡ string_bytes text.old ++ number_json number) }

@@ -114,7 +114,6 @@ pub record Step : Type 0 where
   pub event : Option Event
   pub after : WalkState
 
--- a walk with this generator
 abbrev pub with_words : Lcg → WalkState → WalkState
 with_words g w = record { words = g; flying = w.flying; seen = w.seen }
 
@@ -142,7 +141,6 @@ module _ {H S M : Type 0} (core : Core H S M) where
       if is_ready_at members ((any + offset) % nodes) then (any + offset) % nodes
       else ready_from members nodes any (offset + 1) left
 
-  -- what a member does by itself
   abbrev pub member_act : ℕ → ℕ → Bool → ℕ → Lcg → MemberState S → Draw
   member_act nodes registers is_calm i g m =
       act_by (core.phase m.core) nodes registers i (first_gap m.journal - 1)
@@ -209,7 +207,6 @@ module _ {H S M : Type 0} (core : Core H S M) where
         else own_step
         (acted g.members nodes registers (is_empty w.flying) (n % 64) w.words) w
 
-    -- the next step
     abbrev pub next_step : ClusterState S M → ℕ → ℕ → WalkState → Step
     next_step g nodes registers w =
         step_by g nodes registers (word w.words) (with_words (after_words 1 w.words) w)

@@ -9,7 +9,6 @@ use Rattle.mx_walks.specs.declared.conditions.Conditions.{Conditions}
 use Rattle.mx_walks.specs.Walk.{Step, WalkState, at_first, looked, next_step}
 
 module _ {H S M : Type 0} (core : Core H S M) (conditions : Conditions) (nodes registers : ℕ) where
-  -- the cluster after a step
   abbrev pub after_step : WalkState → ClusterState S M → ClusterState S M
   after_step w g = after_placed core g (next_step core conditions g nodes registers w).event
 

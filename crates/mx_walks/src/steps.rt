@@ -38,7 +38,6 @@ pub fn walk_cluster<C: Exclusion>(
     )
 }
 
-/// Runs a walk over the first `nodes` nodes and `registers` registers.
 fn walk_over<C: Exclusion>(
     alloc: Global,
     nodes: u8,
@@ -60,7 +59,6 @@ fn walk_over<C: Exclusion>(
     Ok(())
 }
 
-/// Takes the next step of a walk: applies its event, if there is one, and notes the parcels sent.
 fn step<C: Exclusion>(
     nodes: u8,
     registers: u8,

@@ -1,2 +1,0 @@
-pub mod EscapeLemmas
-pub mod ReportLemmas

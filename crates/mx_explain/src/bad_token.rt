@@ -1,0 +1,268 @@
+//! Where a text stops being JSON.
+
+use crate::location::Part;
+use crate::report::Report;
+use arrayvec::ArrayVec;
+use json::{Scratch, Value, is_valid};
+use std::alloc::{AllocError, Global};
+
+/// The greatest number of brackets that may be open at once.
+const MAX_DEPTH: usize = 127;
+
+/// How many characters are shown at most of a text that does not fit.
+const MAX_SHOWN: usize = 24;
+
+const STRING: &str =
+    "a text in one line without control characters, each \\ of which begins an escape of a whole character";
+
+/// Why a text is not JSON.
+#[derive(Clone, Copy)]
+enum Cause {
+    /// This is expected here.
+    Expected(&'static str),
+    /// What these words say stands here.
+    Stands(&'static str),
+    /// The text ends here, before what opens at this byte is closed.
+    Cut(usize),
+}
+
+/// The byte of a text at which it stops being JSON.
+#[derive(Clone, Copy)]
+struct BadToken {
+    offset: usize,
+    cause: Cause,
+}
+
+/// Reports the first token by which a text is not JSON.
+pub(crate) fn report_bad_token(report: &mut Report, part: &Part<'_>) -> Result<(), AllocError> {
+    let alloc = report.alloc();
+    let (text, is_utf8) = valid_start(part.text);
+    let bad = match first_bad_token(alloc, text)? {
+        Some(bad) if is_utf8 || bad.offset < text.len() => bad,
+        None if is_utf8 => return Ok(()),
+        _ => BadToken {
+            offset: text.len(),
+            cause: Cause::Stands("bytes that are not UTF-8 stand here"),
+        },
+    };
+    let said = match bad.cause {
+        Cause::Expected(expected) => {
+            let rest = shown_of(rest_of(text, bad.offset));
+            format!(in alloc; "expected {expected} where this stands: {rest}")?
+        }
+        Cause::Stands(words) => String::from_str(alloc, words)?,
+        Cause::Cut(opened) => {
+            let opened = part.location(opened);
+            format!(in alloc; "the text ends here, and what opens at {opened} is not closed")?
+        }
+    };
+    let message = format!(in alloc; " not JSON: {}", said.as_str())?;
+    report.add_at(part, bad.offset, message.as_str())
+}
+
+/// Returns the longest prefix that is UTF-8, and whether that is the whole text.
+fn valid_start(text: &[u8]) -> (&str, bool) {
+    match str::from_utf8(text) {
+        Ok(text) => (text, true),
+        Err(e) => {
+            let start = text.get(..e.valid_up_to()).unwrap_or(&[]);
+            (str::from_utf8(start).unwrap_or(""), false)
+        }
+    }
+}
+
+/// Returns the first line of a text, as far as it is shown.
+fn shown_of(text: &str) -> &str {
+    let line = text.lines().next().unwrap_or("");
+    if line.is_empty() {
+        return "the end of the line";
+    }
+    match line.char_indices().nth(MAX_SHOWN) {
+        Some((end, _)) => line.get(..end).unwrap_or(line),
+        None => line,
+    }
+}
+
+fn rest_of(text: &str, offset: usize) -> &str {
+    text.get(offset..).unwrap_or("")
+}
+
+/// What may come next in a text.
+#[derive(Clone, Copy, PartialEq, Eq)]
+enum Next {
+    Value,
+    ValueOrSquare,
+    Key,
+    KeyOrCurly,
+    Colon,
+    /// A comma or a closing bracket, or the end of the text.
+    AfterValue,
+}
+
+/// How far a text was read.
+#[derive(Drop)]
+struct Scanner {
+    next: Next,
+    /// The brackets that are open and their bytes, the outermost first.
+    open: ArrayVec<(u8, usize), MAX_DEPTH>,
+}
+
+/// Returns the first token that does not fit, if there is one. Each has a byte or more, which
+/// bounds the loop.
+fn first_bad_token(alloc: Global, text: &str) -> Result<Option<BadToken>, AllocError> {
+    if text.starts_with("\u{feff}") {
+        let cause = Cause::Stands("a byte order mark stands here");
+        return Ok(Some(BadToken { offset: 0, cause }));
+    }
+    let mut scratch = Scratch::new(alloc);
+    let mut scanner = Scanner {
+        next: Next::Value,
+        open: ArrayVec::new(),
+    };
+    let mut offset = 0usize;
+    for _ in 0..text.len().saturating_add(1) {
+        let rest = rest_of(text, offset).trim_start_matches(is_blank);
+        offset = text.len().saturating_sub(rest.len());
+        let token = token_of(rest);
+        let is_good = is_valid(token, &mut scratch)?;
+        match scanner.take(token, is_good, offset) {
+            Some(Cause::Cut(opened)) => {
+                return Ok(Some(BadToken {
+                    offset: text.len(),
+                    cause: Cause::Cut(opened),
+                }));
+            }
+            Some(cause) => return Ok(Some(BadToken { offset, cause })),
+            None if token.is_empty() => return Ok(None),
+            None => offset = offset.saturating_add(token.len()),
+        }
+    }
+    Ok(None)
+}
+
+/// Returns the token with which a text begins: a mark, a string with its quotes, or a word. Returns
+/// an empty text at the end, and the whole text for a string that is not closed.
+fn token_of(text: &str) -> &str {
+    let bytes = text.as_bytes();
+    let end = match bytes.first() {
+        Some(b'{' | b'}' | b'[' | b']' | b':' | b',') => 1,
+        Some(b'"') => string_end(bytes).unwrap_or(bytes.len()),
+        _ => text.find(ends_word).unwrap_or(text.len()),
+    };
+    text.get(..end).unwrap_or(text)
+}
+
+/// Returns the byte behind the string with which a text begins, if it is closed.
+fn string_end(text: &[u8]) -> Option<usize> {
+    let mut is_escaped = true;
+    for (offset, byte) in text.iter().enumerate() {
+        if *byte == b'"' && !is_escaped {
+            return Some(offset.saturating_add(1));
+        }
+        is_escaped = *byte == b'\\' && !is_escaped;
+    }
+    None
+}
+
+fn is_blank(character: char) -> bool {
+    matches!(character, ' ' | '\t' | '\r' | '\n')
+}
+
+fn ends_word(character: char) -> bool {
+    is_blank(character) || matches!(character, '"' | '{' | '}' | '[' | ']' | ':' | ',')
+}
+
+impl Scanner {
+    /// Takes the token at the byte `offset`, or returns why it may not come next. `is_good` says
+    /// whether it is a value.
+    fn take(&mut self, token: &str, is_good: bool, offset: usize) -> Option<Cause> {
+        let next = match (token, self.next) {
+            ("", _) => return self.end(),
+            ("{", Next::Value | Next::ValueOrSquare) => self.open(b'{', offset),
+            ("[", Next::Value | Next::ValueOrSquare) => self.open(b'[', offset),
+            ("}", Next::KeyOrCurly | Next::AfterValue) => self.close(b'{'),
+            ("]", Next::ValueOrSquare | Next::AfterValue) => self.close(b'['),
+            (":", Next::Colon) => Ok(Next::Value),
+            (",", Next::AfterValue) => match self.innermost() {
+                Some(b'{') => Ok(Next::Key),
+                Some(_) => Ok(Next::Value),
+                None => Err(self.misfit()),
+            },
+            (_, Next::Colon | Next::AfterValue) => Err(self.misfit()),
+            _ if token.starts_with("\"") && !is_good => Err(bad_string(token, offset)),
+            (_, Next::Key | Next::KeyOrCurly) if token.starts_with("\"") => Ok(Next::Colon),
+            (_, Next::Value | Next::ValueOrSquare) if is_good => after_value(token),
+            _ => Err(self.misfit()),
+        };
+        match next {
+            Ok(next) => {
+                self.next = next;
+                None
+            }
+            Err(cause) => Some(cause),
+        }
+    }
+
+    fn end(&self) -> Option<Cause> {
+        match (self.open.as_slice().last(), self.next) {
+            (Some((_, opened)), _) => Some(Cause::Cut(*opened)),
+            (None, Next::AfterValue) => None,
+            _ => Some(Cause::Stands("the text ends here, expected a value")),
+        }
+    }
+
+    fn open(&mut self, bracket: u8, offset: usize) -> Result<Next, Cause> {
+        if self.open.try_push((bracket, offset)).is_err() {
+            return Err(Cause::Stands("brackets nest deeper than 127 here"));
+        }
+        match bracket {
+            b'{' => Ok(Next::KeyOrCurly),
+            _ => Ok(Next::ValueOrSquare),
+        }
+    }
+
+    fn close(&mut self, bracket: u8) -> Result<Next, Cause> {
+        if self.innermost() != Some(bracket) {
+            return Err(self.misfit());
+        }
+        let _ = self.open.pop();
+        Ok(Next::AfterValue)
+    }
+
+    fn innermost(&self) -> Option<u8> {
+        let (bracket, _) = self.open.as_slice().last()?;
+        Some(*bracket)
+    }
+
+    fn misfit(&self) -> Cause {
+        Cause::Expected(match (self.next, self.innermost()) {
+            (Next::Value, _) => "a value",
+            (Next::ValueOrSquare, _) => "a value or ]",
+            (Next::Key, _) => "a key in double quotes",
+            (Next::KeyOrCurly, _) => "a key in double quotes or }",
+            (Next::Colon, _) => "a colon",
+            (Next::AfterValue, Some(b'{')) => "a comma or }",
+            (Next::AfterValue, Some(_)) => "a comma or ]",
+            (Next::AfterValue, None) => "the end of the text",
+        })
+    }
+}
+
+/// Returns why a string at the byte `offset` is no value: it is not closed, or malformed.
+fn bad_string(token: &str, offset: usize) -> Cause {
+    let bytes = token.as_bytes();
+    if string_end(bytes).is_some() || bytes.iter().any(|byte| *byte < 32) {
+        Cause::Expected(STRING)
+    } else {
+        Cause::Cut(offset)
+    }
+}
+
+/// Returns what may come after a string or a word, unless it is a number too large for an `f64`.
+fn after_value(token: &str) -> Result<Next, Cause> {
+    let number: Value<'_, Global> = Value::Number(token);
+    match number.as_f64() {
+        Some(value) if value.is_infinite() => Err(Cause::Stands("too large a number stands here")),
+        _ => Ok(Next::AfterValue),
+    }
+}

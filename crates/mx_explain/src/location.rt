@@ -1,0 +1,59 @@
+//! Places in the text of a file.
+
+use std::fmt;
+use std::fmt::Display;
+
+/// A text of a file. In the file, `above` lines come before the text.
+#[derive(Clone, Copy)]
+pub(crate) struct Part<'a> {
+    pub(crate) file: &'a str,
+    pub(crate) text: &'a [u8],
+    pub(crate) above: usize,
+}
+
+impl Part<'_> {
+    pub(crate) fn location(&self, offset: usize) -> Location {
+        let mut line = self.above.saturating_add(1);
+        let mut column = 1usize;
+        for byte in self.text.iter().take(offset) {
+            match byte {
+                b'\n' => {
+                    line = line.saturating_add(1);
+                    column = 1;
+                }
+                // the rest of a character of several bytes
+                0x80..=0xBF => {}
+                _ => column = column.saturating_add(1),
+            }
+        }
+        Location { line, column }
+    }
+
+    /// Returns the byte at which a line begins, counted from 1, or the end of the text if there is
+    /// no such line.
+    pub(crate) fn offset_of_line(&self, number: u64) -> usize {
+        let mut line = 1u64;
+        for (offset, byte) in self.text.iter().enumerate() {
+            if line == number {
+                return offset;
+            }
+            if *byte == b'\n' {
+                line = line.saturating_add(1);
+            }
+        }
+        self.text.len()
+    }
+}
+
+/// A line and a column of a file, both counted from 1; columns count characters.
+#[derive(Clone, Copy)]
+pub(crate) struct Location {
+    line: usize,
+    column: usize,
+}
+
+impl Display for Location {
+    fn fmt<W: fmt::Write>(&self, f: &mut fmt::Formatter<W>) -> fmt::Result {
+        write!(f, "{}:{}", self.line, self.column)
+    }
+}

@@ -1,0 +1,245 @@
+//! What a run notes of its events, until there is a report.
+
+ghost use Rattle.mx_commands.specs.Runs.{silent};
+
+use crate::location::Part;
+use crate::path::offset_of;
+use crate::report::{MAX_LINES, Report};
+use mx_commands::Sink;
+use mx_events::Event;
+use mx_format::{EventText, Letter, OutcomeText, add_facts_line, add_parcel_line};
+use mx_knowledge::Knowledge;
+use mx_lines::LineFault;
+use mx_network::Cluster;
+use mx_nodelaws::Exclusion;
+use mx_plan::{Plan, PlanFault};
+use mx_scripts::{Recorder, RefusedLine, SessionEvent, State};
+use mx_trace::{Cause, Outcome};
+use std::alloc::{AllocError, Global};
+
+/// A message about the event or the line of this number. The text begins with a space.
+#[derive(Drop)]
+struct Note {
+    number: u64,
+    text: String,
+}
+
+/// The notes of a run: which events are refused, and what ends it.
+#[derive(Drop)]
+pub(crate) struct Notes {
+    alloc: Global,
+    /// The first `MAX_LINES` warnings of refused events.
+    refused: Vec<Note>,
+    /// How many further ones there are.
+    more: u64,
+    /// Why the events of a replay can't be read.
+    pub(crate) bad_events: Option<PlanFault>,
+    /// The event of this index delivers the parcel of this number, which was not sent.
+    pub(crate) unsent: Option<(u64, u64)>,
+    /// How many parcels were sent.
+    sent: u64,
+    /// The line of a script that cannot be done, unless one of its words is wrong.
+    bad_line: Option<Note>,
+    /// The parcels under way, if that line names one that is not.
+    parcels: Vec<Note>,
+}
+
+impl<C: Exclusion + Knowledge> Sink<Cluster<C>> for Notes {
+    ghost texts = { λ _ _. silent };
+
+    fn event(
+        &mut self,
+        plan: &Plan,
+        index: u64,
+        _before: u64,
+        cluster: &Cluster<C>,
+        _text: &mut String,
+    ) -> Result<(), AllocError> {
+        self.sent = cluster.sent();
+        self.note_newest(plan, cluster, index)
+    }
+
+    fn end(
+        &mut self,
+        _alloc: Global,
+        _plan: &Plan,
+        _cluster: &Cluster<C>,
+        _text: &mut String,
+    ) -> Result<u8, AllocError> {
+        Ok(0)
+    }
+}
+
+impl<C: Exclusion + Knowledge> Recorder<State<C>> for Notes
+where
+    C::Msg: Letter,
+{
+    fn event(
+        &mut self,
+        plan: &Plan,
+        number: u64,
+        event: &SessionEvent,
+        state: &State<C>,
+    ) -> Result<(), AllocError> {
+        match event {
+            SessionEvent::Happens(_) => self.note_newest(plan, state.cluster(), number),
+            SessionEvent::IsLost(_) | SessionEvent::LinksChange(_) => Ok(()),
+        }
+    }
+
+    fn refused(
+        &mut self,
+        plan: &Plan,
+        line: &RefusedLine,
+        state: &State<C>,
+    ) -> Result<(), AllocError> {
+        if line.is_unread {
+            return Ok(());
+        }
+        let number = line.number;
+        let text = format!(in self.alloc; " {}{}", line.fault, line.message.as_str())?;
+        self.bad_line = Some(Note { number, text });
+        if matches!(line.fault, LineFault::NoParcel | LineFault::NotUnderWay) {
+            self.note_parcels(plan, state, number)?;
+        }
+        Ok(())
+    }
+}
+
+impl Notes {
+    pub(crate) fn new(alloc: Global) -> Self {
+        Notes {
+            alloc,
+            refused: Vec::new(alloc),
+            more: 0,
+            bad_events: None,
+            unsent: None,
+            sent: 0,
+            bad_line: None,
+            parcels: Vec::new(alloc),
+        }
+    }
+
+    /// Notes the newest event of a cluster if it is refused. `number` is that of the event or of
+    /// its line.
+    fn note_newest<C: Exclusion + Knowledge>(
+        &mut self,
+        plan: &Plan,
+        cluster: &Cluster<C>,
+        number: u64,
+    ) -> Result<(), AllocError> {
+        let Some(newest) = cluster.trace().last() else {
+            return Ok(());
+        };
+        let Outcome::Refused(cause) = newest.outcome else {
+            return Ok(());
+        };
+        if self.refused.len() >= MAX_LINES {
+            self.more = self.more.saturating_add(1);
+            return Ok(());
+        }
+        let text = refusal(self.alloc, plan, cluster, &newest.event, cause)?;
+        self.refused.push(Note { number, text })?;
+        Ok(())
+    }
+
+    /// Notes the first parcels under way, the oldest first, or that there is none.
+    fn note_parcels<C: Exclusion>(
+        &mut self,
+        plan: &Plan,
+        state: &State<C>,
+        number: u64,
+    ) -> Result<(), AllocError>
+    where
+        C::Msg: Letter,
+    {
+        for k in 0..state.cluster().sent() {
+            if self.parcels.len() < MAX_LINES && state.is_under_way(k) {
+                let mut shown = String::new(self.alloc);
+                if let Some(parcel) = state.cluster().sent_parcel(k) {
+                    add_parcel_line(plan, k, &parcel, &mut shown)?;
+                }
+                let shown = shown.as_str().trim();
+                let text = format!(in self.alloc; " warning: under way: {shown}")?;
+                self.parcels.push(Note { number, text })?;
+            }
+        }
+        if self.parcels.is_empty() {
+            let text = String::from_str(self.alloc, " warning: no parcel is under way")?;
+            self.parcels.push(Note { number, text })?;
+        }
+        Ok(())
+    }
+
+    /// Reports the notes of a replay, each at its event.
+    pub(crate) fn explain_replay(
+        &self,
+        report: &mut Report,
+        part: &Part<'_>,
+    ) -> Result<(), AllocError> {
+        for note in &self.refused {
+            let offset = offset_of(self.alloc, part.text, &[note.number as usize])?;
+            report.add_at(part, offset, note.text.as_str())?;
+        }
+        report.count(part.file, self.more)?;
+        let Some((k, number)) = self.unsent else {
+            return Ok(());
+        };
+        let sent = self.sent;
+        let known = match sent.checked_sub(1) {
+            Some(last) => format!(in self.alloc; "there are {sent}, from 0 to {last}")?,
+            None => String::from_str(self.alloc, "there is none yet")?,
+        };
+        let known = known.as_str();
+        let text = format!(in self.alloc;
+            " events[{k}][1]: {number} stands here, expected a parcel that was sent before: {known}"
+        )?;
+        let offset = offset_of(self.alloc, part.text, &[k as usize, 1])?;
+        report.add_at(part, offset, text.as_str())
+    }
+
+    /// Reports the notes of a script, each at its line.
+    pub(crate) fn explain_script(
+        &self,
+        report: &mut Report,
+        part: &Part<'_>,
+    ) -> Result<(), AllocError> {
+        add_notes(report, part, self.refused.as_slice())?;
+        report.count(part.file, self.more)?;
+        if let Some(note) = &self.bad_line {
+            report.add_at(part, part.offset_of_line(note.number), note.text.as_str())?;
+        }
+        add_notes(report, part, self.parcels.as_slice())
+    }
+}
+
+fn add_notes(report: &mut Report, part: &Part<'_>, notes: &[Note]) -> Result<(), AllocError> {
+    for note in notes {
+        report.add_at(part, part.offset_of_line(note.number), note.text.as_str())?;
+    }
+    Ok(())
+}
+
+/// Returns the warning that `event`, the newest one of a cluster, is refused for this cause. After
+/// `not granted` comes what the node knows, in the words that `show` of `mx play` prints.
+fn refusal<C: Exclusion + Knowledge>(
+    alloc: Global,
+    plan: &Plan,
+    cluster: &Cluster<C>,
+    event: &Event,
+    cause: Cause,
+) -> Result<String, AllocError> {
+    let index = (cluster.trace().len() as u64).saturating_sub(1);
+    let outcome = Outcome::Refused(cause);
+    let outcome = OutcomeText(&outcome);
+    let said = EventText { plan, event };
+    let mut text = format!(in alloc; " warning: event {index}, {said}: {outcome}")?;
+    if let (Cause::NotGranted, Event::Enter(node)) = (cause, event)
+        && let Some(member) = cluster.member(*node)
+    {
+        let mut line = String::new(alloc);
+        add_facts_line(plan, &member.core().facts(alloc)?, &mut line)?;
+        write!(text, ": {}", line.as_str().trim())?;
+    }
+    Ok(text)
+}

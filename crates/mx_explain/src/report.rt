@@ -1,0 +1,105 @@
+//! The report on files: a line for each fault and each warning.
+
+ghost use Rattle.std.specs.Prelude.{◌≡◌, ◌↔◌, ◌++◌, [], ◌∷◌, IfOk, OnErr, OnOk, true, string_bytes};
+ghost use Rattle.mx_explain.specs.Reports.{AddsLine, AreShown, last_line, line_text, nothing_at_fault, report_text};
+
+use crate::location::Part;
+use mx_lines::add_escaped_text;
+use std::alloc::{AllocError, Global};
+use std::fmt::Display;
+use std::marker::Model;
+
+/// The greatest number of faults, and of warnings, of one kind that are shown.
+pub(crate) const MAX_LINES: usize = 20;
+
+/// The lines of faults and warnings.
+#[derive(Drop)]
+pub(crate) struct Report {
+    alloc: Global,
+    text: String,
+}
+
+impl Model for Report {
+    ghost use Rattle.std.specs.Prelude.{string_bytes};
+    ghost use Rattle.mx_plan.specs.Text.{Text};
+    ghost use Rattle.mx_explain.specs.Reports.{IsReport};
+
+    ghost Value = { Text };
+
+    ghost view = { λ r. string_bytes r.text };
+
+    ghost invariant = { λ r. IsReport (string_bytes r.text) };
+}
+
+impl Report {
+    pub(crate) fn new(alloc: Global) -> Report
+        ensures { result ≡ [] }
+    {
+        Report {
+            alloc,
+            text: String::new(alloc),
+        }
+    }
+
+    pub(crate) fn alloc(&self) -> Global {
+        self.alloc
+    }
+
+    /// Adds a line about a file.
+    pub(crate) fn add(&mut self, file: &str, message: &str) -> Result<(), AllocError>
+        ensures ok { OnOk result (AddsLine file.now message.now self.old self.new) }
+        ensures err { OnErr result (self.new ≡ self.old) }
+    {
+        let line = line_of(self.alloc, file, message)?;
+        self.text.push_str(line.as_str())
+    }
+
+    /// Adds a line about the byte `offset` of a part. The message begins with a space.
+    pub(crate) fn add_at<D: Display + Drop>(
+        &mut self,
+        part: &Part<'_>,
+        offset: usize,
+        message: D,
+    ) -> Result<(), AllocError> {
+        let location = part.location(offset);
+        let text = format!(in self.alloc; "{location}:{message}")?;
+        self.add(part.file, text.as_str())
+    }
+
+    /// Adds the line that this many faults or warnings are not shown, unless it is none.
+    pub(crate) fn count(&mut self, file: &str, more: u64) -> Result<(), AllocError> {
+        if more == 0 {
+            return Ok(());
+        }
+        let text = format!(in self.alloc; " and {more} more")?;
+        self.add(file, text.as_str())
+    }
+
+    /// Returns all lines. If the files are well, a last one says `nothing is at fault`.
+    pub(crate) fn into_text(mut self, is_well: bool) -> Result<String, AllocError>
+        ensures well { IfOk result (λ text. is_well ≡ true
+            → string_bytes text ≡ report_text self.entry) }
+        ensures printable { IfOk result (λ text. AreShown (string_bytes text)) }
+        ensures last { IfOk result (λ text. (last_line (string_bytes text) ≡ nothing_at_fault)
+            ↔ (is_well ≡ true)) }
+    {
+        if is_well {
+            self.text.push_str("nothing is at fault\n")?;
+        }
+        Ok(self.text)
+    }
+}
+
+/// Returns the line `file:message` with a line feed, and the control characters of both texts
+/// escaped.
+fn line_of(alloc: Global, file: &str, message: &str) -> Result<String, AllocError>
+    ensures { IfOk result (λ line.
+        string_bytes line ≡ line_text file.now message.now ++ 10 ∷ []) }
+{
+    let mut line = String::new(alloc);
+    add_escaped_text(file, &mut line)?;
+    line.push_str(":")?;
+    add_escaped_text(message, &mut line)?;
+    line.push_str("\n")?;
+    Ok(line)
+}
