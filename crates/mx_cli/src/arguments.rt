@@ -133,13 +133,6 @@ pub(crate) const SEED: Argument = Argument {
     help: "The seed that is drawn from, a whole number of 64 bits",
 };
 
-pub(crate) const SEEDS: Argument = Argument {
-    name: "seeds",
-    kind: ArgumentKind::Text,
-    is_required: true,
-    help: "The seeds that are drawn from, one after another, such as 1..100",
-};
-
 pub(crate) const STEPS: Argument = Argument {
     name: "steps",
     kind: ArgumentKind::Number(MAX_STEPS),

@@ -12,7 +12,7 @@ struct Form {
 }
 
 /// All forms. If words choose two forms of a command, the earlier one in this list counts.
-static FORMS: [Form; 5] = [
+static FORMS: [Form; 4] = [
     Form {
         id: CommandId::CheckJson,
         flags: &["--json"],
@@ -22,11 +22,6 @@ static FORMS: [Form; 5] = [
         id: CommandId::ReplayView,
         flags: &["--quiet", "--json", "--state"],
         options: &["--node"],
-    },
-    Form {
-        id: CommandId::ExploreSeeds,
-        flags: &[],
-        options: &["--seeds"],
     },
     Form {
         id: CommandId::ExploreWalk,

@@ -28,19 +28,19 @@ fn start_line<'a>(alloc: Global) -> Result<Command<'a>, AllocError>
 fn command_of_row<'a>(alloc: Global, row: &CommandRow) -> Result<Command<'a>, AllocError>
     ensures { IfOk result (IsCommand (app_of_row row.now)) }
 {
-    let mut command = listed_row(alloc, row, row.example);
+    let mut command = listed_row(alloc, row);
     for argument in row.arguments {
         command = command.arg(clap_argument(alloc, argument))?;
     }
     Ok(command)
 }
 
-fn listed_row<'a>(alloc: Global, row: &CommandRow, example: &'static str) -> Command<'a>
+fn listed_row<'a>(alloc: Global, row: &CommandRow) -> Command<'a>
     ensures { IsCommand (new_app row.now.name.now) result }
 {
     Command::new(alloc, row.name)
         .about(row.about)
-        .after_help(example)
+        .after_help(row.example)
 }
 
 fn with_commands<'a>(
@@ -68,7 +68,7 @@ fn with_listed<'a>(
 {
     let mut line = line;
     for id in ids {
-        line = line.subcommand(listed_row(alloc, row_of(*id), help::LISTED))?;
+        line = line.subcommand(listed_row(alloc, row_of(*id)))?;
     }
     Ok(line)
 }

@@ -6,7 +6,7 @@ ghost use Rattle.mx_cli.specs.Table.{app_of_row, command_app};
 use crate::arguments::{
     ASKS, Argument, COUNT_TOO, EVENTS, EVENTS_OR_SCRIPT, FIRST_SCRIPT, FROM, IN_ORDER, IS_SCRIPT,
     JSON, LETTERS, LINK_SEED, LOSS, NODE, PICTURE_NODE, PLAN, PROGRESS, QUIET, REPEAT, SCRIPT,
-    SECTIONS, SEED, SEEDS, SETTLE, STATE, STEPS, TO, TRACE, TURNS, WALK, WALK_WANTED,
+    SECTIONS, SEED, SETTLE, STATE, STEPS, TO, TRACE, TURNS, WALK, WALK_WANTED,
 };
 use crate::{examples, help};
 
@@ -24,8 +24,6 @@ pub enum CommandId {
     ExploreCount,
     /// `explore` with `--walk`.
     ExploreWalk,
-    /// `explore` with `--seeds`.
-    ExploreSeeds,
     Live,
     Draw,
     Script,
@@ -47,8 +45,7 @@ pub(crate) struct CommandRow {
 /// The commands that `mx_commands::command` runs.
 pub(crate) const READ: [CommandId; 3] = [CommandId::Check, CommandId::Replay, CommandId::Explore];
 
-/// The other commands, which functions of their own run. `mx_commands::command` only lists them,
-/// for its help and for its tips on mistyped words.
+/// The other commands, which functions of their own run. `mx_commands::command` only lists them.
 pub(crate) const LISTED: [CommandId; 8] = [
     CommandId::Live,
     CommandId::Draw,
@@ -86,13 +83,6 @@ static EXPLORE_WALK: CommandRow = CommandRow {
     about: "Runs a random walk from a seed and checks the run",
     arguments: &[PLAN, SEED, STEPS, WALK_WANTED, LOSS, REPEAT, IN_ORDER],
     example: examples::WALK,
-};
-
-static EXPLORE_SEEDS: CommandRow = CommandRow {
-    name: "explore",
-    about: "Runs random events from several seeds, one after another, and checks each run",
-    arguments: &[PLAN, SEEDS, STEPS, WALK, LOSS, REPEAT, IN_ORDER],
-    example: examples::SEEDS,
 };
 
 static LIVE: CommandRow = CommandRow {
@@ -159,7 +149,6 @@ pub(crate) fn row_of(id: CommandId) -> &'static CommandRow
         CommandId::Replay | CommandId::ReplayView => &REPLAY,
         CommandId::Explore | CommandId::ExploreCount => &EXPLORE,
         CommandId::ExploreWalk => &EXPLORE_WALK,
-        CommandId::ExploreSeeds => &EXPLORE_SEEDS,
         CommandId::Live => &LIVE,
         CommandId::Draw => &DRAW,
         CommandId::Script => &SCRIPTED,

@@ -47,7 +47,6 @@ fn is_explained(id: CommandId) -> bool {
         | CommandId::Explore
         | CommandId::ExploreCount
         | CommandId::ExploreWalk
-        | CommandId::ExploreSeeds
         | CommandId::Live => true,
         CommandId::Draw
         | CommandId::Script

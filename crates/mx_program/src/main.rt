@@ -17,7 +17,7 @@ use mx_picture::picture;
 use mx_play::{Typed, play};
 use mx_scripts::event_file;
 use mx_views::{check_objects, replay_view};
-use mx_walks::{explore_seeds, explore_walk};
+use mx_walks::explore_walk;
 use std::alloc::AllocError;
 use std::io;
 use std::io::{BufWriter, IsTerminal, Write};
@@ -45,7 +45,6 @@ where
             event_file(alloc, words, &mut source, out, err)
         }
         Some(CommandId::Explain) => explain(alloc, words, &mut source, out, err),
-        Some(CommandId::ExploreSeeds) => explore_seeds(alloc, words, &mut source, out, err),
         Some(CommandId::ExploreWalk) => explore_walk(alloc, words, &mut source, out, err),
         Some(CommandId::Judge) => judge_trace(alloc, words, &mut source, out, err),
         Some(CommandId::Live) => live(rt, alloc, words, &mut source, out, err),

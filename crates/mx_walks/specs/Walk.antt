@@ -1,5 +1,5 @@
 -- A walk: what happens next in a cluster, by the words (32-bit numbers) of a generator.
-use Rattle.std.specs.Prelude.{ℕ, zero, suc, ◌+◌, ◌-◌, ◌*◌, ◌/◌, ◌%◌, ◌&&◌, ◌||◌, Bool, true, false, not, List, [], ◌∷◌, ◌++◌, Option, Some, None, length, min, nat_eq, nat_lt, position, slice_get, slice_index_or, if◌then◌else◌}
+use Rattle.std.specs.Prelude.{ℕ, zero, suc, ◌+◌, ◌-◌, ◌*◌, ◌/◌, ◌%◌, ◌&&◌, ◌||◌, Bool, false, not, List, [], ◌∷◌, ◌++◌, Option, Some, None, length, min, nat_eq, nat_lt, position, slice_get, slice_index_or, if◌then◌else◌}
 use Rattle.std.specs.List.{range_with_len, swap_remove}
 use Rattle.std.specs.Option.{option_map_or}
 use Rattle.rand_pcg.specs.Lcg.{Lcg}
@@ -15,6 +15,7 @@ use Rattle.mx_network.specs.Step.{ClusterState}
 use Rattle.mx_explorer.specs.Drawn.{after_words, word}
 use Rattle.mx_explorer.specs.Weather.{generator_of}
 use Rattle.mx_walks.specs.declared.conditions.Conditions.{Conditions}
+use Rattle.mx_walks.specs.declared.walk.Walk.{Walk}
 
 -- ---- what a node does by itself
 
@@ -95,6 +96,9 @@ pub record WalkState : Type 0 where
   pub words : Lcg
   pub flying : List ℕ
   pub seen : ℕ
+
+abbrev pub state_of : Walk → WalkState
+state_of w = record { words = w.words; flying = w.flying.items; seen = w.seen }
 
 -- the walk of a seed, before its first step
 abbrev pub at_first : ℕ → WalkState

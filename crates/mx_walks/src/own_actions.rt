@@ -3,7 +3,7 @@
 ghost use Rattle.std.specs.Prelude.{◌≡◌, ◌≤◌, ◌<◌, ◌-◌, ◌%◌};
 ghost use Rattle.mx_member.specs.Member.{first_gap};
 ghost use Rattle.mx_explorer.specs.Drawn.{after_words, word};
-ghost use Rattle.mx_walks.specs.Walk.{act_by, acted, actor, idle_by, inside_by, is_ready, is_ready_at, member_act, node_act, ready_from, waiting_by};
+ghost use Rattle.mx_walks.specs.Walk.{acted, actor, idle_by, inside_by, is_ready, is_ready_at, member_act, node_act, ready_from, waiting_by};
 
 use crate::draws::{draw_below, draw_node};
 use mx_journal::Journal;

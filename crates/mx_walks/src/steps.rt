@@ -2,8 +2,7 @@
 
 ghost use Rattle.std.specs.Prelude.{◌≡◌, ◌<◌, ◌≤◌, length, OnOk};
 ghost use Rattle.mx_commands.specs.Explored.{after_placed};
-ghost use Rattle.mx_walks.specs.States.{state_of};
-ghost use Rattle.mx_walks.specs.Walk.{at_first, looked, next_step};
+ghost use Rattle.mx_walks.specs.Walk.{at_first, looked, next_step, state_of};
 ghost use Rattle.mx_walks.specs.Walked.{after_walk, walked};
 
 use crate::conditions::Conditions;

@@ -1,8 +1,7 @@
 //! The next step of a walk: it mostly delivers a parcel; else a node acts by itself.
 
 ghost use Rattle.std.specs.Prelude.{◌≡◌, ◌<◌, ◌≤◌, OnOk, false};
-ghost use Rattle.mx_walks.specs.Walk.{at_first, chosen, is_delivery, is_empty, looked, next_step, repeated, taken_up};
-ghost use Rattle.mx_walks.specs.States.{state_of};
+ghost use Rattle.mx_walks.specs.Walk.{at_first, chosen, is_delivery, is_empty, looked, next_step, repeated, state_of, taken_up};
 
 use crate::conditions::Conditions;
 use crate::draws::byte_of;
