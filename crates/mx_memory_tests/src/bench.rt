@@ -1,6 +1,6 @@
 //! What the calls are made on.
 
-use crate::harness::{Outcome, done, expect, failed};
+use crate::harness::{Outcome, expect};
 use crate::jobs::{NewRun, new_run};
 use crate::nodes::{at_cluster, at_journal, at_member, go_inside, new_member, records_of, settled};
 use crate::stations::{Stations, open, state_of_station};
@@ -10,7 +10,6 @@ use anyhow::{Result, bail};
 use mx_format::add_member_line;
 use mx_journal::{Journal, Record};
 use mx_member::Member;
-use mx_merge::MergeFault;
 use mx_network::{Cluster, Event};
 use mx_plan::{Plan, PlanFault, read_events, read_plan};
 use mx_ricart::{Count, Ricart};
@@ -31,7 +30,7 @@ pub(crate) struct Bench {
     other: Journal,
     run: Option<NewRun>,
     pub(crate) member: Member<Ricart>,
-    cluster: Cluster<Ricart>,
+    pub(crate) cluster: Cluster<Ricart>,
     /// The events that come to the cluster.
     events: Vec<Event>,
     stations: Stations,
@@ -67,7 +66,7 @@ pub(crate) fn new_bench(alloc: Global) -> Result<Bench> {
     })
 }
 
-/// Makes new stations, with their jobs, for the next call.
+/// The stations of a run are used up by it.
 pub(crate) fn renew_run(bench: &mut Bench) -> Result<()> {
     bench.run = Some(new_run(bench.alloc, &bench.shape)?);
     Ok(())
@@ -76,7 +75,9 @@ pub(crate) fn renew_run(bench: &mut Bench) -> Result<()> {
 /// Returns the state that a refused call leaves as it was.
 pub(crate) fn state_of(bench: &Bench) -> Result<String> {
     let upto = bench.journal.base().upto();
-    let mut text = format!(in bench.alloc; "{upto} {}\n", bench.cluster.sent())?;
+    let happened = bench.cluster.trace().len();
+    let sent = bench.cluster.sent();
+    let mut text = format!(in bench.alloc; "{upto} {happened} {sent}\n")?;
     for number in 0..20 {
         text.push(if bench.journal.get(number).is_some() {
             '1'
@@ -84,17 +85,16 @@ pub(crate) fn state_of(bench: &Bench) -> Result<String> {
             '0'
         })?;
     }
-    add_member_line(&bench.plan, NodeId::default(), &bench.member, &mut text)?;
-    add_nodes(bench, &mut text)?;
+    add_members(bench, &mut text)?;
     for station in &bench.stations.all {
         text.push_str(state_of_station(bench.alloc, station)?.as_str())?;
     }
     Ok(text)
 }
 
-/// Appends a line for each node of the cluster.
-fn add_nodes(bench: &Bench, text: &mut String) -> Result<(), AllocError> {
+fn add_members(bench: &Bench, text: &mut String) -> Result<(), AllocError> {
     for node in &bench.nodes {
+        add_member_line(&bench.plan, *node, &bench.member, text)?;
         if let Some(member) = bench.cluster.member(*node) {
             add_member_line(&bench.plan, *node, member, text)?;
         }
@@ -102,28 +102,14 @@ fn add_nodes(bench: &Bench, text: &mut String) -> Result<(), AllocError> {
     Ok(())
 }
 
-/// Returns whether all events have happened, and left these lines.
-fn has_ended(bench: &Bench, lines: &str) -> Result<bool, AllocError> {
-    let mut text = String::new(bench.alloc);
-    add_nodes(bench, &mut text)?;
-    Ok(
-        bench.cluster.trace().len() == bench.events.len()
-            && bench.cluster.sent() == 5
-            && text.as_str() == lines,
-    )
-}
-
-/// Does what a row says ahead of a call, and returns whether the call is made then.
+/// Does what a row says, and returns whether the call is made then.
 pub(crate) fn set_up(bench: &mut Bench, row: Row) -> Result<bool> {
-    let stations = &mut bench.stations;
     match row {
         Row::New => *bench = new_bench(bench.alloc)?,
         Row::Journal(numbers, upto) => bench.journal = settled(bench.alloc, numbers, upto)?,
         Row::Settle(upto) => bench.member.settle(upto)?,
-        Row::Open(nodes) => *stations = open(bench.alloc, nodes)?,
-        Row::Ended(lines) => expect("Cluster", has_ended(bench, lines)?)?,
-        Row::Request => expect("Station::take_in", stations.set_up(row))?,
-        Row::Watched(sections) => expect("Station::watch", stations.has_watched(sections))?,
+        Row::Open(nodes) => bench.stations = open(bench.alloc, nodes)?,
+        Row::Watched(sections) => expect("Watch", bench.stations.has_watched(sections))?,
         _ => {
             prepare(bench, row)?;
             return Ok(true);
@@ -132,17 +118,15 @@ pub(crate) fn set_up(bench: &mut Bench, row: Row) -> Result<bool> {
     Ok(false)
 }
 
-/// Prepares what the next call is given.
 fn prepare(bench: &mut Bench, row: Row) -> Result<()> {
     match row {
         Row::Inside => go_inside(&mut bench.member),
-        Row::Section(_) | Row::Send => expect("Station", bench.stations.set_up(row))?,
+        Row::Section | Row::Send => expect("Station", bench.stations.set_up(row))?,
         _ => {}
     }
     bench.records = records_of(bench.alloc, row.numbers())?;
-    renew_run(bench)?;
     bench.other = settled(bench.alloc, row.numbers(), row.upto())?;
-    Ok(())
+    renew_run(bench)
 }
 
 pub(crate) fn make<R: Threads>(
@@ -162,15 +146,11 @@ pub(crate) fn make<R: Threads>(
             )
         }
         Call::Leave | Call::Perform | Call::Deliver | Call::Receive => {
-            at_member(&mut bench.member, call, row.numbers(), &bench.other)
+            at_member(&mut bench.member, call, row.numbers())
         }
-        Call::Step | Call::Advance | Call::Run | Call::MakeRoom => {
+        Call::Step | Call::Advance | Call::Run => {
             at_cluster(&mut bench.cluster, call, bench.events.as_slice())
         }
-        Call::Merged => match bench.cluster.merged(bench.alloc, &bench.nodes) {
-            Ok(journal) => done(journal.len() == 1),
-            Err(fault) => failed(fault == MergeFault::Memory),
-        },
         Call::LeaveAt | Call::TakeIn | Call::Turn | Call::Watch | Call::Gather => {
             bench.stations.make(bench.alloc, call, again)
         }

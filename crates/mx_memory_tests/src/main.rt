@@ -13,16 +13,23 @@ mod stations;
 mod table;
 mod values;
 
-use crate::bench::new_bench;
-use crate::harness::go;
-use crate::table::TABLE;
+use crate::bench::{new_bench, set_up};
+use crate::harness::step;
+use crate::table::{Row, TABLE};
 use anyhow::Result;
 
 fn main(rt: HostRuntime) -> Result<()> {
     let mut bench = new_bench(rt.alloc())?;
     for (name, call, rows) in &TABLE {
         for row in *rows {
-            go(&rt, &rt, &mut bench, *name, *call, *row)?;
+            let Row::Lists(lists) = row else {
+                step(&rt, &rt, &mut bench, *name, *call, *row)?;
+                continue;
+            };
+            set_up(&mut bench, Row::New)?;
+            for numbers in *lists {
+                step(&rt, &rt, &mut bench, *name, *call, Row::Numbers(*numbers))?;
+            }
         }
     }
     Ok(())

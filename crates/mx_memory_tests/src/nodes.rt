@@ -1,14 +1,12 @@
 //! Calls of a journal, of a member, and of a cluster.
 
-ghost use Rattle.std.specs.Prelude.{◌≡◌, []};
-
-use crate::harness::{Outcome, done, failed};
+use crate::harness::{Outcome, ended};
 use crate::table::Call;
 use anyhow::{Result, bail};
 use arrayvec::ArrayVec;
-use mx_journal::{Journal, PutFault, Receipt, Record, Write};
+use mx_journal::{Journal, PutFault, Record, Write};
 use mx_letters::{Outbox, RicartMsg};
-use mx_member::{Act, Answer, CloseFault, DeliverFault, Member, Parcel, perform};
+use mx_member::{Act, CloseFault, DeliverFault, Member, Parcel, perform};
 use mx_merge::{MergeFault, agree, merge};
 use mx_network::{Cluster, Event, StepFault};
 use mx_nodelaws::Exclusion;
@@ -16,7 +14,6 @@ use mx_ricart::{Count, Ricart};
 use mx_stamps::NodeId;
 use std::alloc::{AllocError, Global};
 
-/// Returns a record by node 0 that writes its number to register 0.
 fn record(number: u64) -> Record {
     let mut record = Record::default();
     record.number = number;
@@ -45,16 +42,6 @@ pub(crate) fn settled(alloc: Global, numbers: &[u64], upto: u64) -> Result<Journ
     Ok(journal)
 }
 
-/// Returns whether a journal has all that another one has, of sections below 20.
-fn covers(journal: &Journal, other: &Journal) -> bool {
-    for number in 0..20 {
-        if other.covers(number) && !journal.covers(number) {
-            return false;
-        }
-    }
-    journal.base().upto() >= other.base().upto()
-}
-
 /// Puts the first record alone, or all of them. Returns whether memory was refused, if it fails.
 fn put(journal: &mut Journal, call: Call, records: &[Record]) -> Option<bool> {
     let fault = match records.first() {
@@ -64,7 +51,6 @@ fn put(journal: &mut Journal, call: Call, records: &[Record]) -> Option<bool> {
     Some(fault? == PutFault::Memory)
 }
 
-/// Adds another journal.
 fn add(journal: &mut Journal, call: Call, other: &Journal) -> Option<bool> {
     match call {
         Call::Merge => Some(merge(journal, other).err()? == MergeFault::Memory),
@@ -79,17 +65,12 @@ pub(crate) fn at_journal(
     records: &[Record],
     other: &Journal,
 ) -> Outcome {
-    let fault = match call {
-        Call::Put | Call::PutAll => put(journal, call, records),
-        _ => add(journal, call, other),
-    };
-    match fault {
-        None => done(agree(journal, other) && covers(journal, other)),
-        Some(for_memory) => failed(for_memory),
+    match call {
+        Call::Put | Call::PutAll => ended(put(journal, call, records)),
+        _ => ended(add(journal, call, other)),
     }
 }
 
-/// Creates node 0 of one node, with one register.
 pub(crate) fn new_member(alloc: Global) -> Result<Member<Ricart>> {
     let Some(shape) = Count::of(1) else {
         bail!("no such cluster");
@@ -100,7 +81,7 @@ pub(crate) fn new_member(alloc: Global) -> Result<Member<Ricart>> {
     Ok(Member::start(alloc, &shape, NodeId::default(), 0, 10, 1))
 }
 
-/// Enters section 1, writes and reads. A refused act is missing from the receipt.
+/// Enters section 1, writes and reads. If an act is refused, there is no section to leave.
 pub(crate) fn go_inside(member: &mut Member<Ricart>) {
     let _ = member.ask(&mut Outbox::new());
     let _ = member.enter();
@@ -118,83 +99,47 @@ pub(crate) fn parcel_of(numbers: &[u64]) -> Parcel<RicartMsg> {
     Parcel::Records(records)
 }
 
-/// Returns whether the receipt is that of section 1, complete.
-fn is_whole(receipt: &Receipt) -> bool {
-    receipt.number == 1 && receipt.reads.len() == 1 && receipt.writes.len() == 1
-}
-
-fn delivered(answer: Result<(), DeliverFault>) -> Outcome {
-    match answer {
-        Ok(()) => Outcome::Done,
-        Err(fault) => failed(fault == DeliverFault::Memory),
-    }
-}
-
-/// Leaves, or takes records of these numbers.
-fn act(
-    member: &mut Member<Ricart>,
-    call: Call,
-    numbers: &[u64],
-    out: &mut Outbox<Parcel<RicartMsg>>,
-) -> Outcome
-    requires { out.old ≡ [] }
-{
+/// Leaves, or takes records of these numbers. Returns whether memory was refused, if it fails.
+fn act(member: &mut Member<Ricart>, call: Call, numbers: &[u64]) -> Option<bool> {
     let node = NodeId::default();
-    match call {
-        Call::Leave => match member.leave(out) {
-            Ok(receipt) => done(is_whole(&receipt)),
-            Err(fault) => failed(fault == CloseFault::Memory),
-        },
-        Call::Perform => match perform(member, Act::Leave, out) {
-            Ok(Answer::Left(Ok(receipt))) => done(is_whole(&receipt)),
-            Ok(_) => Outcome::Wrong,
-            Err(AllocError) => Outcome::Refused,
-        },
-        Call::Deliver => delivered(member.deliver(node, parcel_of(numbers), out)),
-        _ => delivered(member.receive(node, &parcel_of(numbers), out)),
-    }
+    let mut out = Outbox::new();
+    let fault = match call {
+        Call::Leave => return Some(member.leave(&mut out).err()? == CloseFault::Memory),
+        Call::Perform => return Some(perform(member, Act::Leave, &mut out).err()? == AllocError),
+        Call::Deliver => member.deliver(node, parcel_of(numbers), &mut out).err(),
+        _ => member.receive(node, &parcel_of(numbers), &mut out).err(),
+    };
+    Some(fault? == DeliverFault::Memory)
 }
 
-/// The member sends nothing, and then has what the other journal of these numbers has.
-pub(crate) fn at_member(
-    member: &mut Member<Ricart>,
-    call: Call,
-    numbers: &[u64],
-    other: &Journal,
-) -> Outcome {
-    let mut out = Outbox::new();
-    match act(member, call, numbers, &mut out) {
-        Outcome::Done => done(out.is_empty() && covers(member.journal(), other)),
-        outcome => outcome,
-    }
+pub(crate) fn at_member(member: &mut Member<Ricart>, call: Call, numbers: &[u64]) -> Outcome {
+    ended(act(member, call, numbers))
 }
 
 /// Runs events. If memory is refused to one, those before it remain applied.
 fn run(cluster: &mut Cluster<Ricart>, events: &[Event]) -> Outcome {
     let before = cluster.trace().len() as u64;
-    match cluster.run(events) {
-        Ok(()) => Outcome::Done,
-        Err(fault) if fault.fault != StepFault::Memory => Outcome::Wrong,
-        Err(fault) if cluster.trace().len() as u64 == before.saturating_add(fault.index) => {
-            Outcome::Partly
-        }
-        Err(_) => Outcome::Wrong,
+    let Some(fault) = cluster.run(events).err() else {
+        return Outcome::Done;
+    };
+    let happened = cluster.trace().len() as u64;
+    if fault.fault == StepFault::Memory && happened == before.saturating_add(fault.index) {
+        Outcome::Partly
+    } else {
+        Outcome::Wrong
     }
 }
 
-/// Makes the step of the next event, or runs all that remain, or makes room.
+/// Makes the step of the next event, or runs all that remain.
 pub(crate) fn at_cluster(cluster: &mut Cluster<Ricart>, call: Call, events: &[Event]) -> Outcome {
     let rest = events.get(cluster.trace().len()..).unwrap_or(&[]);
     let fault = match (call, rest.first()) {
-        (Call::MakeRoom, _) if cluster.make_room(100).is_ok() => return Outcome::Done,
-        (Call::MakeRoom, _) => return Outcome::Refused,
-        (Call::Run, _) => return run(cluster, rest),
         (Call::Step, Some(event)) => cluster.step(*event).err(),
-        (_, Some(event)) => cluster.advance(*event).err(),
-        (_, None) => return Outcome::Wrong,
+        (Call::Advance, Some(event)) => cluster.advance(*event).err(),
+        _ => return run(cluster, rest),
     };
     match fault {
         None => Outcome::Done,
-        Some(fault) => failed(fault == StepFault::Memory),
+        Some(fault) => ended(Some(fault == StepFault::Memory)),
     }
 }

@@ -1,8 +1,8 @@
 //! Calls that return a value, or append a text: a refused call returns none, or promises nothing of
-//! the text, which starts again.
+//! the text.
 
 use crate::bench::Bench;
-use crate::harness::{Outcome, done, failed};
+use crate::harness::{Outcome, done, ended};
 use crate::jobs::SETTINGS;
 use crate::nodes::parcel_of;
 use crate::stations::open;
@@ -14,13 +14,13 @@ use mx_jobs::{fair_links, stations};
 use mx_journal::{Base, Cell, Range};
 use mx_letters::{MaekawaMsg, RaymondMsg, RicartMsg};
 use mx_member::{Parcel, SentParcel};
+use mx_merge::MergeFault;
 use mx_network::Cluster;
 use mx_plan::{PlanFault, read_events, read_plan};
 use mx_ricart::Ricart;
 use mx_stamps::{NodeId, Stamp};
 use std::alloc::AllocError;
 
-/// Returns the stamp 5.a.
 fn stamp() -> Stamp {
     Stamp {
         number: 5,
@@ -43,7 +43,6 @@ fn base() -> Parcel<RicartMsg> {
     }
 }
 
-/// Appends the line of parcel 7, from node 0 to node 1.
 fn add_line(bench: &Bench, text: &mut String) -> Result<(), AllocError> {
     let parcel = want();
     let [from, to] = bench.nodes;
@@ -70,58 +69,41 @@ fn add(bench: &Bench, call: Call, text: &mut String) -> Result<(), AllocError> {
     }
 }
 
-/// Returns whether an empty string gets this text.
-fn has_text(bench: &Bench, call: Call, wanted: &str) -> Result<bool, AllocError> {
-    let mut text = String::new(bench.alloc);
-    add(bench, call, &mut text)?;
-    Ok(text.as_str() == wanted)
-}
-
-/// Returns whether a value has the right length or text.
-fn is_made(bench: &Bench, call: Call, row: Row) -> Result<bool, AllocError> {
+fn is_made(bench: &mut Bench, call: Call, row: Row) -> Result<bool, AllocError> {
     let alloc = bench.alloc;
     match (call, row) {
-        (Call::Schedule, _) => Ok(schedule(alloc, 1, 100, &bench.plan)?.len() == 100),
-        (Call::StartCluster, _) => {
-            Ok(
-                Cluster::<Ricart>::start(alloc, &bench.shape, 0, 10, 1)?
-                    .trace()
-                    .is_empty(),
-            )
-        }
-        (Call::OpenStations, Row::Nodes(nodes)) => {
-            Ok(open(alloc, nodes)?.all.len() == usize::from(nodes))
-        }
-        (Call::NewStations, _) => Ok(
-            stations::<Ricart>(alloc, &bench.shape, &SETTINGS)?.len() == 2,
-        ),
-        (Call::FairLinks, _) => Ok(fair_links(alloc, 2)?.len() == 2),
-        (_, Row::Text(wanted)) => has_text(bench, call, wanted),
-        _ => Ok(false),
+        (Call::MakeRoom, _) => bench.cluster.make_room(100)?,
+        (Call::Schedule, _) => drop(schedule(alloc, 1, 100, &bench.plan)?),
+        (Call::StartCluster, _) => drop(Cluster::<Ricart>::start(alloc, &bench.shape, 0, 10, 1)?),
+        (Call::OpenStations, Row::Nodes(nodes)) => drop(open(alloc, nodes)?),
+        (Call::NewStations, _) => drop(stations::<Ricart>(alloc, &bench.shape, &SETTINGS)?),
+        (Call::FairLinks, _) => return Ok(fair_links(alloc, 2)?.len() == 2),
+        _ => add(bench, call, &mut String::new(alloc))?,
     }
+    Ok(true)
 }
 
-/// Returns whether a plan of three nodes, or five events, were read.
-fn is_read(bench: &Bench, call: Call) -> Result<bool, PlanFault> {
-    match call {
-        Call::ReadPlan => Ok(read_plan(bench.alloc, PLAN.as_bytes())?.nodes() == 3),
-        _ => Ok(read_events(bench.alloc, EVENTS.as_bytes(), &bench.plan)?.len() == 5),
-    }
-}
-
-pub(crate) fn make(bench: &Bench, call: Call, row: Row) -> Outcome {
-    match call {
-        Call::ReadPlan | Call::ReadEvents => {
-            match is_read(bench, call) {
-                Ok(holds) => done(holds),
-                Err(fault) => failed(fault == PlanFault::Memory),
-            }
-        }
+pub(crate) fn make(bench: &mut Bench, call: Call, row: Row) -> Outcome {
+    let fault = match call {
+        Call::ReadPlan => read_plan(bench.alloc, PLAN.as_bytes()).err(),
+        Call::ReadEvents => read_events(bench.alloc, EVENTS.as_bytes(), &bench.plan).err(),
+        Call::Merged => return merged(bench),
         _ => {
-            match is_made(bench, call, row) {
+            return match is_made(bench, call, row) {
                 Ok(holds) => done(holds),
                 Err(AllocError) => Outcome::Refused,
-            }
+            };
         }
+    };
+    match fault {
+        None => Outcome::Done,
+        Some(fault) => ended(Some(fault == PlanFault::Memory)),
+    }
+}
+
+fn merged(bench: &Bench) -> Outcome {
+    match bench.cluster.merged(bench.alloc, &bench.nodes) {
+        Ok(_) => Outcome::Done,
+        Err(fault) => ended(Some(fault == MergeFault::Memory)),
     }
 }

@@ -49,7 +49,7 @@ impl Arrow {
 
     /// Appends the start tag.
     fn add_path(&self, columns: &Columns, text: &mut String) -> Result<(), AllocError> {
-        let class = self.route.class;
+        let class = self.route.class();
         let (back, aside) = if self.route.is_left() {
             ("", "-")
         } else {

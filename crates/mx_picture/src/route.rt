@@ -1,16 +1,15 @@
-//! The routes of parcels, and the classes of their arrows.
+//! The routes of parcels, and the styles of their arrows.
 
 use mx_format::{Letter, Style};
 use mx_member::{Parcel, SentParcel};
 use mx_stamps::NodeId;
 
-/// The sender and the addressee of a parcel, and the class of its arrow, which is also the name of
-/// the arrow's tip.
+/// The sender and the addressee of a parcel, and the style of its arrow.
 #[derive(Clone, Copy)]
 pub(crate) struct Route {
     pub(crate) from: NodeId,
     pub(crate) to: NodeId,
-    pub(crate) class: &'static str,
+    pub(crate) style: Style,
 }
 
 impl Route {
@@ -19,15 +18,19 @@ impl Route {
             Parcel::Guard(letter) => letter.parts().style,
             Parcel::Want(_) | Parcel::Base(_) | Parcel::Records(_) => Style::Other,
         };
-        let class = match style {
-            Style::Request => "request",
-            Style::Grant => "grant",
-            Style::Other => "other",
-        };
         Route {
             from: sent.from,
             to: sent.to,
-            class,
+            style,
+        }
+    }
+
+    /// Returns the class of the arrow, which is also the name of its tip.
+    pub(crate) fn class(&self) -> &'static str {
+        match self.style {
+            Style::Request => "request",
+            Style::Grant => "grant",
+            Style::Other => "other",
         }
     }
 

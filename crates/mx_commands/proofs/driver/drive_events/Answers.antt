@@ -55,7 +55,7 @@ returns-in_err-put-clause-ran g c =
     (g.O.Output.written c.put.new.self) (report_from core texts 0 c.args.cluster c.args.events.now)
     (remaining core texts c.args.events.now c.loop-index.index c.loop-index.cluster)
     i.written.0 f i.written.2 i.written.1 c.in_err-put.ensures.err i.stays c.in_err-put.ensures.takes in
-    let is : c.from_residual-in_err-put.result ≡ Err (error_of f) = search rules in
+    let is : c.from_residual-in_err-put.result ≡ Err (error_of f) = err_is c.from_residual-in_err-put.result (error_of f) c.from_residual-in_err-put.ensures.1 in
     rw is final
 
 pub loop-index-preserved : goal.loop-index-preserved
@@ -146,7 +146,7 @@ pub returns-in_err-put-clause-refused : goal.returns-in_err-put-clause-refused
 returns-in_err-put-clause-refused g c =
     let f = c.in_err-put.field-0.0 in
     let taken = c.in_err-put.ensures.refused ∙ ap (λ (b : Bool). refused_by {T = ⊤} (Err f) b) c.loop-index.invariant.refused ∙ refused_on f (g.O.Output.has_refused c.args.out.now) in
-    let is : c.from_residual-in_err-put.result ≡ Err (error_of f) = search rules in
+    let is : c.from_residual-in_err-put.result ≡ Err (error_of f) = err_is c.from_residual-in_err-put.result (error_of f) c.from_residual-in_err-put.ensures.1 in
     rw is taken
 
 pub returns-in_err-put-2-clause-refused : goal.returns-in_err-put-2-clause-refused
@@ -154,4 +154,11 @@ returns-in_err-put-2-clause-refused g c =
     let f = c.in_err-put-2.field-0.0 in
     let taken = c.in_err-put-2.ensures.refused ∙ ap (λ (b : Bool). refused_by {T = ⊤} (Err f) b) c.loop-index.invariant.refused ∙ refused_on f (g.O.Output.has_refused c.args.out.now) in
     let is : c.from_residual-in_err-put-2.result ≡ Err (error_of f) = err_is c.from_residual-in_err-put-2.result (error_of f) c.from_residual-in_err-put-2.ensures.1 in
+    rw is taken
+
+pub returns-in_err-status-clause-refused : goal.returns-in_err-status-clause-refused
+returns-in_err-status-clause-refused g c =
+    let taken = c.loop-index.invariant.refused in
+    let is : c.from_residual-in_err-status.result ≡ Err command_error.Memory =
+    err_is c.from_residual-in_err-status.result command_error.Memory c.from_residual-in_err-status.ensures.1 in
     rw is taken

@@ -3,7 +3,7 @@ use Rattle.mx_trace.specs.declared.outcome.Entry.{Entry}
 use Rattle.mx_format.specs.EventTexts.{event_line}
 use Rattle.mx_format.specs.LetterTexts.{letter_text}
 use Rattle.mx_commands.proofs.RunLemmas.{text_on}
-use Rattle.mx_commands.proofs.lines.LinesSink.event.Goals as goal
+use Rattle.mx_commands.proofs.lines.LinesSinkCluster.event.Goals as goal
 
 pub returns-clause-text : goal.returns-clause-text
 returns-clause-text g c = λ old entry trace before.
