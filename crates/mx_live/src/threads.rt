@@ -134,7 +134,7 @@ where
     }
 }
 
-/// It is a separate function, so that the prover needs no readiness of the caller's types.
+/// If memory runs out, what the threads left is dropped. (In its caller, the goals of `join_all` stay open.)
 pub(crate) fn join_all<C: Exclusion, R: Threads>(
     rt: &R,
     workers: Workers<C>,
