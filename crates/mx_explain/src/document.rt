@@ -29,7 +29,7 @@ pub(crate) struct Wrong<'w, 'a> {
 
 impl<'w, 'a> Wrong<'w, 'a> {
     pub(crate) fn of(spot: Spot<'w, 'a>, expected: &'w str) -> Self {
-        let known = &[];
+        let known: &[&str] = &[];
         Wrong {
             spot,
             expected,

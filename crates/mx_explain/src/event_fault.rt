@@ -3,7 +3,7 @@
 use crate::bad_token::report_bad_token;
 use crate::document::{Document, Wrong};
 use crate::location::Part;
-use crate::plan_fault::{NODE, NUMBER};
+use crate::plan_fault::{NODE, NUMBER, wrong_word};
 use crate::report::Report;
 use crate::script_lines::add_meant;
 use crate::spot::Spot;
@@ -50,7 +50,7 @@ fn report_event(
     event: Spot<'_, '_>,
 ) -> Result<(), AllocError> {
     let alloc = report.alloc();
-    let Some(count) = event.items().len().checked_sub(1) else {
+    let Some(count) = event.len().checked_sub(1) else {
         let expected = "an array of a word and its arguments, as [\"ask\",NODE]";
         return document.report_wrong(report, &Wrong::of(event, expected));
     };
@@ -67,27 +67,26 @@ fn report_event(
     let registers = plan.register_names(alloc)?;
     for (i, kind) in kind.arguments().iter().enumerate() {
         let spot = event.item(i.saturating_add(1));
-        let (known, expected) = match kind {
-            ArgumentKind::Node => (nodes.as_slice(), NODE),
-            ArgumentKind::Register => (registers.as_slice(), "a register of the plan"),
-            _ => (&[] as &[&str], NUMBER),
-        };
-        let is_right = match kind {
-            ArgumentKind::Node | ArgumentKind::Register => spot.is_among(known),
-            _ => spot.value.and_then(Value::as_u64).is_some(),
-        };
-        if !is_right {
-            return document.report_wrong(
-                report,
-                &Wrong {
-                    spot,
-                    expected,
-                    known,
-                },
-            );
+        let wrong = wrong_argument(spot, *kind, nodes.as_slice(), registers.as_slice());
+        if let Some(wrong) = wrong {
+            return document.report_wrong(report, &wrong);
         }
     }
     Ok(())
+}
+
+fn wrong_argument<'w, 'a>(
+    spot: Spot<'w, 'a>,
+    kind: ArgumentKind,
+    nodes: &'w [&'w str],
+    registers: &'w [&'w str],
+) -> Option<Wrong<'w, 'a>> {
+    match kind {
+        ArgumentKind::Node => wrong_word(spot, NODE, nodes),
+        ArgumentKind::Register => wrong_word(spot, "a register of the plan", registers),
+        _ if spot.value.and_then(Value::as_u64).is_some() => None,
+        _ => Some(Wrong::of(spot, NUMBER)),
+    }
 }
 
 /// Reports a word that no event has, and the words of events.

@@ -62,8 +62,9 @@ fn report_fault(
 ) -> Result<(), AllocError> {
     let plan = Spot::root("", &document.root);
     let mut nodes = Vec::new(report.alloc());
-    for item in plan.key("nodes").items() {
-        nodes.push(item.as_str().unwrap_or(""))?;
+    let names = plan.key("nodes");
+    for i in 0..names.len() {
+        nodes.push(names.item(i).text())?;
     }
     let nodes = nodes.as_slice();
     let place = match fault {
@@ -88,7 +89,7 @@ fn report_names(
     most: usize,
 ) -> Result<(), AllocError> {
     let alloc = report.alloc();
-    let count = list.items().len();
+    let count = list.len();
     if count == 0 || count > most {
         let expected = format!(in alloc; "an array of 1 to {most} names")?;
         return document.report_wrong(report, &Wrong::of(list, expected.as_str()));
@@ -124,7 +125,11 @@ fn wrong_at<'w, 'a>(
         Place::Origin => Wrong::of(plan.key("origin"), NUMBER),
         Place::Quorums => wrong_in_quorums(plan.key("quorums"), nodes),
         Place::Edges => wrong_in_edges(plan.key("edges"), nodes),
-        Place::Holder => wrong_node(plan.key("holder"), nodes),
+        Place::Holder => Wrong {
+            spot: plan.key("holder"),
+            expected: NODE,
+            known: nodes,
+        },
         _ => {
             let expected = "an object with algorithm, nodes, registers and sections";
             Wrong::of(Spot::root("the plan", &document.root), expected)
@@ -132,19 +137,26 @@ fn wrong_at<'w, 'a>(
     }
 }
 
-fn wrong_node<'w, 'a>(spot: Spot<'w, 'a>, known: &'w [&'w str]) -> Wrong<'w, 'a> {
-    let expected = NODE;
-    Wrong {
+/// Returns that the text at a place is none of the known words, unless it is one.
+pub(crate) fn wrong_word<'w, 'a>(
+    spot: Spot<'w, 'a>,
+    expected: &'w str,
+    known: &'w [&'w str],
+) -> Option<Wrong<'w, 'a>> {
+    if index_in(spot.text(), known).is_some() {
+        return None;
+    }
+    Some(Wrong {
         spot,
         expected,
         known,
-    }
+    })
 }
 
 fn wrong_in_edges<'w, 'a>(edges: Spot<'w, 'a>, nodes: &'w [&'w str]) -> Wrong<'w, 'a> {
-    for k in 0..edges.items().len() {
+    for k in 0..edges.len() {
         let edge = edges.item(k);
-        if edge.items().len() != 2 {
+        if edge.len() != 2 {
             return Wrong::of(edge, "an array of two nodes");
         }
         if let Some(wrong) = wrong_in_nodes(edge, nodes) {
@@ -159,8 +171,13 @@ fn wrong_in_nodes<'w, 'a>(list: Spot<'w, 'a>, nodes: &'w [&'w str]) -> Option<Wr
     let Some(Value::Array(_)) = list.value else {
         return Some(Wrong::of(list, "an array of nodes"));
     };
-    let i = (0..list.items().len()).position(|i| !list.item(i).is_among(nodes))?;
-    Some(wrong_node(list.item(i), nodes))
+    for i in 0..list.len() {
+        let wrong = wrong_word(list.item(i), NODE, nodes);
+        if wrong.is_some() {
+            return wrong;
+        }
+    }
+    None
 }
 
 fn wrong_in_quorums<'w, 'a>(quorums: Spot<'w, 'a>, nodes: &'w [&'w str]) -> Wrong<'w, 'a> {
@@ -191,7 +208,7 @@ fn wrong_in_grid<'w, 'a>(quorums: Spot<'w, 'a>) -> Wrong<'w, 'a> {
 }
 
 fn wrong_in_sets<'w, 'a>(sets: Spot<'w, 'a>, nodes: &'w [&'w str]) -> Wrong<'w, 'a> {
-    let count = sets.items().len();
+    let count = sets.len();
     for i in 0..count {
         if let (true, Some(wrong)) = (count == nodes.len(), wrong_in_nodes(sets.item(i), nodes)) {
             return wrong;

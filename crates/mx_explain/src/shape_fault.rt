@@ -32,7 +32,7 @@ pub(crate) fn report_shape(
         ShapeFault::Tree(_) if report_cycle(report, document, nodes)? => return Ok(()),
         ShapeFault::Tree(_) => edges,
     };
-    let count = edges.items().len();
+    let count = edges.len();
     let mut text = String::new(report.alloc());
     text.write(ShapeText {
         fault,
@@ -119,7 +119,7 @@ pub(crate) fn report_cycle(
     // of each node, the number of its part: nodes that earlier edges connect are in one
     let mut parts: Vec<usize> = (0..nodes.len()).collect(alloc)?;
     let edges = Spot::root("", &document.root).key("edges");
-    for k in 0..edges.items().len() {
+    for k in 0..edges.len() {
         let edge = edges.item(k);
         let (first, second) = (edge.item(0).text(), edge.item(1).text());
         if first != second && join(parts.as_mut_slice(), nodes, first, second) == Some(false) {

@@ -32,21 +32,16 @@ impl<'v, 'a> Spot<'v, 'a> {
         }
     }
 
-    /// Returns the place of the member of this key, the last one if several have it.
     pub(crate) fn key(self, key: &'static str) -> Self {
-        let members = match self.value {
-            Some(Value::Object(members)) => members.as_slice(),
-            _ => &[],
-        };
-        let index = members.iter().rposition(|(name, _)| *name == key);
-        let member = index.and_then(|index| members.get(index));
+        let found = self.member_of(key);
+        let index = found.map(|(index, _)| index);
         let key = Some(key);
-        self.then(Step { key, index }, member.map(|(_, value)| value))
+        self.then(Step { key, index }, found.map(|(_, value)| value))
     }
 
     pub(crate) fn item(self, i: usize) -> Self {
         let (key, index) = (None, Some(i));
-        self.then(Step { key, index }, self.items().get(i))
+        self.then(Step { key, index }, self.item_of(i))
     }
 
     fn then(mut self, step: Step, value: Option<&'v Value<'a>>) -> Self {
@@ -57,21 +52,34 @@ impl<'v, 'a> Spot<'v, 'a> {
         self
     }
 
-    /// Returns the items of an array, and none of other values.
-    pub(crate) fn items(&self) -> &'v [Value<'a>] {
+    /// Returns the value of the member of this key, the last one if several have it, and its index.
+    fn member_of(&self, key: &str) -> Option<(usize, &'v Value<'a>)> {
+        let Some(Value::Object(members)) = self.value else {
+            return None;
+        };
+        let index = members.iter().rposition(|(name, _)| *name == key)?;
+        let (_, value) = members.get(index)?;
+        Some((index, value))
+    }
+
+    fn item_of(&self, i: usize) -> Option<&'v Value<'a>> {
+        let Some(Value::Array(items)) = self.value else {
+            return None;
+        };
+        items.get(i)
+    }
+
+    /// Returns how many items an array has, and 0 for other values.
+    pub(crate) fn len(&self) -> usize {
         match self.value {
-            Some(Value::Array(items)) => items.as_slice(),
-            _ => &[],
+            Some(Value::Array(items)) => items.len(),
+            _ => 0,
         }
     }
 
     /// Returns the text of a string, or an empty one for other values.
     pub(crate) fn text(&self) -> &'a str {
         self.value.and_then(Value::as_str).unwrap_or("")
-    }
-
-    pub(crate) fn is_among(&self, words: &[&str]) -> bool {
-        index_in(self.text(), words).is_some()
     }
 
     /// Returns the byte of the text at which the value begins, or the innermost value around it.
