@@ -4,8 +4,7 @@ printouts with.
 Usage: tests/oracle.py PLAN EVENTS, or tests/oracle.py state PLAN EVENTS for `replay --state`, for a plan and events that
 are well-formed, or
 tests/oracle.py explore PLAN SEED STEPS, or
-tests/oracle.py walk PLAN SEED STEPS [LOSS REPEAT [in-order]], which is `mx explore .. --walk`, or
-tests/oracle.py seeds PLAN FIRST LAST STEPS [walk [LOSS REPEAT [in-order]]], which is `mx explore --seeds`.
+tests/oracle.py walk PLAN SEED STEPS [LOSS REPEAT [in-order]], which is `mx explore .. --walk`.
 
 From the bottom up: letters, which nodes send to each other; cores, one class for each algorithm, which
 take the letters and say when their node may enter the section; members, which are a core with the journal
@@ -1136,21 +1135,6 @@ def explore_walk(plan, seed, steps, words, put):
     put("verdict sound")
 
 
-def explore_seeds(plan, first, last, steps, words, put):
-    """Puts the sums of the explorations of some seeds, or of their walks, and the verdict."""
-    entered = sent = 0
-    for seed in range(first, last + 1):
-        if words:
-            counts = Walk(plan, seed, *conditions(words[1:])).walk(steps).counts()
-        else:
-            cluster, lines = run_drawn(plan, seed, steps)
-            counts = sum(": entered " in line for line in lines), len(cluster.parcels)
-        entered, sent = entered + counts[0], sent + counts[1]
-    seeds = last + 1 - first
-    put(f"seeds {seeds}, explored {seeds * steps}, entered {entered}, sent {sent}")
-    put("verdict sound")
-
-
 def load(path):
     with open(path) as file:
         return json.load(file)
@@ -1158,14 +1142,12 @@ def load(path):
 
 def main():
     lines = []
-    if sys.argv[1] in ("explore", "walk", "seeds"):
+    if sys.argv[1] in ("explore", "walk"):
         plan = load(sys.argv[2])
         if sys.argv[1] == "explore":
             explore(plan, int(sys.argv[3]), int(sys.argv[4]), lines.append)
-        elif sys.argv[1] == "walk":
-            explore_walk(plan, int(sys.argv[3]), int(sys.argv[4]), sys.argv[5:], lines.append)
         else:
-            explore_seeds(plan, *map(int, sys.argv[3:6]), sys.argv[6:], lines.append)
+            explore_walk(plan, int(sys.argv[3]), int(sys.argv[4]), sys.argv[5:], lines.append)
         sys.stdout.write("".join(line + "\n" for line in lines))
         return
     with_state = sys.argv[1] == "state"

@@ -1,9 +1,9 @@
 -- The status of a run that was closed.
-use Rattle.std.proofs.Common.{◌≡◌, ◌∙◌, inl, inr, ℕ, Bool, IfOk, Result, Ok, Err}
+use Rattle.std.proofs.Common.{◌≡◌, inl, inr, ℕ, Bool, IfOk, Result, Ok, Err}
 use Rattle.mx_plan.specs.Text.{Text}
 use Rattle.mx_cli.specs.declared.faults.CommandError.{CommandError}
 use Rattle.mx_cli.specs.declared.faults.CommandError.TheVariants as command_error
-use Rattle.mx_cli.specs.Closed.{Closes, FallsShort, IsRunStatus}
+use Rattle.mx_cli.specs.Closed.{Closes, FallsShort}
 use Rattle.mx_io.specs.Outputs.{Held}
 
 pub not_five : (status : ℕ) → status ≡ 5 → status ≡ 0 → ⊥
@@ -13,21 +13,9 @@ pub not_one : (status : ℕ) → status ≡ 1 → status ≡ 0 → ⊥
 not_one status one zero = cc
 
 module _ (takes : Bool) (names : Text × Text) (old new : Held) (status : ℕ) where
-  short_status : FallsShort takes old new status → IsRunStatus status
-  short_status (inl h) = inr (inr h.0)
-  short_status (inr h) = inr (inl h.0)
-
   short_not_zero : FallsShort takes old new status → status ≡ 0 → ⊥
   short_not_zero (inl h) zero = not_five status h.0 zero
   short_not_zero (inr h) zero = not_one status h.0 zero
-
-  pub closed_status : (ended : Result ℕ CommandError) → IfOk ended (λ own. own ≡ 0) → Closes takes names ended old new status → IsRunStatus status
-  closed_status (Ok own) zero (inl h) = inl (h.0 ∙ zero)
-  closed_status (Ok own) zero (inr h) = short_status h
-  closed_status (Err (command_error.Fault fault)) zero (inl h) = inr (inl h.0)
-  closed_status (Err (command_error.Fault fault)) zero (inr h) = short_status h
-  closed_status (Err command_error.Writer) zero h = inr (inl h.0)
-  closed_status (Err command_error.Memory) zero h = short_status h
 
   -- a run that is closed with status 0 has done what it had to do
   pub closed_done : {D : Type 0} (ended : Result ℕ CommandError) → IfOk ended (λ _. D) → Closes takes names ended old new status → status ≡ 0 → D

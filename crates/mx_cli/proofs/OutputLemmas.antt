@@ -71,8 +71,3 @@ tells_both t u text a b status (inr (inr h)) = inr (inr (h.0, and_right t u h.1,
 pub told_of_both : (o : Option Text) (t u : Bool) (a b : Held) (status : ℕ) → IfSome o (λ text. ReportsFault u text a b status) → IfSome o (λ text. ReportsFault (t && u) text a b status)
 told_of_both None t u a b status h = tt
 told_of_both (Some text) t u a b status h = tells_both t u text a b status h
-
--- whatever it says
-pub told_any : (o : Option Text) (P : Text → Type 0) → ((text : Text) → P text) → IfSome o P
-told_any None P h = tt
-told_any (Some text) P h = h text

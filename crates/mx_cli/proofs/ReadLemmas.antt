@@ -1,5 +1,5 @@
 -- A plan that was read with the text that comes with it.
-use Rattle.std.proofs.Common.{◌≡◌, ◌∙◌, ◌&&◌, ◌++◌, inl, ℕ, true, false, List, [], ◌∷◌, Bool, Option, Some, None, Result, Ok, Err, Vec, IfSome, ap, append_assoc, option_map, subst}
+use Rattle.std.proofs.Common.{◌≡◌, ◌&&◌, inl, ℕ, true, false, List, [], ◌∷◌, Bool, Option, Some, None, Result, Ok, Err, Vec, IfSome, option_map, subst}
 use Rattle.std.specs.declared.alloc.Global.{Global}
 use Rattle.mx_plan.specs.Text.{Text}
 use Rattle.mx_cli.specs.declared.faults.Named.TheVariants.{Plan}
@@ -33,13 +33,6 @@ module _ (told : Text → Option Telling) (names : Text × Text) (result : Resul
   names_read other h = rw other h
 
 -- ---- the names that were asked for
-
--- one list after the other
-pub asks_on : (a b c : Option (List Text)) (xs ys : List Text) → Asks a b xs → Asks b c ys → Asks a c (xs ++ ys)
-asks_on None b c xs ys p q = tt
-asks_on (Some x) None c xs ys p q = absurd p
-asks_on (Some x) (Some y) None xs ys p q = absurd q
-asks_on (Some x) (Some y) (Some z) xs ys p q = q ∙ ap (λ l. l ++ ys) p ∙ append_assoc x xs ys
 
 module _ (names : Text × Text) (old new : Option (List Text)) (result : Result PlanAndText CommandError) where
   pub dashes_asked : (is_dash names.0 && is_dash names.1) ≡ true → Asks old new (names.0 ∷ []) → AsksBoth names old new result

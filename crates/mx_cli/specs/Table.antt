@@ -1,5 +1,5 @@
 -- The commands, as `clap` reads them: the arguments of each, and command lines of some of them.
-use Rattle.std.specs.Prelude.{ℕ, Bool, List, [], ◌∷◌, Some, true, codes, map}
+use Rattle.std.specs.Prelude.{ℕ, List, [], ◌∷◌, Some, true, codes, map}
 use Rattle.clap.specs.Simple.{new_shape}
 use Rattle.clap.specs.Words.{App, Rule, Text, new_app, new_rule, with_subcommand}
 use Rattle.clap.specs.declared.builder.action.ArgAction.TheVariants.{SetTrue}
@@ -36,7 +36,6 @@ app_of_row row = app_with row.name.now (map rule_of_argument row.arguments.now)
 
 -- ---- arguments
 
--- an argument that has to be given
 abbrev pub needed : Rule → Rule
 needed rule = record rule { required = true }
 
@@ -112,13 +111,6 @@ walk_app =
     app_with (codes "explore")
     (plan_rule ∷ seed_rule ∷ steps_rule ∷ needed walk_rule ∷ condition_rules)
 
--- `explore PLAN --seeds A..B --steps K`, and perhaps `--walk`, which `--loss P`, `--repeat P` and
--- `--in-order` need
-abbrev pub seeds_app : App
-seeds_app =
-    app_with (codes "explore")
-    (plan_rule ∷ needed (text_rule (codes "seeds")) ∷ steps_rule ∷ walk_rule ∷ condition_rules)
-
 -- `live PLAN --sections M`, and perhaps `--seed S`, `--turns T`, `--settle N` and `--progress`
 abbrev pub live_app : App
 live_app =
@@ -141,13 +133,12 @@ script_app = app_with (codes "script") (plan_rule ∷ file_rule (codes "SCRIPT")
 abbrev pub play_app : App
 play_app = app_with (codes "play") (plan_rule ∷ new_rule (codes "SCRIPT") ∷ [])
 
--- `picture PLAN EVENTS`, and perhaps `--from K`, `--to K`, `--node NAME`, `--journals` and
--- `--letters`
+-- `picture PLAN EVENTS`, and perhaps `--from K`, `--to K`, `--node NAME` and `--letters`
 abbrev pub picture_app : App
 picture_app =
     app_with (codes "picture")
     (plan_rule ∷ events_rule ∷ wide_rule (codes "from") ∷ wide_rule (codes "to")
-    ∷ text_rule (codes "node") ∷ flag_rule (codes "journals") ∷ flag_rule (codes "letters") ∷ [])
+    ∷ text_rule (codes "node") ∷ flag_rule (codes "letters") ∷ [])
 
 -- `count PLAN EVENTS`, and perhaps `--json`
 abbrev pub count_app : App
@@ -171,7 +162,6 @@ command_app id.ReplayView = replay_app
 command_app id.Explore = explore_app
 command_app id.ExploreCount = explore_app
 command_app id.ExploreWalk = walk_app
-command_app id.ExploreSeeds = seeds_app
 command_app id.Live = live_app
 command_app id.Draw = draw_app
 command_app id.Script = script_app

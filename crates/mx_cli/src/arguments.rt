@@ -10,7 +10,7 @@ use std::alloc::Global;
 
 /// What an argument takes.
 #[derive(Clone, Copy)]
-pub enum ArgumentKind {
+pub(crate) enum ArgumentKind {
     /// A file, which is known by its place among the words.
     File,
     /// `--NAME`, which is given or not.
@@ -21,35 +21,25 @@ pub enum ArgumentKind {
     Number(u64),
 }
 
-/// An argument of a command.
 #[derive(Clone, Copy)]
-pub struct Argument {
-    pub name: &'static str,
-    pub kind: ArgumentKind,
-    pub is_required: bool,
-    /// What help says of the argument.
-    pub help: &'static str,
+pub(crate) struct Argument {
+    pub(crate) name: &'static str,
+    pub(crate) kind: ArgumentKind,
+    pub(crate) is_required: bool,
+    pub(crate) help: &'static str,
 }
 
 impl Argument {
-    /// Whether the argument is an option, which is given as `--NAME`.
-    pub(crate) fn is_option(&self) -> bool {
-        !matches!(self.kind, ArgumentKind::File)
-    }
-
-    /// Whether the argument is an option that takes a value.
     pub(crate) fn has_value(&self) -> bool {
         matches!(self.kind, ArgumentKind::Text | ArgumentKind::Number(_))
     }
 }
 
-/// The greatest number of steps of an exploration.
 const MAX_STEPS: u64 = MAX_EVENTS as u64;
 
 /// The greatest value of `--loss` and `--repeat`, which count out of 256.
 const MAX_SHARE: u64 = 256;
 
-/// A plan.
 pub(crate) const PLAN: Argument = Argument {
     name: "PLAN",
     kind: ArgumentKind::File,
@@ -57,7 +47,6 @@ pub(crate) const PLAN: Argument = Argument {
     help: "The file of the plan, or - for standard input",
 };
 
-/// The events of a plan.
 pub(crate) const EVENTS: Argument = Argument {
     name: "EVENTS",
     kind: ArgumentKind::File,
@@ -142,13 +131,6 @@ pub(crate) const SEED: Argument = Argument {
     kind: ArgumentKind::Number(u64::MAX),
     is_required: true,
     help: "The seed that is drawn from, a whole number of 64 bits",
-};
-
-pub(crate) const SEEDS: Argument = Argument {
-    name: "seeds",
-    kind: ArgumentKind::Text,
-    is_required: true,
-    help: "The seeds that are drawn from, one after another, such as 1..100",
 };
 
 pub(crate) const STEPS: Argument = Argument {
@@ -260,13 +242,6 @@ pub(crate) const PICTURE_NODE: Argument = Argument {
     help: "Draws the events of the node of this name, and those that send it a parcel or deliver one of its own",
 };
 
-pub(crate) const JOURNALS: Argument = Argument {
-    name: "journals",
-    kind: ArgumentKind::Flag,
-    is_required: false,
-    help: "Tells which sections a node's journal has, at each event that changes it",
-};
-
 /// `--script` of `explain`.
 pub(crate) const IS_SCRIPT: Argument = Argument {
     name: "script",
@@ -275,7 +250,6 @@ pub(crate) const IS_SCRIPT: Argument = Argument {
     help: "Reads a script, as `mx script` does, in place of events",
 };
 
-/// Returns an argument of the table as one of `clap`.
 pub(crate) fn clap_argument<'a>(alloc: Global, argument: &Argument) -> Arg<'a>
     ensures { IsArgument (rule_of_argument argument.now) result }
 {

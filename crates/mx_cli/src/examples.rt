@@ -13,17 +13,6 @@ entered, and the parcels that were sent; the last line is the verdict. With --in
 way from and to the same nodes is delivered in place of the one that was drawn. `mx check --help` tells what a
 plan is; docs/FORMATS.md has all formats.";
 
-pub(crate) const SEEDS: &str = "Example: walks of a thousand steps from each of the seeds 1 to 100.
-
-  plan.json    {\"algorithm\":\"ricart\",\"nodes\":[\"a\",\"b\",\"c\"],\"registers\":[\"count\"],\"sections\":1000}
-
-  mx explore plan.json --seeds 1..100 --steps 1000 --walk
-
-The first seed that is not sound ends it: its number, its counts and its verdict are printed, status 4. If all
-are sound, the first line counts the seeds, and sums up the steps, how often a node entered, and the parcels that
-were sent; the last line is the verdict. At most 1000000 seeds are explored. `mx explore --help` tells which
-events are drawn, `mx explore --walk --help` tells of walks and their options.";
-
 pub(crate) const DRAW: &str =
     "Example: a walk of a hundred steps from the seed 1, kept and then replayed.
 

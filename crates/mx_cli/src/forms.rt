@@ -12,7 +12,7 @@ struct Form {
 }
 
 /// All forms. If words choose two forms of a command, the earlier one in this list counts.
-static FORMS: [Form; 5] = [
+static FORMS: [Form; 4] = [
     Form {
         id: CommandId::CheckJson,
         flags: &["--json"],
@@ -22,11 +22,6 @@ static FORMS: [Form; 5] = [
         id: CommandId::ReplayView,
         flags: &["--quiet", "--json", "--state"],
         options: &["--node"],
-    },
-    Form {
-        id: CommandId::ExploreSeeds,
-        flags: &[],
-        options: &["--seeds"],
     },
     Form {
         id: CommandId::ExploreWalk,
@@ -41,7 +36,6 @@ static FORMS: [Form; 5] = [
 ];
 
 impl Form {
-    /// Whether one of these words chooses the form.
     fn is_chosen_by(&self, words: &[&str]) -> bool {
         words.iter().any(|word| is_among(word, self.flags) || begins_with_one(word, self.options))
     }
@@ -69,7 +63,6 @@ pub fn command_in(words: &[&str]) -> Option<CommandId> {
     }
 }
 
-/// Returns the form that these words choose for the command of this name, if they choose one.
 fn form_in(name: &str, words: &[&str]) -> Option<CommandId> {
     for form in &FORMS {
         if row_of(form.id).name == name && form.is_chosen_by(words) {
@@ -99,7 +92,6 @@ pub fn takes_value(word: &str) -> bool {
     }
 }
 
-/// Whether a command has an option of this name, without the dashes, that takes a value.
 fn has_valued(id: CommandId, name: &str) -> bool {
     row_of(id)
         .arguments

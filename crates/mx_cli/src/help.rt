@@ -7,9 +7,6 @@ pub(crate) const VERSION: &str = "0.1.0, proved by Rattle's logic dac8208d650f15
 pub(crate) const MX: &str =
     "Nodes that guard shared registers by distributed mutual exclusion: Ricart and Agrawala, Maekawa, Raymond";
 
-/// The text that ends the help of a command that `mx_commands::command` lists but does not run.
-pub(crate) const LISTED: &str = "It is one of the commands of the whole program.";
-
 pub(crate) const MX_EXAMPLE: &str =
     "Example: three nodes by the algorithm of Ricart and Agrawala, and the events of one section.
 

@@ -17,7 +17,6 @@ mod planning;
 mod report;
 mod status;
 mod table;
-mod tips;
 mod words;
 
 pub use fault_lines::FaultLine;
@@ -28,7 +27,7 @@ pub use line::matches_in;
 pub use live_words::{LiveRequest, parse_live};
 pub use not_json::{error_named, fetch_named, naming};
 pub use planning::{PlanAndText, fetch, fetch_both, fetch_plan, plan_in};
-pub use report::{refuse, report_fault, report_line, report_memory, write_line};
+pub use report::{refuse, report_fault, report_memory, write_line};
 pub use status::{close, close_with, is_refused};
 pub use table::CommandId;
 pub use words::{

@@ -11,9 +11,8 @@ use crate::table::{CommandId, CommandRow, LISTED, READ, row_of};
 use clap::{ArgMatches, Command, Error};
 use std::alloc::{AllocError, Global};
 
-/// Returns the command line of `mx`, without commands and without an example in its help.
-fn bare_line<'a>(alloc: Global) -> Result<Command<'a>, AllocError>
-    ensures { IfOk result (λ command. app_of command ≡ mx_start) }
+fn start_line<'a>(alloc: Global) -> Result<Command<'a>, AllocError>
+    ensures { IfOk result (λ line. app_of line ≡ mx_start) }
 {
     let begun = Command::new(alloc, "mx")
         .bin_name("mx")?
@@ -21,52 +20,29 @@ fn bare_line<'a>(alloc: Global) -> Result<Command<'a>, AllocError>
         .about(help::MX)
         .no_binary_name(true)
         .subcommand_required(true)
-        .disable_help_subcommand(true);
+        .disable_help_subcommand(true)
+        .after_help(help::MX_EXAMPLE);
     Ok(begun)
 }
 
-/// Returns the command line of `mx`, without commands, with the example that ends its help.
-fn start_line<'a>(alloc: Global) -> Result<Command<'a>, AllocError>
-    ensures { IfOk result (λ line. app_of line ≡ mx_start) }
-{
-    Ok(bare_line(alloc)?.after_help(help::MX_EXAMPLE))
-}
-
-/// Returns the command of a row of the table, with its arguments.
 fn command_of_row<'a>(alloc: Global, row: &CommandRow) -> Result<Command<'a>, AllocError>
     ensures { IfOk result (IsCommand (app_of_row row.now)) }
 {
-    let mut command = listed_row(alloc, row, row.example);
+    let mut command = listed_row(alloc, row);
     for argument in row.arguments {
         command = command.arg(clap_argument(alloc, argument))?;
     }
     Ok(command)
 }
 
-/// Returns the command of a row, without its arguments. Its help ends with `example`.
-fn listed_row<'a>(alloc: Global, row: &CommandRow, example: &'static str) -> Command<'a>
+fn listed_row<'a>(alloc: Global, row: &CommandRow) -> Command<'a>
     ensures { IsCommand (new_app row.now.name.now) result }
 {
     Command::new(alloc, row.name)
         .about(row.about)
-        .after_help(example)
+        .after_help(row.example)
 }
 
-/// Returns the command of this id, with its arguments.
-fn full_command<'a>(alloc: Global, id: CommandId) -> Result<Command<'a>, AllocError>
-    ensures { IfOk result (IsCommand (command_app id)) }
-{
-    command_of_row(alloc, row_of(id))
-}
-
-/// Returns the command of this id without arguments, for a command line that only lists it.
-fn listed_command<'a>(alloc: Global, id: CommandId) -> Command<'a>
-    ensures { IsCommand (listed_app id) result }
-{
-    listed_row(alloc, row_of(id), help::LISTED)
-}
-
-/// Adds these commands, with their arguments, to a command line.
 fn with_commands<'a>(
     alloc: Global,
     line: Command<'a>,
@@ -77,12 +53,11 @@ fn with_commands<'a>(
 {
     let mut line = line;
     for id in ids {
-        line = line.subcommand(full_command(alloc, *id)?)?;
+        line = line.subcommand(command_of_row(alloc, row_of(*id))?)?;
     }
     Ok(line)
 }
 
-/// Adds these commands, without their arguments, to a command line.
 fn with_listed<'a>(
     alloc: Global,
     line: Command<'a>,
@@ -93,12 +68,11 @@ fn with_listed<'a>(
 {
     let mut line = line;
     for id in ids {
-        line = line.subcommand(listed_command(alloc, *id))?;
+        line = line.subcommand(listed_row(alloc, row_of(*id)))?;
     }
     Ok(line)
 }
 
-/// The command line of `mx` with these commands alone.
 fn line_of<'a>(alloc: Global, ids: &[CommandId]) -> Result<Command<'a>, AllocError>
     ensures { IfOk result (λ line. app_of line ≡ line_of ids.now) }
 {
@@ -113,7 +87,6 @@ pub(crate) fn whole_line<'a>(alloc: Global) -> Result<Command<'a>, AllocError>
     with_listed(alloc, line_of(alloc, &READ)?, &LISTED)
 }
 
-/// Parses words by a command line.
 pub(crate) fn matches_of<'a>(
     line: Command<'a>,
     words: &'a [&'a str],

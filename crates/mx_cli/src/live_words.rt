@@ -44,7 +44,6 @@ pub fn parse_live<'a>(alloc: Global, words: &'a [&'a str]) -> Result<Option<Live
     Ok(from_matches(&matches))
 }
 
-/// Returns the request of `live`, or `None` if the words name another command or lack an argument.
 fn from_matches<'a>(matches: &ArgMatches<'a>) -> Option<LiveRequest<'a>>
     ensures { option_map request_of result ≡ request_in (subcommand_rows_of matches.now) }
 {
@@ -73,7 +72,6 @@ fn live_in<'a>(matches: &ArgMatches<'a>) -> Option<LiveRequest<'a>>
     })
 }
 
-/// Returns the number that was given for the option `id`, or `other` if none was.
 fn number_or(matches: &ArgMatches<'_>, id: &str, other: u64) -> u64
     ensures { result ≡ number_or id.now other (rows_of (found_of matches.now)) }
 {

@@ -54,7 +54,6 @@ pub fn error_named(error: CommandError, part: Named) -> CommandError
     }
 }
 
-/// Returns `fault`. If it is the fault that a text is not JSON, the fault names the input `part`.
 fn fault_named(fault: Fault, part: Named) -> Fault
     ensures { result ≡ fault_named part fault }
 {
@@ -66,7 +65,6 @@ fn fault_named(fault: Fault, part: Named) -> Fault
     }
 }
 
-/// Returns the fault of a text. If the text is not JSON, the fault names the input `part`.
 fn text_named(fault: PlanFault, part: Named) -> Fault
     ensures { result ≡ text_named part fault }
 {

@@ -88,7 +88,6 @@ pub fn fetch_both<S: Source>(
     }
 }
 
-/// Returns the plan in the first line of the bytes of a name, and the bytes after that line.
 fn fetch_one<S: Source>(
     alloc: Global,
     source: &mut S,
@@ -103,7 +102,6 @@ fn fetch_one<S: Source>(
     both_in(alloc, one.as_slice())
 }
 
-/// Returns the plan in the first line of a text, and the bytes after that line.
 fn both_in(alloc: Global, bytes: &[u8]) -> Result<PlanAndText, CommandError>
     ensures read { ReadsBoth (Some (line_of (Some bytes.now)))
         (Some (rest_of (Some bytes.now))) result }
@@ -115,7 +113,6 @@ fn both_in(alloc: Global, bytes: &[u8]) -> Result<PlanAndText, CommandError>
     Ok(PlanAndText { plan, text })
 }
 
-/// Returns the plan of the first name, and the bytes of the second.
 fn fetch_two<S: Source>(
     alloc: Global,
     source: &mut S,

@@ -10,7 +10,6 @@ ghost use Rattle.mx_cli.specs.Reports.{Answers, Helps, MayReport, RunsOut, Repor
 
 use crate::fault_lines::FaultLine;
 use crate::faults::Fault;
-use crate::tips::with_tip;
 use crate::words::Names;
 use clap::error::ErrorKind;
 use mx_io::{Output, OutputFault};
@@ -45,9 +44,7 @@ pub fn report_fault<E: Output>(alloc: Global, fault: Fault, names: &Names<'_>, e
     report_line(alloc, line, err)
 }
 
-/// Writes the line that says why a command ended, and returns the exit status: 1, or 5 if memory
-/// ran out.
-pub fn report_line<E: Output, D: Display + Drop>(alloc: Global, line: D, err: &mut E) -> u8
+pub(crate) fn report_line<E: Output, D: Display + Drop>(alloc: Global, line: D, err: &mut E) -> u8
     ensures status { (result ≡ 1) ⊎ (result ≡ 5) }
     ensures told { IfSome (D.output line) (λ text. ReportsFault (E.takes_all err.old) text
         (E.written err.old) (E.written err.new) result) }
@@ -68,7 +65,6 @@ pub fn report_memory<E: Output>(err: &mut E) -> u8
     5
 }
 
-/// Writes the help, or the version, that was requested to `out`, and returns the exit status.
 fn show<O: Output, E: Output>(alloc: Global, e: &clap::Error, out: &mut O, err: &mut E) -> u8
     ensures { Helps (O.takes_all out.old)
         (seen O.Output E.Output out.old err.old) (seen O.Output E.Output out.new err.new) result }
@@ -80,23 +76,13 @@ fn show<O: Output, E: Output>(alloc: Global, e: &clap::Error, out: &mut O, err: 
     }
 }
 
-/// Writes what is wrong with the arguments, and returns the exit status: 2, or 5 if memory ran out.
 fn report_usage<E: Output>(alloc: Global, e: &clap::Error, err: &mut E) -> u8
     ensures { (result ≡ 2) ⊎ ((result ≡ 5) × MayReport (E.written err.old) (E.written err.new)) }
 {
-    match write_usage(alloc, e, err) {
+    match write_line(alloc, err, e) {
         Ok(()) | Err(OutputFault::Refused) => 2,
         Err(OutputFault::Memory) => report_memory(err),
     }
-}
-
-/// Writes what is wrong with the arguments, with a tip if there is one. Writes nothing on an error.
-fn write_usage<E: Output>(alloc: Global, e: &clap::Error, err: &mut E) -> Result<(), OutputFault>
-    ensures { OnErr result (Keeps (E.written err.old) (E.written err.new)) }
-{
-    let told = e.to_string(alloc)?;
-    let text = with_tip(alloc, told.as_str())?;
-    err.put(text.as_bytes())
 }
 
 fn put_and_flush<O: Output, D: Display + Drop>(

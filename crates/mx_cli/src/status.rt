@@ -64,7 +64,6 @@ pub fn close_with<O: Output, E: Output, D: Display + Drop>(
     }
 }
 
-/// Reports why a command ended early, if it did, and returns the exit status.
 fn report_end<E: Output>(
     alloc: Global,
     ended: Result<u8, CommandError>,

@@ -5,8 +5,8 @@ ghost use Rattle.mx_cli.specs.Table.{app_of_row, command_app};
 
 use crate::arguments::{
     ASKS, Argument, COUNT_TOO, EVENTS, EVENTS_OR_SCRIPT, FIRST_SCRIPT, FROM, IN_ORDER, IS_SCRIPT,
-    JOURNALS, JSON, LETTERS, LINK_SEED, LOSS, NODE, PICTURE_NODE, PLAN, PROGRESS, QUIET, REPEAT,
-    SCRIPT, SECTIONS, SEED, SEEDS, SETTLE, STATE, STEPS, TO, TRACE, TURNS, WALK, WALK_WANTED,
+    JSON, LETTERS, LINK_SEED, LOSS, NODE, PICTURE_NODE, PLAN, PROGRESS, QUIET, REPEAT, SCRIPT,
+    SECTIONS, SEED, SETTLE, STATE, STEPS, TO, TRACE, TURNS, WALK, WALK_WANTED,
 };
 use crate::{examples, help};
 
@@ -24,8 +24,6 @@ pub enum CommandId {
     ExploreCount,
     /// `explore` with `--walk`.
     ExploreWalk,
-    /// `explore` with `--seeds`.
-    ExploreSeeds,
     Live,
     Draw,
     Script,
@@ -36,22 +34,18 @@ pub enum CommandId {
     Explain,
 }
 
-/// A row of the table of commands.
 #[derive(Clone, Copy)]
-pub struct CommandRow {
-    pub name: &'static str,
-    /// What the command does, as help says it.
-    pub about: &'static str,
-    pub arguments: &'static [Argument],
-    /// The text that ends the help of the command.
-    pub example: &'static str,
+pub(crate) struct CommandRow {
+    pub(crate) name: &'static str,
+    pub(crate) about: &'static str,
+    pub(crate) arguments: &'static [Argument],
+    pub(crate) example: &'static str,
 }
 
 /// The commands that `mx_commands::command` runs.
 pub(crate) const READ: [CommandId; 3] = [CommandId::Check, CommandId::Replay, CommandId::Explore];
 
-/// The other commands, which functions of their own run. `mx_commands::command` only lists them,
-/// for its help and for its tips on mistyped words.
+/// The other commands, which functions of their own run. `mx_commands::command` only lists them.
 pub(crate) const LISTED: [CommandId; 8] = [
     CommandId::Live,
     CommandId::Draw,
@@ -91,13 +85,6 @@ static EXPLORE_WALK: CommandRow = CommandRow {
     example: examples::WALK,
 };
 
-static EXPLORE_SEEDS: CommandRow = CommandRow {
-    name: "explore",
-    about: "Runs random events from several seeds, one after another, and checks each run",
-    arguments: &[PLAN, SEEDS, STEPS, WALK, LOSS, REPEAT, IN_ORDER],
-    example: examples::SEEDS,
-};
-
 static LIVE: CommandRow = CommandRow {
     name: "live",
     about: "Runs each node in a thread and prints their merged journal",
@@ -129,7 +116,7 @@ static PLAY: CommandRow = CommandRow {
 static PICTURE: CommandRow = CommandRow {
     name: "picture",
     about: "Draws a run as an SVG in which time goes down",
-    arguments: &[PLAN, EVENTS, FROM, TO, PICTURE_NODE, JOURNALS, LETTERS],
+    arguments: &[PLAN, EVENTS, FROM, TO, PICTURE_NODE, LETTERS],
     example: examples::PICTURE,
 };
 
@@ -154,8 +141,7 @@ static EXPLAIN: CommandRow = CommandRow {
     example: examples::EXPLAIN,
 };
 
-/// The row of a command.
-pub fn row_of(id: CommandId) -> &'static CommandRow
+pub(crate) fn row_of(id: CommandId) -> &'static CommandRow
     ensures { app_of_row result.now ≡ command_app id }
 {
     match id {
@@ -163,7 +149,6 @@ pub fn row_of(id: CommandId) -> &'static CommandRow
         CommandId::Replay | CommandId::ReplayView => &REPLAY,
         CommandId::Explore | CommandId::ExploreCount => &EXPLORE,
         CommandId::ExploreWalk => &EXPLORE_WALK,
-        CommandId::ExploreSeeds => &EXPLORE_SEEDS,
         CommandId::Live => &LIVE,
         CommandId::Draw => &DRAW,
         CommandId::Script => &SCRIPTED,

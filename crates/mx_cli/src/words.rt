@@ -74,8 +74,6 @@ fn request_in<'a>(name: &str, matches: &ArgMatches<'a>) -> Option<Request<'a>>
     }
 }
 
-/// Returns what `check` asks for, or `None` for the form with `--json`, which another function
-/// runs.
 fn check_in<'a>(matches: &ArgMatches<'a>) -> Option<Request<'a>>
     ensures { option_map request_of result ≡ check_in (rows_of (found_of matches.now)) }
 {
@@ -92,8 +90,6 @@ fn check_in<'a>(matches: &ArgMatches<'a>) -> Option<Request<'a>>
     }
 }
 
-/// Returns what `replay` asks for, or `None` for the form with an option, which another function
-/// runs.
 fn replay_in<'a>(matches: &ArgMatches<'a>) -> Option<Request<'a>>
     ensures { option_map request_of result ≡ replay_in (rows_of (found_of matches.now)) }
 {
@@ -103,8 +99,6 @@ fn replay_in<'a>(matches: &ArgMatches<'a>) -> Option<Request<'a>>
     names_at(matches).map(Request::Replay)
 }
 
-/// Returns what `explore` asks for, or `None` for the form with `--count` or `--json`, which
-/// another function runs.
 fn explore_in<'a>(matches: &ArgMatches<'a>) -> Option<Request<'a>>
     ensures { option_map request_of result ≡ explore_in (rows_of (found_of matches.now)) }
 {
@@ -114,7 +108,6 @@ fn explore_in<'a>(matches: &ArgMatches<'a>) -> Option<Request<'a>>
     exploration_at(matches).map(Request::Explore)
 }
 
-/// Whether an option of `replay` is given: `--quiet`, `--node`, `--json` or `--state`.
 fn is_view(matches: &ArgMatches<'_>) -> bool
     ensures { result ≡ is_view (rows_of (found_of matches.now)) }
 {

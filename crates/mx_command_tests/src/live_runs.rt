@@ -15,7 +15,6 @@ const MAEKAWA: &str =
 const RAYMOND: &str =
     "{\"algorithm\":\"raymond\",\"nodes\":[\"a\",\"b\",\"c\",\"d\",\"e\"],\"registers\":[\"count\"],\"sections\":100,\"edges\":[[\"a\",\"b\"],[\"b\",\"c\"],[\"c\",\"d\"],[\"d\",\"e\"]],\"holder\":\"a\"}";
 
-/// The result of a run.
 #[derive(Drop)]
 struct Ran {
     status: u8,
@@ -55,7 +54,6 @@ fn live_counts_to_one_hundred(rt: HostRuntime) {
 const ALONE: &str =
     "{\"algorithm\":\"maekawa\",\"nodes\":[\"a\"],\"registers\":[\"count\"],\"sections\":1000,\"quorums\":{\"kind\":\"listed\",\"sets\":[[\"a\"]]}}";
 
-/// Runs 100 sections of a single node.
 fn run_alone<R: Threads + Clock>(rt: &R, alloc: Global, seed: &str, turns: &str) -> Ran {
     let words = [
         "live",

@@ -32,7 +32,6 @@ impl Output for Narrow {
     }
 }
 
-/// Runs these arguments, and returns the exit status.
 fn run_words<R: Threads + Clock>(
     rt: &R,
     alloc: Global,

@@ -9,13 +9,11 @@ use std::alloc::Global;
 use std::test::Fail;
 use std::thread;
 
-/// Creates the stations of this many nodes.
 fn stations_of(alloc: Global, nodes: u8) -> Result<Vec<Station<Ricart>>, Fail> {
     let shape = Count::of(nodes).ok_or("count")?;
     Ok(Field::<Ricart>::stations(alloc, &shape, 0, 1000, 1)?)
 }
 
-/// Returns how a worker without sections ends.
 fn work_at(station: Station<Ricart>, gate: &StartGate) -> Worked {
     let script = Script {
         register: 0,

@@ -16,7 +16,6 @@ use Rattle.mx_io.specs.Outputs.{Held}
 use Rattle.mx_cli.specs.Outputs.{AppendsSome, IsPassedOn, refused_after, error_of}
 use Rattle.mx_commands.specs.Runs.{Report}
 use Rattle.mx_commands.specs.Jobs.{HoldsOfReport, Job, job_of, names_in}
-use Rattle.mx_cli.specs.Closed.{IsRunStatus}
 use Rattle.mx_commands.specs.Ran.{EndsEarly, FailsAtOnce, Prints, Ran, RanOf, Runs, end_text, status_of}
 use Rattle.mx_cli.specs.Reports.{MayReport, RunsOut, Seen, ReportsFault}
 use Rattle.mx_commands.proofs.JobLemmas.{of_jobs}
@@ -141,11 +140,6 @@ module _ (t u : Bool) (told : Text → Option Telling) (request : Request) (old 
       → Runs (t && u) told request old new status
   runs_short status is line taken h = runs_from (Err command_error.Memory) status (λ x. (x.1, inl (is, line, taken)))
       (λ r ran. inr (inl (record { status_is = is; lines = ran; told = line; taken = taken }))) h
-
-pub told_status : (u : Bool) (line : Text) (c d : Held) (status : ℕ) → ReportsFault u line c d status → IsRunStatus status
-told_status u line c d status (inl h) = inr (inl h.0)
-told_status u line c d status (inr (inl h)) = inr (inr h.0)
-told_status u line c d status (inr (inr h)) = inr (inl h.0)
 
 -- ---- words that were refused
 

@@ -117,9 +117,6 @@ module _ (t : Bool) (a : Held) (plan text : Option Telling) where
 
 -- ---- what holds of a report
 
-pub in_some : {X : Type 0} (o : Option X) (P Q : X → Type 0) → ((x : X) → P x → Q x) → IfSome o P → IfSome o Q
-in_some = if_some
-
 holds : (report : Fields → Option Report) (plan : Telling) (P Q : Report → Type 0) → ((r : Report) → P r → Q r) → HoldsOfPlan report plan P → HoldsOfPlan report plan Q
 holds report None P Q f h = f _ h
 holds report (Some bytes) P Q f h = (h.0, h.1, if_some (report_of report h.0) P Q f h.2)

@@ -28,7 +28,7 @@ use Rattle.mx_io.specs.declared.output.OutputFault.TheVariants as output_fault
 use Rattle.mx_format.specs.EventTexts.{event_line}
 use Rattle.mx_format.specs.ParcelTexts.{parcel_lines}
 use Rattle.mx_cli.proofs.OutputLemmas.{some_keeps}
-use Rattle.mx_commands.specs.Runs.{Report, Texts, at_rest, after_texts, closing_text, whole, ends_with, event_lines, lines, text_of, stepped, report_from, NamesNodes, AllNameNodes}
+use Rattle.mx_commands.specs.Runs.{Report, Texts, at_rest, after_texts, whole, ends_with, event_lines, text_of, stepped, report_from, NamesNodes, AllNameNodes}
 use Rattle.mx_io.specs.Outputs.{Held, refused_by}
 use Rattle.mx_cli.specs.Outputs.{AppendsSome, refused_after, error_of}
 use Rattle.mx_commands.specs.Ran.{Ran, StopsAt}
@@ -137,22 +137,6 @@ module _ {H S M : Type 0} (core : Core H S M) (texts : Texts S M) (es : List Eve
   pub remaining_end : (k : ℕ) (g : ClusterState S M) → length es ≤ k → remaining k g ≡ whole (texts.closing g)
   unfolding report_from
   remaining_end k g h = at_drop_all (report_from core texts k g) es k h
-
--- the same of the lines of a replay
-module _ {H S M : Type 0} (core : Core H S M) (letter : Fields → M → Text) (p : Fields) (es : List Event) where
-  abbrev pub rest : ℕ → ClusterState S M → Report
-  rest = remaining core (lines core letter p) es
-
-  pub rest_ok : (k : ℕ) (g new : ClusterState S M) (d : Event) → k < length es → step_of core g (get_or es k d) ≡ Ok new
-      → rest k g ≡ after_texts (text_of core letter p k g new ∷ []) (rest (k + 1) new)
-  rest_ok = remaining_ok core (lines core letter p) es
-
-  pub rest_err : (k : ℕ) (g : ClusterState S M) (f : StepFault) (d : Event) → k < length es → step_of core g (get_or es k d) ≡ Err f
-      → rest k g ≡ ends_with (Some (NoParcel k))
-  rest_err = remaining_err core (lines core letter p) es
-
-  pub rest_end : (k : ℕ) (g : ClusterState S M) → length es ≤ k → rest k g ≡ whole (closing_text core letter p g)
-  rest_end = remaining_end core (lines core letter p) es
 
 -- what was done so far is some of the whole
 pub done_some : (a b : Held) (r more : Report) (done : List Text) → r ≡ after_texts done more → Appends a b (concat done) → AppendsSome a b r.texts

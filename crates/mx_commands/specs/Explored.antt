@@ -23,7 +23,6 @@ use Rattle.mx_format.specs.PlanTexts.{explored_line}
 use Rattle.mx_commands.specs.Runs.{at_rest}
 use Rattle.mx_commands.specs.VerdictLines.{verdict_line}
 
--- a node entered
 abbrev pub is_entered : Outcome → Bool
 is_entered (Entered n) = true
 is_entered _ = false

@@ -74,7 +74,6 @@ Runs takes_all told request old new status = IfSome (job_of told request) (λ jo
     FailsAtOnce takes_all old new status
     ⊎ HoldsOfReport job (λ r. Prints takes_all (names_in request) r old new status))
 
--- the status of a verdict
 abbrev pub verdict_status : Verdict → ℕ
 verdict_status Sound = 0
 verdict_status (Broken k clause) = 4

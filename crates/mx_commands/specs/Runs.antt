@@ -65,7 +65,6 @@ at_rest core p shape = record {
   trace = [];
 }
 
--- what is printed of a run
 pub record Texts (S M : Type 0) : Type 0 where
   -- of an event, by its index and the clusters before and after it
   pub event : ℕ → ClusterState S M → ClusterState S M → Text
@@ -106,7 +105,3 @@ module _ {H S M : Type 0} (core : Core H S M) (letter_text : Fields → M → Te
 
   abbrev pub lines : Texts S M
   lines = record { event = text_of; closing = closing_text }
-
-  -- the lines of these events, numbered from k on, from this cluster on, and then the closing lines
-  abbrev pub run_from : ℕ → ClusterState S M → List Event → Report
-  run_from = report_from core lines

@@ -31,7 +31,6 @@ report_by texts p (Maekawa family) =
 report_by texts p (Raymond tree) =
     report_from raymond_core texts.raymond 0 (at_rest raymond_core p tree)
 
--- the lines of a replay
 abbrev pub replay_lines : Fields → TextsBy
 replay_lines p = record {
   ricart = lines ricart_core ricart_text p;

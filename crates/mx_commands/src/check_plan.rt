@@ -14,7 +14,6 @@ use mx_io::{Output, Source};
 use mx_plan::Plan;
 use std::alloc::Global;
 
-/// Reads a plan, and prints what it says. Returns the status.
 pub(crate) fn check<S: Source, O: Output>(
     alloc: Global,
     name: &str,
@@ -31,7 +30,6 @@ pub(crate) fn check<S: Source, O: Output>(
     check_plan(alloc, &plan, out)
 }
 
-/// Reads a plan, and prints what it says and whom its nodes ask. Returns the status.
 pub(crate) fn check_asks<S: Source, O: Output>(
     alloc: Global,
     name: &str,
@@ -48,7 +46,6 @@ pub(crate) fn check_asks<S: Source, O: Output>(
     print_asks(alloc, &plan, out)
 }
 
-/// Prints what a plan says. Returns the status.
 fn check_plan<O: Output>(alloc: Global, plan: &Plan, out: &mut O) -> Result<u8, CommandError>
     ensures ran { Ran (O.takes_all out.old) (O.written out.old) (O.written out.new)
         (whole (plan_text plan.now)) result }
@@ -61,7 +58,6 @@ fn check_plan<O: Output>(alloc: Global, plan: &Plan, out: &mut O) -> Result<u8, 
     print(text.as_bytes(), out)
 }
 
-/// Prints what a plan says and whom its nodes ask. Returns the status.
 fn print_asks<O: Output>(alloc: Global, plan: &Plan, out: &mut O) -> Result<u8, CommandError>
     ensures ran { Ran (O.takes_all out.old) (O.written out.old) (O.written out.new)
         (whole (plan_asks_text plan.now)) result }

@@ -29,7 +29,6 @@ pub fn add_nodes<C: Exclusion>(
     Ok(())
 }
 
-/// Appends the line of the node of this index.
 fn add_member<C: Exclusion>(
     plan: &Plan,
     cluster: &Cluster<C>,
@@ -70,7 +69,6 @@ where
     Ok(())
 }
 
-/// Appends the line of the parcel of this number.
 fn add_numbered<C: Exclusion>(
     plan: &Plan,
     cluster: &Cluster<C>,

@@ -45,7 +45,6 @@ pub fn command<S: Source, O: Output, E: Output>(
     }
 }
 
-/// Carries out a request, reports its fault if there is one, and returns the exit status.
 fn run_request<S: Source, O: Output, E: Output>(
     alloc: Global,
     request: &Request<'_>,

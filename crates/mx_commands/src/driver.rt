@@ -50,13 +50,11 @@ where
     by_shape!(
         alloc,
         plan,
-        |cluster| drive_from(alloc, plan, cluster, events, sink, out)
+        |cluster| drive_events(alloc, plan, cluster, events, sink, out)
     )
 }
 
-/// Applies events in order to a cluster, and prints what the sink appends. Returns the sink's
-/// status.
-fn drive_from<C: Exclusion, K: Sink<Cluster<C>>, O: Output>(
+fn drive_events<C: Exclusion, K: Sink<Cluster<C>>, O: Output>(
     alloc: Global,
     plan: &Plan,
     mut cluster: Cluster<C>,
@@ -72,40 +70,18 @@ fn drive_from<C: Exclusion, K: Sink<Cluster<C>>, O: Output>(
     ensures zero { IfOk result (λ status. status ≡ 0) }
     ensures stays { O.takes_all out.new ≡ O.takes_all out.old }
 {
-    drive_events(alloc, plan, &mut cluster, events, sink, out)
-}
-
-/// Applies each event in turn and prints its text, and then the closing text. Returns the sink's
-/// status.
-fn drive_events<C: Exclusion, K: Sink<Cluster<C>>, O: Output>(
-    alloc: Global,
-    plan: &Plan,
-    cluster: &mut Cluster<C>,
-    events: &[Event],
-    sink: &mut K,
-    out: &mut O,
-) -> Result<u8, CommandError>
-    requires members { length cluster.old.members ≡ length plan.now.nodes }
-    requires named { AllNameNodes (length plan.now.nodes) events.now }
-    ensures ran { Ran (O.takes_all out.old) (O.written out.old) (O.written out.new)
-        (report_from C.core (K.texts sink.old plan.now) 0 cluster.old events.now) result }
-    ensures refused { O.has_refused out.new ≡ refused_after result (O.has_refused out.old) }
-    ensures zero { IfOk result (λ status. status ≡ 0) }
-    ensures stays { O.takes_all out.new ≡ O.takes_all out.old }
-{
     let mut text = String::new(alloc);
     for (index, event) in events.iter().enumerate() {
         text.clear();
-        drive_event(plan, index as u64, event, cluster, sink, &mut text)?;
+        drive_event(plan, index as u64, event, &mut cluster, sink, &mut text)?;
         out.put(text.as_bytes())?;
     }
     text.clear();
-    let status = sink.end(alloc, plan, cluster, &mut text)?;
+    let status = sink.end(alloc, plan, &cluster, &mut text)?;
     out.put(text.as_bytes())?;
     Ok(status)
 }
 
-/// Applies the event of this index, and lets the sink append the text of the event.
 fn drive_event<C: Exclusion, K: Sink<Cluster<C>>>(
     plan: &Plan,
     index: u64,

@@ -22,8 +22,6 @@ use mx_nodelaws::Exclusion;
 use mx_plan::Plan;
 use std::alloc::{AllocError, Global};
 
-/// Reads a plan, draws a schedule of events and runs it, and prints the counts and the verdict.
-/// Returns the status.
 pub(crate) fn explore<S: Source, O: Output>(
     alloc: Global,
     exploration: &Exploration<'_>,
@@ -62,8 +60,6 @@ fn explore_plan<O: Output>(
     }
 }
 
-/// Runs drawn events in the cluster of a plan, and appends the counts and the verdict. Returns the
-/// verdict.
 fn add_summary_of(
     alloc: Global,
     plan: &Plan,
@@ -81,7 +77,6 @@ fn add_summary_of(
     )
 }
 
-/// Runs drawn events in a cluster, and appends the counts and the verdict. Returns the verdict.
 fn add_summary_after<C: Exclusion>(
     mut cluster: Cluster<C>,
     events: &[Event],
@@ -106,7 +101,6 @@ pub fn happen<C: Exclusion>(cluster: &mut Cluster<C>, events: &[Event]) -> Resul
     Ok(())
 }
 
-/// Runs a drawn event. A delivery is passed over if no parcel was sent yet.
 fn step<C: Exclusion>(cluster: &mut Cluster<C>, event: &Event) -> Result<(), AllocError>
     ensures { OnOk result (after_placed C.core cluster.old
         (place_of event.now (length cluster.old.sent))
@@ -118,7 +112,6 @@ fn step<C: Exclusion>(cluster: &mut Cluster<C>, event: &Event) -> Result<(), All
     advance_or_stay(cluster, placed)
 }
 
-/// Runs an event, or leaves the cluster as it is if the event can't happen.
 fn advance_or_stay<C: Exclusion>(cluster: &mut Cluster<C>, event: Event) -> Result<(), AllocError>
     ensures { OnOk result (or_stay cluster.old (step_of C.core cluster.old event) ≡ cluster.new) }
 {
@@ -128,7 +121,6 @@ fn advance_or_stay<C: Exclusion>(cluster: &mut Cluster<C>, event: Event) -> Resu
     }
 }
 
-/// Appends the counts of a run of `events` and the verdict, and returns the verdict.
 fn add_summary<C: Exclusion>(
     cluster: &Cluster<C>,
     events: &[Event],

@@ -23,7 +23,6 @@ pub use driver::drive;
 pub use exploration::{entries_in, happen, is_entry};
 pub use lines::{Lines, add_closing};
 pub use observation::{NullOutput, observe};
-pub use runs::{newest, start, step};
+pub use runs::{newest, start};
 pub use sink::{Running, Sink};
-pub use verdict_json::VerdictJson;
 pub use verdicts::{VerdictLine, add_verdict, verdict_status};

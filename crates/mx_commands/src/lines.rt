@@ -44,7 +44,14 @@ where
             ++ text_of C.core (letter_text C.Msg.parts) plan.now index old cluster.now) }
         ensures stays { self.new ≡ self.old }
     {
-        add_event(plan, index, before, cluster, text)
+        let entry = newest(cluster.trace());
+        text.write(EventLine {
+            plan,
+            index,
+            event: &entry.event,
+            outcome: &entry.outcome,
+        })?;
+        add_parcels(plan, cluster, before, text)
     }
 
     fn end(
@@ -62,34 +69,6 @@ where
         let verdict = add_closing(plan, cluster, text)?;
         Ok(verdict_status(verdict))
     }
-}
-
-/// Appends the line of the newest event of a cluster, which has this index, and the lines of the
-/// parcels that this event sent, which are those from the number `before` on.
-pub(crate) fn add_event<C: Exclusion>(
-    plan: &Plan,
-    index: u64,
-    before: u64,
-    cluster: &Cluster<C>,
-    text: &mut String,
-) -> Result<(), AllocError>
-where
-    C::Msg: Letter,
-    requires noted { 0 < length cluster.now.trace }
-    requires sent { before ≤ length cluster.now.sent }
-    ensures { (old : ClusterState C C.Msg) (entry : Entry)
-        → cluster.now.trace ≡ old.trace ++ entry ∷ [] → before ≡ length old.sent
-        → OnOk result (string_bytes text.new ≡ string_bytes text.old
-        ++ text_of C.core (letter_text C.Msg.parts) plan.now index old cluster.now) }
-{
-    let entry = newest(cluster.trace());
-    text.write(EventLine {
-        plan,
-        index,
-        event: &entry.event,
-        outcome: &entry.outcome,
-    })?;
-    add_parcels(plan, cluster, before, text)
 }
 
 /// Appends the closing lines of a run, one for each node and one for the verdict. Returns the

@@ -14,7 +14,6 @@ use mx_io::{Output, Source};
 use mx_plan::{Plan, read_events};
 use std::alloc::Global;
 
-/// Reads the plan, then the events, replays the events, and prints their lines. Returns the status.
 pub(crate) fn replay<S: Source, O: Output>(
     alloc: Global,
     names: &Names<'_>,
@@ -31,7 +30,6 @@ pub(crate) fn replay<S: Source, O: Output>(
     replay_events(alloc, &both.plan, both.text.as_slice(), out)
 }
 
-/// Reads the events in `text`, and replays them in the cluster of the plan. Returns the status.
 fn replay_events<O: Output>(
     alloc: Global,
     plan: &Plan,

@@ -1,14 +1,11 @@
 //! The start of the cluster of a plan, and the step by one event.
 
-ghost use Rattle.std.specs.Prelude.{◌≡◌, ◌<◌, List, [], ◌∷◌, ◌++◌, length, string_bytes, OnOk, IfOk, IfErr};
+ghost use Rattle.std.specs.Prelude.{◌≡◌, ◌<◌, List, [], ◌∷◌, ◌++◌, length, OnOk, IfOk, IfErr};
 ghost use Rattle.mx_network.specs.Step.{step_of};
-ghost use Rattle.mx_format.specs.LetterTexts.{letter_text};
-ghost use Rattle.mx_commands.specs.Runs.{NamesNodes, at_rest, text_of};
+ghost use Rattle.mx_commands.specs.Runs.{NamesNodes, at_rest};
 ghost use Rattle.mx_commands.specs.Ran.{StopsAt};
 
-use crate::lines::add_event;
 use mx_cli::{CommandError, Fault};
-use mx_format::Letter;
 use mx_network::{Cluster, Entry, Event, StepFault};
 use mx_nodelaws::Exclusion;
 use mx_plan::Plan;
@@ -31,30 +28,6 @@ pub fn start<C: Exclusion>(
     )
 }
 
-/// Applies the event of this index, and appends its line and those of the parcels that it sends.
-pub fn step<C: Exclusion>(
-    plan: &Plan,
-    index: u64,
-    event: &Event,
-    cluster: &mut Cluster<C>,
-    text: &mut String,
-) -> Result<(), CommandError>
-where
-    C::Msg: Letter,
-    requires named { NamesNodes (length cluster.old.members) event.now }
-    requires empty { string_bytes text.old ≡ [] }
-    ensures ok { OnOk result (step_of C.core cluster.old event.now ≡ Ok cluster.new) }
-    ensures text { OnOk result (string_bytes text.new
-        ≡ text_of C.core (letter_text C.Msg.parts) plan.now index cluster.old cluster.new) }
-    ensures err { IfErr result (StopsAt index (step_of C.core cluster.old event.now)) }
-{
-    let before = cluster.sent();
-    apply(index, event, cluster)?;
-    add_event(plan, index, before, cluster, text)?;
-    Ok(())
-}
-
-/// Applies the event of this index.
 pub(crate) fn apply<C: Exclusion>(
     index: u64,
     event: &Event,

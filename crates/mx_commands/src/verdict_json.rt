@@ -7,9 +7,8 @@ use mx_explorer::{Clause, Verdict};
 use mx_format::json::{Number, Word};
 use std::fmt;
 
-/// A verdict as an object of JSON.
 #[derive(Clone, Copy)]
-pub struct VerdictJson(pub Verdict);
+pub(crate) struct VerdictJson(pub(crate) Verdict);
 
 impl fmt::Display for VerdictJson {
     ghost output = { λ v. Some (verdict_json v.0) };
@@ -26,8 +25,6 @@ impl fmt::Display for VerdictJson {
     }
 }
 
-/// The verdict that a trace is broken, as an object of JSON: the index of the event that breaks the
-/// trace, and the word for the clause.
 #[derive(Clone, Copy)]
 struct BrokenJson<'a> {
     index: u64,
@@ -44,7 +41,6 @@ impl fmt::Display for BrokenJson<'_> {
     }
 }
 
-/// Returns the word for the clause that a trace breaks.
 fn clause_name(clause: Clause) -> &'static str
     ensures { result.now ≡ clause_text clause }
 {

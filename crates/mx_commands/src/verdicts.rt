@@ -9,9 +9,8 @@ use mx_explorer::{Clause, Verdict};
 use std::alloc::AllocError;
 use std::fmt;
 
-/// The word for the clause that a trace breaks.
 #[derive(Clone, Copy)]
-pub struct ClauseText(pub Clause);
+struct ClauseText(Clause);
 
 impl fmt::Display for ClauseText {
     ghost output = { λ c. Some (clause_text c.0) };

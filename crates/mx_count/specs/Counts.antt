@@ -12,8 +12,6 @@ use Rattle.mx_count.specs.Tallies.{kind_indent, part_indent, share_text, tally_t
 use Rattle.mx_count.specs.Waits.{longest_wait}
 use Rattle.mx_count.specs.declared.measures.Measure.TheVariants.{Response, Delay}
 
--- ---- parcels and refusals
-
 -- how many parcels count under each name
 abbrev pub parcels_text : {M : Type 0} → (M → Text) → Bool → Text → List (ℕ × ℕ × Parcel M)
     → List Text → Text
@@ -43,8 +41,6 @@ abbrev pub all_refusals_text : Bool → List Entry → Text
 all_refusals_text is_json trace =
     refusals_text is_json [] trace refused_names
     ++ refusals_text is_json part_indent trace cause_names
-
--- ---- all counts
 
 -- the longest wait, the response time and the synchronization delay
 abbrev pub times_text : {M : Type 0} → Bool → List (ℕ × ℕ × Parcel M) → List Entry → Text

@@ -42,7 +42,6 @@ letter_names = codes "letters" ∷ []
 abbrev pub other_names : List Text
 other_names = codes "own" ∷ codes "gossip" ∷ []
 
--- the names of the kinds of gossip
 abbrev pub gossip_names : List Text
 gossip_names = codes "want" ∷ codes "base" ∷ codes "records" ∷ []
 

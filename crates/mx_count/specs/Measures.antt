@@ -17,8 +17,6 @@ use Rattle.mx_count.specs.Tallies.{absent_text, labelled, quotient_text, value_e
 use Rattle.mx_count.specs.declared.measures.Measure.{Measure}
 use Rattle.mx_count.specs.declared.measures.Measure.TheVariants.{Response, Delay}
 
--- ---- letters
-
 -- the parcel is a letter from one node to another, neither gossip nor a letter to its own sender
 abbrev pub is_between : {M : Type 0} → ℕ → ℕ → Parcel M → Bool
 is_between from to (Guard letter) = not (nat_eq from to)
@@ -36,8 +34,6 @@ delivers_letter sent _ = false
 -- the number of letters that are delivered in these items of the trace, repeated ones too
 abbrev pub letters_in : {M : Type 0} → List (ℕ × ℕ × Parcel M) → List Entry → ℕ
 letters_in sent es = count_by (λ entry. delivers_letter sent entry.event) es
-
--- ---- where response times and delays end
 
 -- this index, if the item there satisfies `p`
 abbrev pub place_if : (Entry → Bool) → List Entry → Option ℕ → Option ℕ
@@ -66,8 +62,6 @@ abbrev pub end_from : Measure → Entry → List Entry → Option ℕ
 end_from Response entry es = response_from entry.outcome es
 end_from Delay entry es = delay_from entry.event entry.outcome es
 
--- ---- the measures of a trace
-
 -- how many letters are delivered before this index, if there is one
 abbrev pub letters_until : {M : Type 0} → List (ℕ × ℕ × Parcel M) → List Entry → Option ℕ → List ℕ
 letters_until sent es None = []
@@ -78,8 +72,6 @@ unfoldable pub measured : {M : Type 0} → Measure → List (ℕ × ℕ × Parce
 measured measure sent [] = []
 measured measure sent (e ∷ es) =
     letters_until sent es (end_from measure e es) ++ measured measure sent es
-
--- ---- the text of a measure
 
 -- the least of a number and a list of numbers, and (below) their sum and the greatest
 unfoldable pub least_from : ℕ → List ℕ → ℕ
@@ -112,7 +104,6 @@ mean_start is_json = if is_json then codes ",\"mean\":" else codes ", mean "
 abbrev pub measure_end : Bool → Text
 measure_end is_json = if is_json then codes "}" else []
 
--- the least, the mean and the greatest of one or more numbers
 abbrev pub spread_text : Bool → ℕ → List ℕ → Text
 spread_text is_json x xs =
     least_text is_json (least_from x xs)

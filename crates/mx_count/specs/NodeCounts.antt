@@ -16,7 +16,6 @@ use Rattle.mx_format.specs.Members.{node_start}
 use Rattle.mx_count.specs.Tallies.{tally}
 use Rattle.mx_count.specs.Waits.{is_refusal}
 
--- the node of an event is node i
 abbrev pub is_node : ℕ → Option ℕ → Bool
 is_node i None = false
 is_node i (Some node) = nat_eq node i
@@ -52,8 +51,6 @@ received_of i g = count_by (λ entry. is_delivered_to i g.sent entry.event) g.tr
 
 abbrev pub refused_of : {S M : Type 0} → ℕ → ClusterState S M → ℕ
 refused_of i g = count_by (is_refusal_of i) g.trace
-
--- ---- the text of a node
 
 abbrev pub node_head : Bool → Fields → ℕ → Text
 node_head is_json p i = if is_json then node_start p i else name_of p i

@@ -14,7 +14,6 @@ kind_indent = codes "    "
 abbrev pub named_count : Text → Text → ℕ → Text
 named_count before name count = before ++ name ++ codes " " ++ decimal count
 
--- a number after its label
 abbrev pub labelled : Text → ℕ → Text
 labelled label number = label ++ decimal number
 
@@ -36,13 +35,9 @@ abbrev pub first_tally_text : Bool → Text → ℕ → Text
 first_tally_text is_json name count =
     if is_json then number_start name count else tally_text is_json [] name count
 
--- ---- values that are no counts
-
--- the key of a member
 abbrev pub key_text : Text → Text
 key_text name = codes ",\"" ++ name ++ codes "\":"
 
--- what comes before a value
 abbrev pub value_start : Bool → Text → Text
 value_start is_json name = if is_json then key_text name else name ++ codes " "
 

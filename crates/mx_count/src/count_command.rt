@@ -18,12 +18,7 @@ use mx_io::{Output, Source};
 use std::alloc::Global;
 
 /// Runs `count`, or `explore` with `--count` or `--json`, and prints the counts of a run. `words`
-/// is the command line without the program's name. Returns the exit status:
-///
-/// - 0 on success, or if help was requested;
-/// - 1 for an error in the plan, its events, a file or an output;
-/// - 2 for wrong arguments;
-/// - 5 if memory ran out.
+/// is the command line without the program's name. Returns the exit status.
 pub fn count<S: Source, O: Output, E: Output>(
     alloc: Global,
     words: &[&str],
@@ -47,8 +42,6 @@ pub fn count<S: Source, O: Output, E: Output>(
     }
 }
 
-/// Prints the counts that `request` asks for, then flushes `out` and reports an error as `close`
-/// does. Returns the exit status.
 fn count_and_close<S: Source, O: Output, E: Output>(
     alloc: Global,
     request: &Request<'_>,
@@ -66,7 +59,6 @@ fn count_and_close<S: Source, O: Output, E: Output>(
     close(alloc, ended, &request.names(), out, err)
 }
 
-/// Prints the counts that `request` asks for. Returns the exit status.
 fn count_request<S: Source, O: Output>(
     alloc: Global,
     request: &Request<'_>,
@@ -87,7 +79,6 @@ fn count_request<S: Source, O: Output>(
     }
 }
 
-/// Reads a plan and its events, as `replay` does, and prints the counts of their run.
 fn count_given<S: Source, O: Output>(
     alloc: Global,
     names: &Names<'_>,
@@ -105,7 +96,6 @@ fn count_given<S: Source, O: Output>(
     naming(ended, Named::Events)
 }
 
-/// Reads the plan of an exploration, draws its events, and prints the counts of their run.
 fn count_drawn<S: Source, O: Output>(
     alloc: Global,
     exploration: &Exploration<'_>,

@@ -21,7 +21,6 @@ impl fmt::Display for NamedCount<'_> {
     }
 }
 
-/// A number with one decimal.
 #[derive(Clone, Copy)]
 pub(crate) struct TenthsText {
     pub(crate) whole: u128,
@@ -36,7 +35,6 @@ impl fmt::Display for TenthsText {
     }
 }
 
-/// A number, directly after a text that says what it is.
 #[derive(Clone, Copy)]
 pub(crate) struct Labelled<'a>(pub(crate) &'a str, pub(crate) u64);
 

@@ -1,10 +1,9 @@
 //! Runs events, and counts their parcels, refusals and waits.
 
 ghost use Rattle.std.specs.Prelude.{◌≡◌, ◌++◌, IfOk, OnOk, string_bytes};
-ghost use Rattle.mx_network.specs.Step.{RunsTo};
 ghost use Rattle.mx_format.specs.Parts.{word_by};
 ghost use Rattle.mx_count.specs.Counts.{tallies_text, times_text};
-ghost use Rattle.mx_count.specs.Counted.{AddsCounts, AddsCountsBy, Leads, all_nodes_text, cluster_text, counts_text, details_text, explored_head, explored_json, first_text, head_text};
+ghost use Rattle.mx_count.specs.Counted.{AddsCounts, AddsCountsBy, Leads, all_nodes_text, cluster_text, counts_text, details_text, first_text};
 
 use crate::kinds::Group;
 use crate::measures::Measure;
@@ -24,9 +23,8 @@ use mx_nodelaws::Exclusion;
 use mx_plan::Plan;
 use std::alloc::{AllocError, Global};
 
-/// Where the events of a run come from.
 #[derive(Clone, Copy)]
-pub enum EventSource {
+pub(crate) enum EventSource {
     /// A file lists them. The delivery of a parcel that was not sent is a fault.
     Given,
     /// They were drawn from a seed. The random number in a delivery chooses one of the newest
@@ -34,18 +32,14 @@ pub enum EventSource {
     Drawn,
 }
 
-/// How counts are printed, and where their events come from.
 #[derive(Clone, Copy)]
-pub struct Options {
-    pub source: EventSource,
-    /// Whether JSON is printed, in place of lines.
-    pub is_json: bool,
+pub(crate) struct Options {
+    pub(crate) source: EventSource,
+    pub(crate) is_json: bool,
     /// Whether only the numbers of events, sections and parcels are printed, and the verdict.
-    pub is_brief: bool,
+    pub(crate) is_brief: bool,
 }
 
-/// Runs the events by the plan's algorithm, and appends their counts and the verdict. Returns the
-/// exit status.
 pub(crate) fn add_counts_of(
     alloc: Global,
     plan: &Plan,
@@ -64,8 +58,6 @@ pub(crate) fn add_counts_of(
     )
 }
 
-/// Runs the events in this cluster, and appends their counts and the verdict. Returns the exit
-/// status.
 fn add_counts_after<C: Exclusion>(
     alloc: Global,
     plan: &Plan,
@@ -84,8 +76,6 @@ where
     add_counts(alloc, plan, &cluster, events.len() as u64, options, text)
 }
 
-/// Applies the events in order. A given event that is not possible is a fault; a drawn one is
-/// passed over.
 fn apply_events<C: Exclusion>(
     cluster: &mut Cluster<C>,
     events: &[Event],
@@ -94,23 +84,17 @@ fn apply_events<C: Exclusion>(
     ensures { OnOk result (Leads source C.core cluster.old events.now cluster.new) }
 {
     match source {
-        EventSource::Given => run_given(cluster, events),
+        EventSource::Given => {
+            cluster.make_room(events.len())?;
+            match cluster.run(events) {
+                Ok(()) => Ok(()),
+                Err(stopped) => Err(stop_at(stopped)),
+            }
+        }
         EventSource::Drawn => Ok(happen(cluster, events)?),
     }
 }
 
-/// Applies the events of a file in order. Fails at the first whose node or parcel does not exist.
-fn run_given<C: Exclusion>(cluster: &mut Cluster<C>, events: &[Event]) -> Result<(), CommandError>
-    ensures { OnOk result (RunsTo C.core cluster.old events.now cluster.new) }
-{
-    cluster.make_room(events.len())?;
-    match cluster.run(events) {
-        Ok(()) => Ok(()),
-        Err(stopped) => Err(stop_at(stopped)),
-    }
-}
-
-/// Returns the error of the command for a run that stopped at an event.
 fn stop_at(stopped: RunFault) -> CommandError {
     match stopped.fault {
         StepFault::Memory => CommandError::Memory,
@@ -120,8 +104,6 @@ fn stop_at(stopped: RunFault) -> CommandError {
     }
 }
 
-/// Appends the counts of a cluster after `steps` events, those of its nodes, and the verdict.
-/// Returns the exit status.
 fn add_counts<C: Exclusion>(
     alloc: Global,
     plan: &Plan,
@@ -143,7 +125,6 @@ where
     Ok(verdict_status(verdict))
 }
 
-/// Appends the counts of a whole cluster after `steps` events.
 fn add_cluster<C: Exclusion>(
     alloc: Global,
     cluster: &Cluster<C>,
@@ -162,8 +143,6 @@ where
     add_counts_end(options.is_json, text)
 }
 
-/// Appends the numbers of events, sections and parcels: for given events in the form of `count`,
-/// for drawn ones in that of `explore`.
 fn add_first(
     options: Options,
     events: u64,
@@ -175,65 +154,24 @@ fn add_first(
         ++ first_text options.source options.is_json events sections parcels) }
 {
     match options.source {
-        EventSource::Given => add_head(options.is_json, events, sections, parcels, text),
-        EventSource::Drawn => add_explored(options.is_json, events, sections, parcels, text),
+        EventSource::Given => {
+            add_first_tally(options.is_json, "events", events, text)?;
+            add_tally_line(options.is_json, "", "sections", sections, text)?;
+            add_tally_line(options.is_json, "", "parcels", parcels, text)
+        }
+        EventSource::Drawn if options.is_json => {
+            text.write(NumberStart("explored", events))?;
+            add_number("entered", sections, text)?;
+            add_number("sent", parcels, text)
+        }
+        EventSource::Drawn => text.write(ExploredLine {
+            steps: events,
+            entered: sections,
+            sent: parcels,
+        }),
     }
 }
 
-/// Appends the numbers of events, sections and parcels, in the form of `count`.
-fn add_head(
-    is_json: bool,
-    events: u64,
-    sections: u64,
-    parcels: u64,
-    text: &mut String,
-) -> Result<(), AllocError>
-    ensures { OnOk result (string_bytes text.new
-        ≡ string_bytes text.old ++ head_text is_json events sections parcels) }
-{
-    add_first_tally(is_json, "events", events, text)?;
-    add_tally_line(is_json, "", "sections", sections, text)?;
-    add_tally_line(is_json, "", "parcels", parcels, text)
-}
-
-/// Appends the numbers of steps, sections entered and parcels sent, in the form of `explore`.
-fn add_explored(
-    is_json: bool,
-    steps: u64,
-    entered: u64,
-    sent: u64,
-    text: &mut String,
-) -> Result<(), AllocError>
-    ensures { OnOk result (string_bytes text.new
-        ≡ string_bytes text.old ++ explored_head is_json steps entered sent) }
-{
-    if is_json {
-        return add_explored_members(steps, entered, sent, text);
-    }
-    text.write(ExploredLine {
-        steps,
-        entered,
-        sent,
-    })
-}
-
-/// Begins a JSON object with the numbers of steps, sections entered and parcels sent.
-fn add_explored_members(
-    steps: u64,
-    entered: u64,
-    sent: u64,
-    text: &mut String,
-) -> Result<(), AllocError>
-    ensures { OnOk result (string_bytes text.new
-        ≡ string_bytes text.old ++ explored_json steps entered sent) }
-{
-    text.write(NumberStart("explored", steps))?;
-    add_number("entered", entered, text)?;
-    add_number("sent", sent, text)
-}
-
-/// Appends the counts after those of events, sections and parcels, unless the options are brief.
-/// `entered` is the number of sections entered.
 fn add_details<C: Exclusion>(
     alloc: Global,
     cluster: &Cluster<C>,
@@ -252,8 +190,6 @@ where
     add_tallies(alloc, cluster, options.is_json, entered, text)
 }
 
-/// Appends the counts of parcels and of refusals, and how long requests took. `entered` is the
-/// number of sections entered.
 fn add_tallies<C: Exclusion>(
     alloc: Global,
     cluster: &Cluster<C>,
@@ -274,7 +210,6 @@ where
     add_times(alloc, cluster, is_json, text)
 }
 
-/// Appends the longest wait, the response time and the synchronization delay.
 fn add_times<C: Exclusion>(
     alloc: Global,
     cluster: &Cluster<C>,
@@ -290,7 +225,6 @@ fn add_times<C: Exclusion>(
     add_measure(alloc, cluster, is_json, Measure::Delay, text)
 }
 
-/// Appends the counts of the nodes, unless the counts are brief.
 fn add_nodes<C: Exclusion>(
     plan: &Plan,
     cluster: &Cluster<C>,

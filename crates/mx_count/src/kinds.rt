@@ -10,44 +10,36 @@ use mx_member::{Parcel, SentParcel};
 use mx_network::Outcome;
 use mx_stamps::NodeId;
 
-/// Parcels that are counted together.
 #[derive(Clone, Copy)]
 pub(crate) enum Group<'a> {
-    /// Those that are counted under a name.
     Named(&'a str),
-    /// Those that a node sent.
     SentBy(NodeId),
 }
 
-/// Returns the one name under which all letters from one node to another are counted.
 pub(crate) fn letter_names() -> &'static [&'static str]
     ensures { map (λ name. name.now) result.now ≡ letter_names }
 {
     &["letters"]
 }
 
-/// Returns the names of the other parcels: letters of nodes to themselves, and gossip.
 pub(crate) fn other_names() -> &'static [&'static str]
     ensures { map (λ name. name.now) result.now ≡ other_names }
 {
     &["own", "gossip"]
 }
 
-/// The names of the kinds of gossip.
 pub(crate) fn gossip_names() -> &'static [&'static str]
     ensures { map (λ name. name.now) result.now ≡ gossip_names }
 {
     &["want", "base", "records"]
 }
 
-/// Returns the one name under which all refusals are counted.
 pub(crate) fn refused_names() -> &'static [&'static str]
     ensures { map (λ name. name.now) result.now ≡ refused_names }
 {
     &["refused"]
 }
 
-/// The names of the causes of refusals.
 pub(crate) fn cause_names() -> &'static [&'static str]
     ensures { map (λ name. name.now) result.now ≡ cause_names }
 {
@@ -65,7 +57,6 @@ pub(crate) fn cause_names() -> &'static [&'static str]
     ]
 }
 
-/// Whether a parcel is one of a group.
 pub(crate) fn is_in<M: Letter>(group: &Group<'_>, sent: &SentParcel<'_, M>) -> bool
     ensures { result ≡ is_in (word_by M.parts) group.now
         (sent.now.from, sent.now.to, sent.now.parcel.now) }
@@ -76,8 +67,6 @@ pub(crate) fn is_in<M: Letter>(group: &Group<'_>, sent: &SentParcel<'_, M>) -> b
     }
 }
 
-/// Whether a parcel is counted under a name. A letter that a node sends to itself is counted under
-/// `own` alone.
 fn is_under<M: Letter>(name: &str, sent: &SentParcel<'_, M>) -> bool
     ensures { result ≡ is_under (word_by M.parts) name.now
         (sent.now.from, sent.now.to, sent.now.parcel.now) }
@@ -91,14 +80,12 @@ fn is_under<M: Letter>(name: &str, sent: &SentParcel<'_, M>) -> bool
     }
 }
 
-/// Whether a name is one of two.
 fn is_either(name: &str, one: &str, other: &str) -> bool
     ensures { result ≡ (bytes_eq name.now one.now || bytes_eq name.now other.now) }
 {
     name == one || name == other
 }
 
-/// Whether an outcome is a refusal that is counted under a name.
 pub(crate) fn is_refused_under(name: &str, outcome: &Outcome) -> bool
     ensures { result ≡ is_refused_under name.now outcome.now }
 {

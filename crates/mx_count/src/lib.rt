@@ -17,4 +17,3 @@ mod waits;
 mod words;
 
 pub use count_command::count;
-pub use counted_run::{EventSource, Options};

@@ -24,21 +24,7 @@ pub(crate) enum Measure {
     Delay,
 }
 
-/// Returns how many letters were delivered in each response time, or in each synchronization delay,
-/// in the order in which these times begin.
 pub(crate) fn measured<C: Exclusion>(
-    alloc: Global,
-    cluster: &Cluster<C>,
-    measure: Measure,
-) -> Result<Vec<u64>, AllocError>
-    ensures { IfOk result (λ numbers. numbers.items
-        ≡ measured measure cluster.now.sent cluster.now.trace) }
-{
-    measured_in(alloc, cluster, measure, cluster.trace())
-}
-
-/// Returns, for each time of this measure in `trace`, how many letters were delivered in it.
-fn measured_in<C: Exclusion>(
     alloc: Global,
     cluster: &Cluster<C>,
     measure: Measure,
@@ -54,8 +40,6 @@ fn measured_in<C: Exclusion>(
     Ok(numbers)
 }
 
-/// Appends the number of letters delivered in the time that begins at `entry` and ends in `rest`,
-/// the items of the trace after it. Appends nothing if there is no such time.
 fn add_measured<C: Exclusion>(
     cluster: &Cluster<C>,
     measure: Measure,
@@ -73,7 +57,6 @@ fn add_measured<C: Exclusion>(
     Ok(())
 }
 
-/// Returns the number of letters that these items of the trace deliver.
 fn letters_in<C: Exclusion>(cluster: &Cluster<C>, entries: &[Entry]) -> u64
     ensures { result ≡ letters_in cluster.now.sent entries.now }
 {
@@ -84,7 +67,6 @@ fn letters_in<C: Exclusion>(cluster: &Cluster<C>, entries: &[Entry]) -> u64
     count
 }
 
-/// Whether an event delivers a letter from one node to another.
 fn delivers_letter<C: Exclusion>(cluster: &Cluster<C>, event: &Event) -> bool
     ensures { result ≡ delivers_letter cluster.now.sent event.now }
 {
@@ -94,7 +76,6 @@ fn delivers_letter<C: Exclusion>(cluster: &Cluster<C>, event: &Event) -> bool
     }
 }
 
-/// Whether the parcel of this number is a letter from one node to another.
 fn is_letter<C: Exclusion>(cluster: &Cluster<C>, number: u64) -> bool
     ensures { result ≡ is_letter (slice_get cluster.now.sent number) }
 {
@@ -104,7 +85,6 @@ fn is_letter<C: Exclusion>(cluster: &Cluster<C>, number: u64) -> bool
     }
 }
 
-/// Whether a parcel is a letter from one node to another.
 fn is_between<M>(sent: &SentParcel<'_, M>) -> bool
     ensures { result ≡ is_between sent.now.from sent.now.to sent.now.parcel.now }
 {
@@ -114,8 +94,6 @@ fn is_between<M>(sent: &SentParcel<'_, M>) -> bool
     }
 }
 
-/// Returns the index in `rest`, the items of the trace after `entry`, at which the time that begins
-/// at `entry` ends. Returns `None` if no time begins there, or if it does not end.
 fn end_from(measure: Measure, entry: &Entry, rest: &[Entry]) -> Option<usize>
     ensures value { result ≡ end_from measure entry.now rest.now }
     ensures within { IfSome result (λ end. end < length rest.now) }
@@ -126,7 +104,6 @@ fn end_from(measure: Measure, entry: &Entry, rest: &[Entry]) -> Option<usize>
     }
 }
 
-/// Returns the index at which a response time that begins with this outcome ends, if there is one.
 fn response_from(outcome: &Outcome, rest: &[Entry]) -> Option<usize>
     ensures value { result ≡ response_from outcome.now rest.now }
     ensures within { IfSome result (λ end. end < length rest.now) }
@@ -137,8 +114,6 @@ fn response_from(outcome: &Outcome, rest: &[Entry]) -> Option<usize>
     }
 }
 
-/// Returns the index at which a synchronization delay that begins with this event and outcome ends,
-/// if there is one.
 fn delay_from(event: &Event, outcome: &Outcome, rest: &[Entry]) -> Option<usize>
     ensures value { result ≡ delay_from event.now outcome.now rest.now }
     ensures within { IfSome result (λ end. end < length rest.now) }
@@ -149,7 +124,6 @@ fn delay_from(event: &Event, outcome: &Outcome, rest: &[Entry]) -> Option<usize>
     }
 }
 
-/// Returns the index at which a waiting node enters, or `None` if it cancels first or never enters.
 fn response_end(node: NodeId, rest: &[Entry]) -> Option<usize>
     ensures value { result ≡ response_end node rest.now }
     ensures within { IfSome result (λ end. end < length rest.now) }
@@ -164,7 +138,6 @@ fn response_end(node: NodeId, rest: &[Entry]) -> Option<usize>
     }
 }
 
-/// Returns the index at which the next section is entered, unless `node` enters it.
 fn delay_end(node: NodeId, rest: &[Entry]) -> Option<usize>
     ensures value { result ≡ delay_end node rest.now }
     ensures within { IfSome result (λ end. end < length rest.now) }
@@ -179,7 +152,6 @@ fn delay_end(node: NodeId, rest: &[Entry]) -> Option<usize>
     }
 }
 
-/// Returns the index at which the next section is entered.
 fn next_entry(rest: &[Entry]) -> Option<usize>
     ensures value { result ≡ position is_entry rest.now }
     ensures within { IfSome result (λ index. index < length rest.now) }

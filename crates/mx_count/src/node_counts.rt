@@ -6,7 +6,7 @@ ghost use Rattle.mx_count.specs.NodeCounts.{is_addressee, is_delivered_to, is_en
 
 use crate::kinds::Group;
 use crate::parcel_counts::count_parcels;
-use crate::tallies::add_tally;
+use crate::tallies::{add_tally, either};
 use crate::waits::is_refusal;
 use mx_commands::is_entry;
 use mx_format::json::NodeStart;
@@ -17,7 +17,6 @@ use mx_plan::Plan;
 use mx_stamps::{MAX_NODES, NodeId};
 use std::alloc::AllocError;
 
-/// Appends the counts of each node, in the order of the plan.
 pub(crate) fn add_node_counts<C: Exclusion>(
     plan: &Plan,
     cluster: &Cluster<C>,
@@ -35,7 +34,6 @@ where
     Ok(())
 }
 
-/// Appends the counts of the node of this index.
 fn add_node<C: Exclusion>(
     plan: &Plan,
     cluster: &Cluster<C>,
@@ -55,8 +53,6 @@ where
     add_node_end(is_json, text)
 }
 
-/// Appends how often a node entered, how many parcels it sent and received, and how many of its
-/// events were refused.
 fn add_node_tallies<C: Exclusion>(
     cluster: &Cluster<C>,
     is_json: bool,
@@ -81,7 +77,6 @@ where
     add_tally(is_json, ", ", "refused", refused_of(trace, node), text)
 }
 
-/// Appends the name of a node, with which its counts start.
 fn add_head(plan: &Plan, is_json: bool, node: NodeId, text: &mut String) -> Result<(), AllocError>
     ensures { OnOk result (string_bytes text.new
         ≡ string_bytes text.old ++ node_head is_json plan.now node) }
@@ -92,17 +87,12 @@ fn add_head(plan: &Plan, is_json: bool, node: NodeId, text: &mut String) -> Resu
     text.push_str(name_of(plan, node))
 }
 
-/// Ends the counts of a node.
 fn add_node_end(is_json: bool, text: &mut String) -> Result<(), AllocError>
     ensures { OnOk result (string_bytes text.new ≡ string_bytes text.old ++ node_end is_json) }
 {
-    if is_json {
-        return text.push_str("}\n");
-    }
-    text.push_str("\n")
+    text.push_str(either(is_json, "}\n", "\n"))
 }
 
-/// Returns how often a node entered.
 fn entries_of(trace: &[Entry], node: NodeId) -> u64
     ensures { result ≡ count_by (is_entry_of node) trace.now }
 {
@@ -112,7 +102,6 @@ fn entries_of(trace: &[Entry], node: NodeId) -> u64
         .count() as u64
 }
 
-/// Returns how many parcels a node sent.
 fn sent_of<C: Exclusion>(cluster: &Cluster<C>, node: NodeId) -> u64
 where
     C::Msg: Letter,
@@ -121,7 +110,6 @@ where
     count_parcels(cluster, &Group::SentBy(node))
 }
 
-/// Returns how many parcels were delivered to a node. A repeated delivery counts again.
 fn received_of<C: Exclusion>(cluster: &Cluster<C>, trace: &[Entry], node: NodeId) -> u64
     ensures { result
         ≡ count_by (λ entry. is_delivered_to node cluster.now.sent entry.event) trace.now }
@@ -133,7 +121,6 @@ fn received_of<C: Exclusion>(cluster: &Cluster<C>, trace: &[Entry], node: NodeId
     count
 }
 
-/// Returns how many events of a node were refused.
 fn refused_of(trace: &[Entry], node: NodeId) -> u64
     ensures { result ≡ count_by (is_refusal_of node) trace.now }
 {
@@ -143,21 +130,18 @@ fn refused_of(trace: &[Entry], node: NodeId) -> u64
         .count() as u64
 }
 
-/// Whether a node enters at this item of the trace.
 pub(crate) fn is_entry_of(node: NodeId, entry: &Entry) -> bool
     ensures { result ≡ is_entry_of node entry.now }
 {
     is_node(node, entry.event.node()) && is_entry(entry)
 }
 
-/// Whether this item of the trace is a refused event of a node.
 fn is_refusal_of(node: NodeId, entry: &Entry) -> bool
     ensures { result ≡ is_refusal_of node entry.now }
 {
     is_node(node, entry.event.node()) && is_refusal(&entry.outcome)
 }
 
-/// Whether `owner`, the node of an event if it has one, is this node.
 fn is_node(node: NodeId, owner: Option<NodeId>) -> bool
     ensures { result ≡ is_node node owner }
 {
@@ -167,7 +151,6 @@ fn is_node(node: NodeId, owner: Option<NodeId>) -> bool
     }
 }
 
-/// Whether an event delivers a parcel to a node.
 fn is_delivered_to<C: Exclusion>(cluster: &Cluster<C>, node: NodeId, event: &Event) -> bool
     ensures { result ≡ is_delivered_to node cluster.now.sent event.now }
 {
@@ -177,7 +160,6 @@ fn is_delivered_to<C: Exclusion>(cluster: &Cluster<C>, node: NodeId, event: &Eve
     }
 }
 
-/// Whether a node is the addressee of the parcel of this number.
 fn is_addressee<C: Exclusion>(cluster: &Cluster<C>, node: NodeId, number: u64) -> bool
     ensures { result ≡ is_addressee node (slice_get cluster.now.sent number) }
 {

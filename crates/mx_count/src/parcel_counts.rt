@@ -13,8 +13,6 @@ use mx_network::Cluster;
 use mx_nodelaws::Exclusion;
 use std::alloc::AllocError;
 
-/// Appends the counts of all letters and of each kind of them, of the letters of nodes to
-/// themselves, and of gossip and each kind of it.
 pub(crate) fn add_parcel_counts<C: Exclusion>(
     cluster: &Cluster<C>,
     is_json: bool,
@@ -31,7 +29,6 @@ where
     add_counts_under(cluster, is_json, KIND_INDENT, gossip_names(), text)
 }
 
-/// Appends, for each of these names, how many parcels are counted under it.
 fn add_counts_under<C: Exclusion>(
     cluster: &Cluster<C>,
     is_json: bool,
@@ -53,7 +50,6 @@ where
     Ok(())
 }
 
-/// Returns the number of parcels of a group.
 pub(crate) fn count_parcels<C: Exclusion>(cluster: &Cluster<C>, group: &Group<'_>) -> u64
 where
     C::Msg: Letter,
@@ -66,7 +62,6 @@ where
     count
 }
 
-/// Returns 1 if the parcel of this number is one of a group, else 0.
 fn count_parcel<C: Exclusion>(cluster: &Cluster<C>, number: u64, group: &Group<'_>) -> u64
 where
     C::Msg: Letter,

@@ -13,7 +13,6 @@ use mx_network::Event;
 use mx_plan::{Plan, read_events};
 use std::alloc::Global;
 
-/// Prints the counts of a run of the events that `text` lists. Returns the exit status.
 pub(crate) fn count_listed<O: Output>(
     alloc: Global,
     plan: &Plan,
@@ -34,7 +33,6 @@ pub(crate) fn count_listed<O: Output>(
     print_counts(alloc, plan, events.as_slice(), options, out)
 }
 
-/// Draws the events of an exploration, and prints the counts of their run. Returns the exit status.
 pub(crate) fn count_schedule<O: Output>(
     alloc: Global,
     plan: &Plan,
@@ -51,7 +49,6 @@ pub(crate) fn count_schedule<O: Output>(
     print_counts(alloc, plan, events.as_slice(), options, out)
 }
 
-/// Prints the counts of a run of these events. Returns the exit status.
 fn print_counts<O: Output>(
     alloc: Global,
     plan: &Plan,

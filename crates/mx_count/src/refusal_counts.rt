@@ -9,7 +9,6 @@ use crate::tallies::{PART_INDENT, add_tally_line};
 use mx_network::Entry;
 use std::alloc::AllocError;
 
-/// Appends the counts of all refusals and of those of each cause.
 pub(crate) fn add_refusal_counts(
     trace: &[Entry],
     is_json: bool,
@@ -22,7 +21,6 @@ pub(crate) fn add_refusal_counts(
     add_refusals_under(trace, is_json, PART_INDENT, cause_names(), text)
 }
 
-/// Appends, for each of these names, how many refusals are counted under it.
 fn add_refusals_under(
     trace: &[Entry],
     is_json: bool,
@@ -39,7 +37,6 @@ fn add_refusals_under(
     Ok(())
 }
 
-/// Returns how many refusals are counted under a name.
 fn count_refusals(trace: &[Entry], name: &str) -> u64
     ensures { result ≡ count_by (is_entry_under name.now) trace.now }
 {
@@ -49,7 +46,6 @@ fn count_refusals(trace: &[Entry], name: &str) -> u64
         .count() as u64
 }
 
-/// Whether an item of the trace is a refusal that is counted under a name.
 fn is_entry_under(name: &str, entry: &Entry) -> bool
     ensures { result ≡ is_entry_under name.now entry.now }
 {

@@ -1,17 +1,16 @@
 //! The least, the mean and the greatest of numbers.
 
 ghost use Rattle.std.specs.Prelude.{◌≡◌, ◌++◌, ◌+◌, OnOk, length, string_bytes};
-ghost use Rattle.mx_count.specs.Measures.{greatest_from, greatest_start, least_from, least_start, mean_start, measure_end, measure_name, measure_text, numbers_text, spread_text, sum_from};
+ghost use Rattle.mx_count.specs.Measures.{greatest_from, least_from, mean_start, measure_end, measure_name, measure_text, numbers_text, spread_text, sum_from};
 ghost use Rattle.mx_count.specs.Tallies.{quotient_text};
 
 use crate::count_lines::Labelled;
 use crate::measures::{Measure, measured};
-use crate::tallies::{add_absent, add_quotient, add_value_end, add_value_start};
+use crate::tallies::{add_absent, add_quotient, add_value_end, add_value_start, either};
 use mx_network::Cluster;
 use mx_nodelaws::Exclusion;
 use std::alloc::{AllocError, Global};
 
-/// Appends the name of a measure, and the least, the mean and the greatest of its times in letters.
 pub(crate) fn add_measure<C: Exclusion>(
     alloc: Global,
     cluster: &Cluster<C>,
@@ -22,13 +21,12 @@ pub(crate) fn add_measure<C: Exclusion>(
     ensures { OnOk result (string_bytes text.new ≡ string_bytes text.old
         ++ measure_text is_json cluster.now.sent cluster.now.trace measure) }
 {
-    let numbers = measured(alloc, cluster, measure)?;
+    let numbers = measured(alloc, cluster, measure, cluster.trace())?;
     add_value_start(is_json, measure_name(measure), text)?;
     add_numbers(is_json, numbers.as_slice(), text)?;
     add_value_end(is_json, text)
 }
 
-/// Returns the name of a measure.
 fn measure_name(measure: Measure) -> &'static str
     ensures { result.now ≡ measure_name measure }
 {
@@ -38,7 +36,6 @@ fn measure_name(measure: Measure) -> &'static str
     }
 }
 
-/// Appends the least, the mean and the greatest of numbers, or that there are none.
 fn add_numbers(is_json: bool, numbers: &[u64], text: &mut String) -> Result<(), AllocError>
     ensures { OnOk result (string_bytes text.new
         ≡ string_bytes text.old ++ numbers_text is_json numbers.now) }
@@ -49,62 +46,32 @@ fn add_numbers(is_json: bool, numbers: &[u64], text: &mut String) -> Result<(), 
     add_spread(is_json, *first, rest, text)
 }
 
-/// Appends the least, the mean and the greatest of a number and others.
 fn add_spread(is_json: bool, first: u64, rest: &[u64], text: &mut String) -> Result<(), AllocError>
     ensures { OnOk result (string_bytes text.new
         ≡ string_bytes text.old ++ spread_text is_json first rest.now) }
 {
-    text.write(Labelled(least_start(is_json), least_of(first, rest)))?;
+    let least = either(is_json, "{\"least\":", "least ");
+    text.write(Labelled(least, least_of(first, rest)))?;
     add_mean(is_json, first, rest, text)?;
-    text.write(Labelled(greatest_start(is_json), greatest_of(first, rest)))?;
+    let greatest = either(is_json, ",\"greatest\":", ", greatest ");
+    text.write(Labelled(greatest, greatest_of(first, rest)))?;
     add_measure_end(is_json, text)
 }
 
-/// Returns the text before the least number.
-fn least_start(is_json: bool) -> &'static str
-    ensures { result.now ≡ least_start is_json }
-{
-    if is_json { "{\"least\":" } else { "least " }
-}
-
-/// Appends the mean of a number and others.
 fn add_mean(is_json: bool, first: u64, rest: &[u64], text: &mut String) -> Result<(), AllocError>
     ensures { OnOk result (string_bytes text.new ≡ string_bytes text.old
         ++ (mean_start is_json ++ quotient_text (sum_from first rest.now) (length rest.now + 1))) }
 {
-    text.push_str(mean_start(is_json))?;
+    text.push_str(either(is_json, ",\"mean\":", ", mean "))?;
     add_quotient(sum_of(first, rest), rest.len() as u64 + 1, text)
 }
 
-/// Returns the text before the mean.
-fn mean_start(is_json: bool) -> &'static str
-    ensures { result.now ≡ mean_start is_json }
-{
-    if is_json { ",\"mean\":" } else { ", mean " }
-}
-
-/// Returns the text before the greatest number.
-fn greatest_start(is_json: bool) -> &'static str
-    ensures { result.now ≡ greatest_start is_json }
-{
-    if is_json {
-        ",\"greatest\":"
-    } else {
-        ", greatest "
-    }
-}
-
-/// Ends the object of a measure.
 fn add_measure_end(is_json: bool, text: &mut String) -> Result<(), AllocError>
     ensures { OnOk result (string_bytes text.new ≡ string_bytes text.old ++ measure_end is_json) }
 {
-    if is_json {
-        return text.push_str("}");
-    }
-    Ok(())
+    text.push_str(either(is_json, "}", ""))
 }
 
-/// Returns the least of a number and others.
 fn least_of(first: u64, rest: &[u64]) -> u64
     ensures { result ≡ least_from first rest.now }
 {
@@ -115,7 +82,6 @@ fn least_of(first: u64, rest: &[u64]) -> u64
     least
 }
 
-/// Returns the greatest of a number and others.
 fn greatest_of(first: u64, rest: &[u64]) -> u64
     ensures { result ≡ greatest_from first rest.now }
 {
@@ -126,7 +92,6 @@ fn greatest_of(first: u64, rest: &[u64]) -> u64
     greatest
 }
 
-/// Returns the sum of a number and others.
 fn sum_of(first: u64, rest: &[u64]) -> u128
     ensures { result ≡ sum_from first rest.now }
 {

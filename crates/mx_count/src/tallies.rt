@@ -1,19 +1,23 @@
 //! Counts and values with their names, as lines or as members of an object of JSON.
 
-ghost use Rattle.std.specs.Prelude.{◌≡◌, ◌≢◌, ◌++◌, OnOk, string_bytes};
-ghost use Rattle.mx_count.specs.Tallies.{absent_text, counts_end, first_tally_text, key_text, quotient_text, share_of, share_text, tally, tally_text, value_end, value_start};
+ghost use Rattle.std.specs.Prelude.{◌≡◌, ◌≢◌, ◌++◌, if◌then◌else◌, OnOk, string_bytes};
+ghost use Rattle.mx_count.specs.Tallies.{absent_text, counts_end, first_tally_text, quotient_text, share_of, share_text, tally, tally_text, value_end, value_start};
 
 use crate::count_lines::{NamedCount, TenthsText};
 use mx_format::json::{NumberStart, add_number};
 use std::alloc::AllocError;
 
-/// How far a part is indented below its sum.
+/// Returns the text for JSON, or else the one for lines.
+pub(crate) fn either(is_json: bool, json: &'static str, line: &'static str) -> &'static str
+    ensures { result.now ≡ (if is_json then json.now else line.now) }
+{
+    if is_json { json } else { line }
+}
+
 pub(crate) const PART_INDENT: &str = "  ";
 
-/// How far a part of a part is indented.
 pub(crate) const KIND_INDENT: &str = "    ";
 
-/// Appends the first count: the beginning of a JSON object, or the first line.
 pub(crate) fn add_first_tally(
     is_json: bool,
     name: &str,
@@ -29,7 +33,6 @@ pub(crate) fn add_first_tally(
     add_tally_line(is_json, "", name, count, text)
 }
 
-/// Appends a count: a member of an object, or a line.
 pub(crate) fn add_tally_line(
     is_json: bool,
     indent: &str,
@@ -44,7 +47,6 @@ pub(crate) fn add_tally_line(
     add_value_end(is_json, text)
 }
 
-/// Appends a count: a member of an object, or, after the text `before`, a part of a line.
 pub(crate) fn add_tally(
     is_json: bool,
     before: &str,
@@ -65,7 +67,6 @@ pub(crate) fn add_tally(
     })
 }
 
-/// Appends the number of letters for each section entered.
 pub(crate) fn add_share(
     is_json: bool,
     letters: u64,
@@ -80,7 +81,6 @@ pub(crate) fn add_share(
     add_value_end(is_json, text)
 }
 
-/// Appends `letters` divided by `sections`, or that there is no such value without sections.
 fn add_share_value(
     is_json: bool,
     letters: u64,
@@ -96,7 +96,6 @@ fn add_share_value(
     add_quotient(u128::from(letters), sections, text)
 }
 
-/// Appends a quotient with one decimal, rounded down.
 pub(crate) fn add_quotient(sum: u128, number: u64, text: &mut String) -> Result<(), AllocError>
     requires { number ≢ 0 }
     ensures { OnOk result (string_bytes text.new
@@ -109,18 +108,13 @@ pub(crate) fn add_quotient(sum: u128, number: u64, text: &mut String) -> Result<
     })
 }
 
-/// Appends what stands for a value that does not exist: `none`, or `null` in JSON.
 pub(crate) fn add_absent(is_json: bool, text: &mut String) -> Result<(), AllocError>
     ensures { OnOk result (string_bytes text.new
         ≡ string_bytes text.old ++ absent_text is_json) }
 {
-    if is_json {
-        return text.push_str("null");
-    }
-    text.push_str("none")
+    text.push_str(either(is_json, "null", "none"))
 }
 
-/// Appends the name of a value.
 pub(crate) fn add_value_start(
     is_json: bool,
     name: &str,
@@ -130,39 +124,24 @@ pub(crate) fn add_value_start(
         ≡ string_bytes text.old ++ value_start is_json name.now) }
 {
     if is_json {
-        return add_key(name, text);
+        text.push_str(",\"")?;
+        text.push_str(name)?;
+        return text.push_str("\":");
     }
     text.push_str(name)?;
     text.push_str(" ")
 }
 
-/// Appends the key of a member, after a comma.
-fn add_key(name: &str, text: &mut String) -> Result<(), AllocError>
-    ensures { OnOk result (string_bytes text.new ≡ string_bytes text.old ++ key_text name.now) }
-{
-    text.push_str(",\"")?;
-    text.push_str(name)?;
-    text.push_str("\":")
-}
-
-/// Appends what comes after a value: the end of its line, or nothing in JSON.
 pub(crate) fn add_value_end(is_json: bool, text: &mut String) -> Result<(), AllocError>
     ensures { OnOk result (string_bytes text.new
         ≡ string_bytes text.old ++ value_end is_json) }
 {
-    if is_json {
-        return Ok(());
-    }
-    text.push_str("\n")
+    text.push_str(either(is_json, "", "\n"))
 }
 
-/// Closes the object of a cluster's counts.
 pub(crate) fn add_counts_end(is_json: bool, text: &mut String) -> Result<(), AllocError>
     ensures { OnOk result (string_bytes text.new
         ≡ string_bytes text.old ++ counts_end is_json) }
 {
-    if is_json {
-        return text.push_str("}\n");
-    }
-    Ok(())
+    text.push_str(either(is_json, "}\n", ""))
 }

@@ -6,7 +6,6 @@ ghost use Rattle.mx_count.specs.Waits.{ends_wait, is_end, is_refusal, longest_wa
 use mx_network::{Entry, Event, Outcome};
 use mx_stamps::NodeId;
 
-/// Returns how many events the longest wait of a node lasted.
 pub(crate) fn longest_wait(trace: &[Entry]) -> u64
     ensures { result ≡ longest_wait trace.now }
 {
@@ -17,8 +16,6 @@ pub(crate) fn longest_wait(trace: &[Entry]) -> u64
     longest
 }
 
-/// If `outcome` is that of an ask, returns how many events its wait lasts: the ask, and those in
-/// `rest` (the items after it) before the wait ends. Else returns 0.
 fn wait_from(outcome: &Outcome, rest: &[Entry]) -> u64
     ensures { result ≡ wait_from outcome.now rest.now }
 {
@@ -28,7 +25,6 @@ fn wait_from(outcome: &Outcome, rest: &[Entry]) -> u64
     }
 }
 
-/// Returns how many events come before the one that ends this node's wait, or all if none does.
 fn until_end(node: NodeId, rest: &[Entry]) -> u64
     ensures value { result ≡ until_end node rest.now }
     ensures within { result ≤ length rest.now }
@@ -39,7 +35,6 @@ fn until_end(node: NodeId, rest: &[Entry]) -> u64
     }
 }
 
-/// Returns the index of the event that ends this node's wait.
 pub(crate) fn end_in(node: NodeId, rest: &[Entry]) -> Option<usize>
     ensures value { result ≡ position (ends_wait node) rest.now }
     ensures within { IfSome result (λ index. index < length rest.now) }
@@ -47,14 +42,12 @@ pub(crate) fn end_in(node: NodeId, rest: &[Entry]) -> Option<usize>
     rest.iter().position(|entry| ends_wait(node, entry))
 }
 
-/// Whether this item of the trace ends this node's wait: the node enters, or withdraws its request.
 fn ends_wait(node: NodeId, entry: &Entry) -> bool
     ensures { result ≡ ends_wait node entry.now }
 {
     is_end(node, &entry.event) && !is_refusal(&entry.outcome)
 }
 
-/// Whether this event is an enter or a cancel of this node, which ends its wait unless refused.
 fn is_end(node: NodeId, event: &Event) -> bool
     ensures { result ≡ is_end node event.now }
 {

@@ -9,7 +9,6 @@ use clap::{ArgMatches, Error};
 use mx_cli::{CommandId, Exploration, Names, exploration_at, is_given, matches_in, names_at};
 use std::alloc::Global;
 
-/// What a command line asks to count.
 #[derive(Clone, Copy)]
 pub(crate) enum Request<'a> {
     /// A run of the events that a file lists.
@@ -40,12 +39,6 @@ impl<'a> Request<'a> {
     }
 }
 
-/// Parses a command line that begins with `count`, or is `explore` with `--count` or `--json`.
-///
-/// # Errors
-///
-/// Returns the error of `clap` for wrong arguments, and also, with the text to show, if help is
-/// requested.
 pub(crate) fn parse<'a>(alloc: Global, words: &'a [&'a str]) -> Result<Option<Request<'a>>, Error>
     ensures { Asks request_of count_line (texts_of words.entry.now)
         (request_asked (texts_of words.entry.now)) result }
@@ -54,7 +47,6 @@ pub(crate) fn parse<'a>(alloc: Global, words: &'a [&'a str]) -> Result<Option<Re
     Ok(from_matches(&matches))
 }
 
-/// Returns what the command line asks to count, or `None` for another command.
 fn from_matches<'a>(matches: &ArgMatches<'a>) -> Option<Request<'a>>
     ensures { option_map request_of result ≡ request_in (subcommand_rows_of matches.now) }
 {
@@ -65,7 +57,6 @@ fn from_matches<'a>(matches: &ArgMatches<'a>) -> Option<Request<'a>>
     }
 }
 
-/// Returns what `count` asks for.
 fn given_in<'a>(matches: &ArgMatches<'a>) -> Option<Request<'a>>
     ensures { option_map request_of result ≡ given_in (rows_of (found_of matches.now)) }
 {
@@ -78,7 +69,6 @@ fn given_in<'a>(matches: &ArgMatches<'a>) -> Option<Request<'a>>
     })
 }
 
-/// Returns what `explore` with `--count` or `--json` asks for.
 fn drawn_in<'a>(matches: &ArgMatches<'a>) -> Option<Request<'a>>
     ensures { option_map request_of result ≡ drawn_in (rows_of (found_of matches.now)) }
 {

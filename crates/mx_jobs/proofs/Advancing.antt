@@ -122,9 +122,6 @@ module _ {H S M : Type 0} (core : Core H S M) where
   pub came : {A F : Type 0} (r : Result A F) (s t : Station core) → OnOk r (t ≡ does core Enter s) → OnErr r (t ≡ s) → Rests core s t
   came r s t did same = trying Enter r s t refl (entered_setting (core.enter s.me.member.core).answer _) did same
 
-  pub wanted : (to : ℕ) (s t : Station core) → t ≡ does core (Want to) s → Rests core s t
-  wanted to s t did = rests_acting core (Want to) s t refl refl did
-
 module _ {J : Type 0} (AsksFor : J → List ℕ → Type 0) (Makes : J → ℕ → List ℕ → List OneWrite → J → Type 0) (Holds : ℕ → List ℕ → Type 0) where
   runs_on : (count : ℕ) (job : J) (rs : List Receipt) (next : J) (more : List Receipt) (after : J) → Runs AsksFor Makes Holds count job rs next → Runs AsksFor Makes Holds count next more after → Runs AsksFor Makes Holds count job (rs ++ more) after
   runs_on count job [] next more after same runs = subst (λ (j : J). Runs AsksFor Makes Holds count j more after) same runs

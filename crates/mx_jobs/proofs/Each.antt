@@ -20,9 +20,6 @@ module _ {X : Type 0} {Is : ℕ → X → Type 0} where
   pub none_each : (k : ℕ) (xs : List X) → xs ≡ [] → AreEach Is k xs
   none_each k xs none = subst (AreEach Is k) (sym none) (record { each = λ m x at. absurd (none_is_no_some x at) })
 
-  pub same_each : (k : ℕ) (xs ys : List X) → xs ≡ ys → AreEach Is k ys → AreEach Is k xs
-  same_each k xs ys same all = subst (AreEach Is k) (sym same) all
-
   pub pushed_each : (k : ℕ) (old mid new : List X) (x : X) → mid ≡ old → new ≡ mid ++ x ∷ [] → AreEach Is k old → Is (k + length old) x → AreEach Is k new
   pushed_each k old mid new x same grown all is =
       subst (AreEach Is k) (sym (grown ∙ ap (λ (l : List X). l ++ x ∷ []) same)) (record {

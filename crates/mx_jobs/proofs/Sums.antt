@@ -1,8 +1,7 @@
 -- Sums of registers, for laws that conserve something.
-use Rattle.std.proofs.Common.{◌≡◌, ◌∙◌, ◌+◌, ◌*◌, ◌<◌, ◌≤◌, ◌≢◌, ℕ, List, get_or, length, replicate, sum, sym, arith}
+use Rattle.std.proofs.Common.{◌≡◌, ◌+◌, ◌<◌, ◌≤◌, ◌≢◌, ℕ, List, get_or, length, sum, sym, arith}
 use Rattle.std.proofs.Math.ListN.{set}
 use Rattle.std.proofs.lemmas.List.{get_or-set_other, length-set}
-use Rattle.std.proofs.lemmas.List.Folds.{sum_by-replicate}
 use Rattle.std.proofs.lemmas.List.Sums.{sum_by-set}
 
 -- one register gets another value
@@ -22,7 +21,3 @@ pub transfer : (xs : List ℕ) (a b x y : ℕ) → a ≢ b → a < length xs →
 transfer xs a b x y apart low there =
     let both = two_set xs a b x y apart low there in
     let none = two_set xs a b 0 0 apart low there in (both, omega arith)
-
--- at first all registers are 0
-pub sum_of_zeros : (n : ℕ) → sum (replicate n 0) ≡ 0
-sum_of_zeros n = let e = sum_by-replicate (λ (x : ℕ). x) n 0 in let none : n * 0 ≡ 0 = omega arith in e ∙ none

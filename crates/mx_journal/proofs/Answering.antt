@@ -116,9 +116,6 @@ on_failure (Err fault) p f = f p
 pub not_true : (b : Bool) → b ≡ true → b ≡ false → ⊥
 not_true b t f = cc
 
-pub no_truth : false ≡ true → ⊥
-no_truth e = cc
-
 -- what an answer to one record says of it, where `found` is what bears its number already
 pub record PutVerdict (result : Result Put PutFault) (entry : Record) (before after : List Record) : Type 0 where
   pub zero : (result ≡ Err ZeroNumber) ↔ (entry.number ≡ 0)

@@ -30,12 +30,6 @@ with_section_is entry old new size each =
     ext_get_or unwritten new (with_section entry old) (size ∙ sym (length_each_below f 32))
     (λ i l. each i (omega (arith, l, size)) ∙ sym (get_or_each_below f 32 i unwritten (omega (arith, l, size))))
 
--- a base has 32 cells, whatever it takes
-pub length_with_sections : (xs : List Record) (cells : List Cell) → length cells ≡ 32 → length (with_sections xs cells) ≡ 32
-length_with_sections [] cells e = e
-length_with_sections (x ∷ xs) cells e =
-    length_with_sections xs (with_section x cells) (length_each_below (λ register. after_section x.number (last_value register x.writes.items) (get_or cells register unwritten)) 32)
-
 -- a cell stays of the sections up to k
 after_section_of : (k n : ℕ) (o : Option ℕ) (cell : Cell) → 1 ≤ n → n ≤ k → IsCellOf k cell → IsCellOf k (after_section n o cell)
 after_section_of k n None cell l m h = h
@@ -56,10 +50,7 @@ with_section_of k entry cells l m h x t =
 pub cells_of_more : (j k : ℕ) (cells : List Cell) → j ≤ k → AreCellsOf j cells → AreCellsOf k cells
 cells_of_more j k cells l h x m = let w = h x m in let q = w.0 in (omega arith, w.1)
 
--- the records up to k, where the first is above it, and where it is not
-pub with_sections_none : (k : ℕ) (x : Record) (xs : List Record) (cells : List Cell) → k < x.number → with_sections (below (suc k) (x ∷ xs)) cells ≡ cells
-with_sections_none k x xs cells l = below_case (λ l. with_sections l cells ≡ cells) (suc k) x xs (λ bad. absurd (omega arith)) (λ _. refl)
-
+-- the records up to k, where the first is not above it
 pub with_sections_more : (k : ℕ) (x : Record) (xs : List Record) (cells : List Cell) → x.number ≤ k → with_sections (below (suc k) (x ∷ xs)) cells ≡ with_sections (below (suc k) xs) (with_section x cells)
 with_sections_more k x xs cells l =
     below_case (λ l. with_sections l cells ≡ with_sections (below (suc k) xs) (with_section x cells)) (suc k) x xs (λ _. refl) (λ bad. absurd (omega arith))

@@ -4,7 +4,6 @@ use Rattle.mx_stamps.specs.Lists.{IsIn}
 use Rattle.mx_stamps.proofs.Lists.{in_append, in_left, in_right}
 use Rattle.mx_stamps.proofs.Choices.{cond_case, lt_false, lt_true}
 use Rattle.mx_journal.specs.declared.records.Record.{Record}
-use Rattle.mx_journal.specs.Records.{IsNumbered}
 use Rattle.mx_journal.specs.Agreement.{AgreesWith, IsOpposed}
 use Rattle.mx_journal.specs.Settled.{beyond}
 
@@ -44,14 +43,11 @@ beyond_same n (y ∷ ys) x l =
     (λ high. beyond_case (λ q. q ≡ y ∷ beyond n ys) n y (ys ++ x ∷ []) (λ _. ap (λ q. y ∷ q) (beyond_same n ys x l)) (λ bad. absurd (omega arith)))
     (λ low. beyond_case (λ q. q ≡ beyond n ys) n y (ys ++ x ∷ []) (λ bad. absurd (omega arith)) (λ _. beyond_same n ys x l))
 
--- all records of a list are above 0, where they are numbered from 1 on
+-- a list stays whole, where all its records are above n
 pub beyond_all : (n : ℕ) (xs : List Record) → ((x : Record) → IsIn x xs → n < x.number) → beyond n xs ≡ xs
 beyond_all n [] h = refl
 beyond_all n (x ∷ xs) h =
     beyond_case (λ q. q ≡ x ∷ xs) n x xs (λ _. ap (λ q. x ∷ q) (beyond_all n xs (λ y m. h y (inr m)))) (λ low. absurd (let l = h x (inl refl) in omega arith))
-
-pub beyond_none : (xs : List Record) → IsNumbered xs → beyond 0 xs ≡ xs
-beyond_none xs h = beyond_all 0 xs (λ x m. let l = h x m in omega arith)
 
 -- a record above n agrees with, or is opposed in, a journal's records and a list, where it does or is above n
 pub agrees_beyond : (n : ℕ) (r : Record) (xs list : List Record) → AgreesWith r (xs ++ list) → AgreesWith r (xs ++ beyond n list)

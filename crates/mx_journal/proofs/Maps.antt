@@ -146,10 +146,6 @@ pub ascending_with_all : (rs xs : List Record) → Ascending 1 xs → IsNumbered
 ascending_with_all [] xs a h = a
 ascending_with_all (r ∷ rs) xs a h = ascending_with_all rs (with_record r xs) (ascending_with 1 r xs a (h r (inl refl))) (λ x k. h x (inr k))
 
-pub with_records-append : (rs ss xs : List Record) → with_records (rs ++ ss) xs ≡ with_records ss (with_records rs xs)
-with_records-append [] ss xs = refl
-with_records-append (r ∷ rs) ss xs = with_records-append rs ss (with_record r xs)
-
 -- a list and a journal that are consistent together agree, and the list does in itself
 pub consistent_across : (xs rs : List Record) → IsConsistent (xs ++ rs) → AreAgreeing xs rs
 consistent_across xs rs c x y h t e = c x y (in_left x xs rs h) (in_right y xs rs t) e
@@ -180,19 +176,3 @@ same_members j k (x ∷ xs) (y ∷ ys) a b s t =
       | inr m ↦ m
     ] in
     ap (λ z. z ∷ xs) head ∙ ap (λ zs. y ∷ zs) (same_members (suc x.number) (suc y.number) xs ys a.1 b.1 there back)
-
--- order and repetition of the records that join a journal do not matter
-pub with_records_any_order : (rs ss xs : List Record) → Ascending 1 xs → IsNumbered rs → IsConsistent (xs ++ rs) → IsSubmap rs ss → IsSubmap ss rs → with_records rs xs ≡ with_records ss xs
-with_records_any_order rs ss xs a n c s t =
-    let m : IsNumbered ss = λ x h. n x (t x h) in
-    let across : AreAgreeing xs rs = consistent_across xs rs c in
-    let among : IsConsistent rs = consistent_among xs rs c in
-    same_members 1 1 (with_records rs xs) (with_records ss xs) (ascending_with_all rs xs a n) (ascending_with_all ss xs a m)
-    (λ x h. elim (in_with_records rs xs x h) [
-      | inl k ↦ with_records_keep ss xs x k
-      | inr k ↦ with_records_have ss xs (λ y z p q e. across y z p (t z q) e) (λ y z p q e. among y z (t y p) (t z q) e) x (s x k)
-    ])
-    (λ x h. elim (in_with_records ss xs x h) [
-      | inl k ↦ with_records_keep rs xs x k
-      | inr k ↦ with_records_have rs xs across among x (t x k)
-    ])

@@ -16,7 +16,6 @@ use Rattle.mx_judge.specs.declared.members.Member.TheVariants as member
 use Rattle.mx_judge.specs.declared.faults.ItemFault.{ItemFault}
 use Rattle.mx_judge.specs.declared.faults.ItemFault.TheVariants.{NotEvent, Wrong}
 
--- the delivery of a parcel, by its number
 abbrev pub delivery : Data → Result Event ItemFault
 delivery d = and_then (number_at member.Parcel d) (λ k. Ok (Deliver k))
 
@@ -38,7 +37,6 @@ module _ (p : Fields) (d : Data) where
       and_then register_at
       (λ register. and_then (number_at member.Value d) (λ value. Ok (Write i register value)))
 
-  -- an event of this node and kind
   abbrev pub event_at : ℕ → EventKind → Result Event ItemFault
   event_at i kind.Ask = Ok (Ask i)
   event_at i kind.Enter = Ok (Enter i)
@@ -57,11 +55,9 @@ module _ (p : Fields) (d : Data) where
   event_by kind.Deliver = delivery d
   event_by kind = and_then (node_at member.Node) (λ i. event_at i kind)
 
-  -- the event, by its act
   abbrev pub event_of : Result Event ItemFault
   event_of = option_map_or event_by (kind_named (text_at member.Act d)) (Err (Wrong member.Act))
 
-  -- the event with its outcome
   abbrev pub entry_of : Result Entry ItemFault
   entry_of =
       and_then event_of

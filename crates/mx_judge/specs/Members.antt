@@ -36,7 +36,6 @@ message_of Number = codes "not a number"
 message_of Count = codes "not a number"
 message_of Cause = codes "no such word"
 
--- an object has a member of this key
 abbrev pub has_member : Text → Data → Bool
 has_member key d = is_some (get key d)
 

@@ -65,7 +65,6 @@ entries_from name entries k (i ∷ items) =
 abbrev pub lines_of : Text → List Text
 lines_of text = slice_split (λ b. b == 10) text
 
--- the trace in the lines of a text
 abbrev pub lines_at : Fields → Text → Result (List Entry) TraceFault
 lines_at p text = entries_from line_fault [] 1 (map (line_item p) (lines_of text))
 

@@ -13,8 +13,6 @@ use mx_stamps::NodeId;
 use mx_trace::Entry;
 use serde_json::Value;
 
-/// Returns the entry of an item: an event with its outcome. Returns `None` for an object of a
-/// parcel, a node or a verdict.
 #[tactic(auto, unfolding(crate::specs::Entries::item_of))]
 pub(crate) fn item_in(plan: &Plan, value: &Value) -> Result<Option<Entry>, ItemFault>
     ensures { result ≡ spec.item_of plan.now (view value.now) }
@@ -28,14 +26,12 @@ pub(crate) fn item_in(plan: &Plan, value: &Value) -> Result<Option<Entry>, ItemF
     Err(ItemFault::NotEvent)
 }
 
-/// Returns whether an object without `act` is that of a parcel, a node or a verdict.
 fn is_passed_over(value: &Value) -> bool
     ensures { result ≡ spec.is_passed_over (view value.now) }
 {
     has_member(value, "kind") || has_member(value, "phase") || has_member(value, "verdict")
 }
 
-/// Reads an event with its outcome.
 fn entry_in(plan: &Plan, value: &Value) -> Result<Entry, ItemFault>
     ensures { result ≡ spec.entry_of plan.now (view value.now) }
 {
@@ -44,7 +40,6 @@ fn entry_in(plan: &Plan, value: &Value) -> Result<Entry, ItemFault>
     Ok(Entry { event, outcome })
 }
 
-/// Reads an event. Its member `act` says which kind of event it is.
 fn event_in(plan: &Plan, value: &Value) -> Result<Event, ItemFault>
     ensures { result ≡ spec.event_of plan.now (view value.now) }
 {
@@ -55,7 +50,6 @@ fn event_in(plan: &Plan, value: &Value) -> Result<Event, ItemFault>
     }
 }
 
-/// Reads an event of this node and kind.
 fn event_at(plan: &Plan, value: &Value, node: NodeId, kind: EventKind) -> Result<Event, ItemFault>
     ensures { result ≡ spec.event_at plan.now (view value.now) node kind }
 {
@@ -74,7 +68,6 @@ fn event_at(plan: &Plan, value: &Value, node: NodeId, kind: EventKind) -> Result
     }
 }
 
-/// Reads a write of this node.
 fn writing(plan: &Plan, value: &Value, node: NodeId) -> Result<Event, ItemFault>
     ensures { result ≡ spec.writing plan.now (view value.now) node }
 {
@@ -83,14 +76,12 @@ fn writing(plan: &Plan, value: &Value, node: NodeId) -> Result<Event, ItemFault>
     Ok(Event::Write(node, register, number))
 }
 
-/// Reads the delivery of a parcel.
 fn delivery(value: &Value) -> Result<Event, ItemFault>
     ensures { result ≡ spec.delivery (view value.now) }
 {
     Ok(Event::Deliver(number_at(value, Member::Parcel)?))
 }
 
-/// Returns the node that a member names.
 fn node_at(plan: &Plan, value: &Value, member: Member) -> Result<NodeId, ItemFault>
     ensures { result ≡ spec.node_at plan.now (view value.now) member }
 {
@@ -100,7 +91,6 @@ fn node_at(plan: &Plan, value: &Value, member: Member) -> Result<NodeId, ItemFau
     }
 }
 
-/// Returns the register that an event names.
 fn register_at(plan: &Plan, value: &Value) -> Result<u8, ItemFault>
     ensures { result ≡ spec.register_at plan.now (view value.now) }
 {

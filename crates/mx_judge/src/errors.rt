@@ -1,11 +1,9 @@
-//! Why there is no verdict.
-
 use crate::faults::TraceFault;
 use mx_cli::CommandError;
 
 /// Why there is no verdict.
 #[derive(Clone, Copy)]
-pub enum JudgeError {
+pub(crate) enum JudgeError {
     /// A file, the plan, an output or memory stopped the command.
     Command(CommandError),
     /// The trace has a fault.

@@ -8,16 +8,14 @@ use std::fmt;
 
 /// The fault of a line of a trace, or of an item of an array.
 #[derive(Clone, Copy)]
-pub enum ItemFault {
+pub(crate) enum ItemFault {
     /// It is not valid JSON, or not valid UTF-8.
     NotJson,
     /// It is not an object of an event, a parcel, a node or a verdict.
     NotEvent,
-    /// This member of an event is missing or wrong.
     Wrong(Member),
     /// There are 1,000,000 events before it.
     TooMany,
-    /// Memory ran out. This is no fault of the item.
     Memory,
 }
 
@@ -37,19 +35,14 @@ impl fmt::Display for ItemFault {
 
 /// The fault of a trace. Lines and items are numbered from 1.
 #[derive(Clone, Copy)]
-pub enum TraceFault {
-    /// The array is not valid JSON, or not valid UTF-8.
+pub(crate) enum TraceFault {
     NotJson,
-    /// The line of this number has this fault.
     Line(u64, ItemFault),
-    /// The item of this number has this fault.
     Item(u64, ItemFault),
-    /// Memory ran out. This is no fault of the trace.
     Memory,
 }
 
 impl TraceFault {
-    /// Returns the fault of the line of this number.
     pub(crate) fn of_line(number: u64, fault: ItemFault) -> TraceFault
         ensures { result ≡ line_fault number fault }
     {
@@ -59,7 +52,6 @@ impl TraceFault {
         }
     }
 
-    /// Returns the fault of the item of this number.
     pub(crate) fn of_item(number: u64, fault: ItemFault) -> TraceFault
         ensures { result ≡ list_fault number fault }
     {

@@ -21,13 +21,7 @@ use mx_plan::Plan;
 use std::alloc::Global;
 
 /// Runs `judge`: reads a plan and a trace, and prints the verdict on the trace. `words` is the
-/// command line without the program's name. Returns the exit status:
-///
-/// - 0 if the trace is sound, or if help was requested;
-/// - 1 for an error in the plan, the trace, a file or an output;
-/// - 2 for arguments that are not those of `judge`;
-/// - 4 if the trace is broken;
-/// - 5 if memory ran out.
+/// command line without the program's name. Returns the exit status.
 pub fn judge_trace<S: Source, O: Output, E: Output>(
     alloc: Global,
     words: &[&str],
@@ -48,8 +42,6 @@ pub fn judge_trace<S: Source, O: Output, E: Output>(
     }
 }
 
-/// Judges the trace that `names` names, then flushes `out` and reports an error as `close` does.
-/// Returns the exit status.
 fn judge_and_close<S: Source, O: Output, E: Output>(
     alloc: Global,
     names: &Names<'_>,
@@ -65,8 +57,6 @@ fn judge_and_close<S: Source, O: Output, E: Output>(
     close_judged(alloc, ended, names, out, err)
 }
 
-/// Flushes the output, and writes why there is no verdict if there is none. Returns the exit
-/// status.
 fn close_judged<O: Output, E: Output>(
     alloc: Global,
     ended: Result<u8, JudgeError>,
@@ -87,7 +77,6 @@ fn close_judged<O: Output, E: Output>(
     }
 }
 
-/// Reads a plan and a trace, prints the verdict, and returns the exit status for it.
 fn judge_names<S: Source, O: Output>(
     alloc: Global,
     names: &Names<'_>,
@@ -104,7 +93,6 @@ fn judge_names<S: Source, O: Output>(
     }
 }
 
-/// Prints the verdict on the trace in `text`, and returns the exit status for it.
 fn judge_text<O: Output>(
     alloc: Global,
     plan: &Plan,
@@ -121,7 +109,6 @@ fn judge_text<O: Output>(
     }
 }
 
-/// Prints a verdict, and returns the exit status for it.
 fn print_verdict<O: Output>(alloc: Global, verdict: Verdict, out: &mut O) -> Result<u8, JudgeError>
     ensures ok { IfOk result (λ status. (status ≡ verdict_status verdict)
         × Appends (O.written out.old) (O.written out.new) (verdict_line verdict)) }

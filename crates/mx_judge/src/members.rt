@@ -7,9 +7,8 @@ ghost use Rattle.mx_judge.specs.Members as spec;
 use crate::faults::ItemFault;
 use serde_json::Value;
 
-/// A member of the object of an event.
 #[derive(Clone, Copy)]
-pub enum Member {
+pub(crate) enum Member {
     Act,
     Node,
     From,
@@ -24,8 +23,7 @@ pub enum Member {
 }
 
 impl Member {
-    /// Returns the key of the member.
-    pub fn key(self) -> &'static str
+    pub(crate) fn key(self) -> &'static str
         ensures { result.now ≡ spec.key_of self }
     {
         match self {
@@ -43,8 +41,7 @@ impl Member {
         }
     }
 
-    /// Returns the message for a member that is missing or wrong.
-    pub fn message(self) -> &'static str
+    pub(crate) fn message(self) -> &'static str
         ensures { result.now ≡ spec.message_of self }
     {
         match self {
@@ -58,14 +55,12 @@ impl Member {
     }
 }
 
-/// Returns whether an object has a member of this key.
 pub(crate) fn has_member(value: &Value, key: &str) -> bool
     ensures { result ≡ spec.has_member key.now (view value.now) }
 {
     value.get(key).is_some()
 }
 
-/// Returns the text of a member, empty if it is missing or no text.
 pub(crate) fn text_at(value: &Value, member: Member) -> &str
     ensures { result.now ≡ spec.text_at member (view value.now) }
 {
@@ -75,11 +70,6 @@ pub(crate) fn text_at(value: &Value, member: Member) -> &str
         .unwrap_or("")
 }
 
-/// Returns the number of a member, a `u64` value.
-///
-/// # Errors
-///
-/// Returns `Wrong` with the member if it is missing or no such number.
 pub(crate) fn number_at(value: &Value, member: Member) -> Result<u64, ItemFault>
     ensures { result ≡ spec.number_at member (view value.now) }
 {

@@ -13,18 +13,12 @@ use mx_stamps::{NodeId, Stamp};
 use mx_trace::{Cause, Outcome};
 use serde_json::Value;
 
-/// Reads the outcome of `event` from its JSON object: a refusal, or the outcome of this kind of
-/// event if it is not refused.
-///
-/// # Errors
-///
-/// Returns `Wrong` with the first member that is missing or wrong.
 pub(crate) fn outcome_in(event: &Event, value: &Value) -> Result<Outcome, ItemFault>
     ensures { result ≡ spec.outcome_of event.now (view value.now) }
 {
     let word = text_at(value, Member::Outcome);
     if word == "refused" {
-        return refusal(value);
+        return Ok(Outcome::Refused(cause_in(value)?));
     }
     if word == word_of_done(event.kind()) {
         return done(event, value);
@@ -32,7 +26,6 @@ pub(crate) fn outcome_in(event: &Event, value: &Value) -> Result<Outcome, ItemFa
     Err(ItemFault::Wrong(Member::Outcome))
 }
 
-/// Returns the first word of the outcome of an event that was not refused.
 fn word_of_done(kind: EventKind) -> &'static str
     ensures { result.now ≡ spec.word_of_done kind }
 {
@@ -50,12 +43,17 @@ fn word_of_done(kind: EventKind) -> &'static str
     }
 }
 
-/// Reads the outcome of an event that was not refused.
 fn done(event: &Event, value: &Value) -> Result<Outcome, ItemFault>
     ensures { result ≡ spec.done event.now (view value.now) }
 {
     match event {
-        Event::Ask(node) => asked(*node, value),
+        Event::Ask(node) => {
+            let number = number_at(value, Member::Number)?;
+            Ok(Outcome::Asked(Stamp {
+                number,
+                node: *node,
+            }))
+        }
         Event::Enter(_) => Ok(Outcome::Entered(number_at(value, Member::Number)?)),
         Event::Read(_, _) => Ok(Outcome::Value(number_at(value, Member::Value)?)),
         Event::Write(_, _, _) => Ok(Outcome::Written),
@@ -70,16 +68,7 @@ fn done(event: &Event, value: &Value) -> Result<Outcome, ItemFault>
     }
 }
 
-/// Reads the outcome of an ask: the stamp of this node's request.
-fn asked(node: NodeId, value: &Value) -> Result<Outcome, ItemFault>
-    ensures { result ≡ spec.asked node (view value.now) }
-{
-    let number = number_at(value, Member::Number)?;
-    Ok(Outcome::Asked(Stamp { number, node }))
-}
-
-/// Reads the outcome of a leave. Its receipt has no reads and no writes, since the judge does not
-/// use them.
+/// The receipt has no reads and no writes, since the judge does not use them.
 fn left(node: NodeId, value: &Value) -> Result<Outcome, ItemFault>
     ensures { result ≡ spec.left node (view value.now) }
 {
@@ -92,14 +81,6 @@ fn left(node: NodeId, value: &Value) -> Result<Outcome, ItemFault>
     }))
 }
 
-/// Reads a refusal, by its cause.
-fn refusal(value: &Value) -> Result<Outcome, ItemFault>
-    ensures { result ≡ spec.refusal (view value.now) }
-{
-    Ok(Outcome::Refused(cause_in(value)?))
-}
-
-/// Reads the cause of a refusal. The causes `gap` and `below` have a number.
 fn cause_in(value: &Value) -> Result<Cause, ItemFault>
     ensures { result ≡ spec.cause_in (view value.now) }
 {

@@ -18,13 +18,7 @@ use serde_json::Value;
 use std::alloc::Global;
 
 /// Reads a trace of at most 1,000,000 events: a JSON array if the text begins with `[`, perhaps
-/// after blanks, and otherwise lines, each a JSON object or blank. Objects of parcels, nodes and
-/// verdicts are skipped.
-///
-/// # Errors
-///
-/// Returns the first fault, with the number of its line or item, or `NotJson` for an array that is
-/// not valid JSON. Returns `Memory` if memory runs out.
+/// after blanks, and otherwise lines, each a JSON object or blank.
 pub(crate) fn read_trace(alloc: Global, text: &[u8], plan: &Plan) -> Result<Vec<Entry>, TraceFault>
     ensures { spec.Gives (spec.trace_at plan.now text.now) result }
 {
@@ -35,7 +29,6 @@ pub(crate) fn read_trace(alloc: Global, text: &[u8], plan: &Plan) -> Result<Vec<
     }
 }
 
-/// Returns whether the first byte that is not blank is `[`.
 fn begins_array(text: &[u8]) -> bool
     ensures { result ≡ spec.begins_array text.now }
 {
@@ -45,28 +38,24 @@ fn begins_array(text: &[u8]) -> bool
     }
 }
 
-/// Returns the first byte that is not blank.
 fn first_mark(text: &[u8]) -> Option<&u8>
     ensures { option_map (λ byte. byte.now) result ≡ spec.first_mark text.now }
 {
     text.iter().find(|byte| !is_blank(**byte))
 }
 
-/// Returns whether a byte is a space, a tab, a line feed or a carriage return.
 fn is_blank(byte: u8) -> bool
     ensures { result ≡ spec.is_blank byte }
 {
     byte == b' ' || byte == b'\t' || byte == b'\n' || byte == b'\r'
 }
 
-/// Returns whether all bytes are blank.
 fn is_blank_line(line: &[u8]) -> bool
     ensures { result ≡ list_all spec.is_blank line.now }
 {
     line.iter().all(|byte| is_blank(*byte))
 }
 
-/// Reads the entries that a JSON array describes.
 fn read_array(alloc: Global, text: &[u8], plan: &Plan) -> Result<Vec<Entry>, TraceFault>
     ensures { spec.Gives (spec.array_at plan.now text.now) result }
 {
@@ -77,7 +66,6 @@ fn read_array(alloc: Global, text: &[u8], plan: &Plan) -> Result<Vec<Entry>, Tra
     }
 }
 
-/// Returns the items of an array, none for any other value.
 fn items_in(value: &Value) -> &[Value]
     ensures { map view result.now ≡ list_in (view value.now) }
 {
@@ -87,7 +75,6 @@ fn items_in(value: &Value) -> &[Value]
     }
 }
 
-/// Reads the entries that these items of an array describe.
 fn read_items(alloc: Global, items: &[Value], plan: &Plan) -> Result<Vec<Entry>, TraceFault>
     ensures { spec.Gives
         (spec.entries_from list_fault [] 1 (map (item_of plan.now) (map view items.now))) result }
@@ -101,7 +88,6 @@ fn read_items(alloc: Global, items: &[Value], plan: &Plan) -> Result<Vec<Entry>,
     Ok(entries)
 }
 
-/// Reads the entries that the lines of a text describe.
 fn read_lines(alloc: Global, text: &[u8], plan: &Plan) -> Result<Vec<Entry>, TraceFault>
     ensures { spec.Gives (spec.lines_at plan.now text.now) result }
 {
@@ -121,8 +107,6 @@ fn read_lines(alloc: Global, text: &[u8], plan: &Plan) -> Result<Vec<Entry>, Tra
     }
 }
 
-/// Reads the entry that a line describes. Returns `None` for a blank line, or the object of a
-/// parcel, a node or a verdict.
 #[tactic(auto, unfolding(crate::specs::Traces::line_item))]
 fn line_in(alloc: Global, plan: &Plan, line: &[u8]) -> Result<Option<Entry>, ItemFault>
     ensures { spec.Answers (spec.line_item plan.now line.now) result }
@@ -136,7 +120,6 @@ fn line_in(alloc: Global, plan: &Plan, line: &[u8]) -> Result<Option<Entry>, Ite
     }
 }
 
-/// Parses a text of JSON.
 #[tactic(auto, unfolding(mx_plan::specs::Values::value_of))]
 fn parse(alloc: Global, text: &[u8]) -> Result<Value, ItemFault>
     ensures ok { IfOk result (λ v. value_of text.now ≡ Some (view v)) }
@@ -150,8 +133,6 @@ fn parse(alloc: Global, text: &[u8]) -> Result<Value, ItemFault>
     }
 }
 
-/// Adds the entry of an item, if it has one. Fails if the item has a fault, or if there are
-/// 1,000,000 entries already.
 fn add_item(
     entries: &mut Vec<Entry>,
     item: Result<Option<Entry>, ItemFault>,

@@ -9,13 +9,6 @@ use clap::{ArgMatches, Error};
 use mx_cli::{CommandId, Names, matches_in, text_at};
 use std::alloc::Global;
 
-/// Parses a command line that begins with `judge`, and returns the names of the plan and of the
-/// trace.
-///
-/// # Errors
-///
-/// Returns the error of `clap` for wrong arguments, and also, with the text to show, if help is
-/// requested.
 pub(crate) fn parse<'a>(alloc: Global, words: &'a [&'a str]) -> Result<Option<Names<'a>>, Error>
     ensures { Asks names_of judge_line (texts_of words.entry.now)
         (names_asked (texts_of words.entry.now)) result }
@@ -24,7 +17,6 @@ pub(crate) fn parse<'a>(alloc: Global, words: &'a [&'a str]) -> Result<Option<Na
     Ok(from_matches(&matches))
 }
 
-/// Returns the names of the plan and of the trace, or `None` for another command.
 fn from_matches<'a>(matches: &ArgMatches<'a>) -> Option<Names<'a>>
     ensures { option_map names_of result ≡ names_in (subcommand_rows_of matches.now) }
 {
@@ -34,7 +26,7 @@ fn from_matches<'a>(matches: &ArgMatches<'a>) -> Option<Names<'a>>
     }
 }
 
-/// Returns what `judge` names: the plan, and the trace in the place of events.
+/// The trace takes the place of events.
 fn judge_in<'a>(matches: &ArgMatches<'a>) -> Option<Names<'a>>
     ensures { option_map names_of result ≡ judge_in (rows_of (found_of matches.now)) }
 {

@@ -1,5 +1,5 @@
 -- What standard error gets of how far a run has come.
-use Rattle.std.proofs.Common.{◌≡◌, ◌∙◌, Bool, true, false, ℕ, List, [], ◌∷◌, ◌++◌, ap, map, Result, Ok, Err, OnErr, OnOk, refl, sym, subst}
+use Rattle.std.proofs.Common.{◌≡◌, ◌∙◌, Bool, ℕ, List, [], ◌∷◌, ◌++◌, ap, map, Result, Ok, Err, OnErr, OnOk, refl, sym, subst}
 use Rattle.std.proofs.lemmas.List.{map-append}
 use Rattle.std.specs.Io.KnownBytes.{Appends, Keeps}
 use Rattle.std.specs.List.{concat}
@@ -29,13 +29,6 @@ more_told a b c one more = (
     lines_append : (xs ys : List ℕ) → progress_lines (xs ++ ys) ≡ concat (map progress_line xs ++ map progress_line ys)
     lines_append xs ys = ap (λ (ts : List Text). concat ts) (map-append progress_line xs ys)
 
-true_false : true ≡ false → ⊥
-true_false e = cc
-
 -- nothing is told
 pub tells_none : (asked : Bool) (held : Held) → TellsProgress asked held held
 tells_none asked held = ([], Appends-nil held, λ not. refl)
-
--- it was asked for
-pub tells_asked : (asked : Bool) (old new : Held) → asked ≡ true → Progresses old new → TellsProgress asked old new
-tells_asked asked old new is told = (told.0, told.1, λ not. absurd (true_false (sym is ∙ not)))

@@ -9,7 +9,7 @@ use std::alloc::{AllocError, Global};
 use std::fmt;
 
 /// Why a live run ends without a journal.
-#[derive(Clone, Copy, PartialEq, Eq)]
+#[derive(Clone, Copy)]
 pub enum LiveError {
     /// The plan can't be read, or is refused.
     Plan(Fault),
@@ -111,15 +111,13 @@ pub fn report_error<E: Output>(alloc: Global, error: LiveError, plan: &str, err:
     ensures { ReportsError (E.takes_all err.old) plan.now error
         (E.written err.old) (E.written err.new) result }
 {
-    if error == LiveError::Writer {
-        return 1;
-    }
-    if error == LiveError::Memory {
-        return report_memory(err);
+    match error {
+        LiveError::Writer => return 1,
+        LiveError::Memory => return report_memory(err),
+        _ => {}
     }
     match write_line(alloc, err, LiveErrorLine { error, plan }) {
-        Ok(()) => error.status(),
-        Err(OutputFault::Refused) => error.status(),
+        Ok(()) | Err(OutputFault::Refused) => error.status(),
         Err(OutputFault::Memory) => report_memory(err),
     }
 }

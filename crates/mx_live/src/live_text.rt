@@ -1,9 +1,9 @@
 //! What a live run prints.
 
-ghost use Rattle.std.specs.Prelude.{◌≡◌, ◌++◌, Some, codes, string_bytes, OnOk};
-ghost use Rattle.mx_format.specs.EventTexts.{register_name_of};
+ghost use Rattle.std.specs.Prelude.{◌≡◌, ◌++◌, Some, string_bytes, OnOk};
 ghost use Rattle.mx_live.specs.Shown.{live_text, number_line, value_lines};
 
+use mx_format::register_name_of;
 use mx_journal::Journal;
 use mx_plan::Plan;
 use mx_registers::view;
@@ -56,16 +56,10 @@ fn add_values(plan: &Plan, journal: &Journal, text: &mut String) -> Result<(), A
     let shown = view(journal, plan.registers());
     for register in 0..plan.registers() {
         text.write(NumberLine {
-            name: name_of(plan, register),
+            name: register_name_of(plan, register),
             sign: "=",
             number: shown.value(register).unwrap_or(0),
         })?;
     }
     Ok(())
-}
-
-fn name_of(plan: &Plan, register: u8) -> &str
-    ensures { result.now ≡ register_name_of plan.now register }
-{
-    plan.register_name(register).unwrap_or("")
 }

@@ -63,15 +63,8 @@ fn report_progress<C: Exclusion, K: Clock, E: Output>(
         if is_over(clock, workers) {
             return;
         }
-        report_sections(alloc, watch.sections(), err);
+        let _ = write_line(alloc, err, ProgressLine(watch.sections()));
     }
-}
-
-fn report_sections<E: Output>(alloc: Global, sections: u64, err: &mut E)
-    ensures progress { Progresses (E.written err.old) (E.written err.new) }
-    ensures stays { E.takes_all err.new ≡ E.takes_all err.old }
-{
-    let _ = write_line(alloc, err, ProgressLine(sections));
 }
 
 /// Waits for a second, or until all workers have ended. Returns whether they have.

@@ -1,5 +1,5 @@
 -- What a sound world says of its members: who is inside, and what their journals show.
-use Rattle.std.proofs.Common.{ℕ, ◌<◌, ◌≤◌, ◌≡◌, List, [], ◌∷◌, Result, Ok, Err, length, nat_le, nat_lt, refl, subst, arith, if◌then◌else◌}
+use Rattle.std.proofs.Common.{ℕ, ◌<◌, ◌≤◌, ◌≡◌, List, Result, Ok, Err, length, nat_le, nat_lt, refl, subst, arith, if◌then◌else◌}
 use Rattle.mx_stamps.proofs.Choices.{le_true}
 use Rattle.mx_stamps.proofs.Lists.{cond_case}
 use Rattle.mx_nodelaws.specs.World.{World, Quiet}
@@ -18,16 +18,12 @@ use Rattle.mx_member.specs.Journals.{IsJournalOf}
 use Rattle.mx_member.specs.Member.{MemberState, first_gap, with_draft}
 use Rattle.mx_member.specs.Steps.{read_at, read_of, refusing, shown_inside}
 use Rattle.mx_trace.specs.Sections.{Section, oldest, section_journal, writes_in}
-use Rattle.mx_member.specs.World.{IsDraftOf, IsMember, IsSound, core_part}
+use Rattle.mx_member.specs.World.{IsMember, IsSound, core_part}
 use Rattle.mx_member.proofs.CorePart.{get_map}
 use Rattle.mx_member.proofs.EntrySteps.{drafted, journal_rest}
 use Rattle.mx_member.proofs.OfSections.{journals_of_one}
 use Rattle.mx_member.proofs.SectionLists.{base_high, journal_ascends}
 use Rattle.mx_member.proofs.SectionWrites.{covered_shows}
-
-newest_number : {S : Type 0} (m : MemberState S) (n : ℕ) (ss : List Section) → IsDraftOf m n ss → n ≡ length ss
-newest_number m n [] d = absurd d
-newest_number m n (s ∷ ss) d = d.1
 
 module _ {H S M : Type 0} (core : Core H S M) (IsShape : H → Type 0) (Good : World S M → Type 0) (laws : KeepsGood core IsShape Good) where
   -- no two members are inside together
@@ -37,10 +33,6 @@ module _ {H S M : Type 0} (core : Core H S M) (IsShape : H → Type 0) (Good : W
       laws.one_inside (core_part members sent) i j m.core k.core sound.good (get_map (λ (x : MemberState S). x.core) members i m a) (get_map (λ (x : MemberState S). x.core) members j k b)
 
 module _ {H S M : Type 0} (core : Core H S M) (Good : World S M → Type 0) (ss : List Section) (members : List (MemberState S)) (sent : List (ℕ × ℕ × Parcel M)) (sound : IsSound core Good ss members sent) where
-  -- a member that is inside is inside the section that was entered last
-  pub inside_newest : (i n : ℕ) (m : MemberState S) → IsMember members i m → core.phase m.core ≡ Inside n → n ≡ length ss
-  inside_newest i n m at h = newest_number m n ss (sound.inside i n m at h)
-
   -- no base reaches the section that its node is inside
   pub never_settled : (i n : ℕ) (m : MemberState S) → IsMember members i m → core.phase m.core ≡ Inside n → m.journal.base.upto < n
   never_settled i n m at h =

@@ -1,16 +1,11 @@
 -- Histories mark by mark: one after the other, and what a history that fits says of entries.
 use Rattle.std.proofs.Common.{ℕ, suc, ◌≡◌, not, ◌&&◌, List, [], ◌∷◌, ◌++◌, Option, Some, None, length, nat_eq, refl, sym, ap, subst, if◌then◌else◌}
 use Rattle.mx_stamps.proofs.Lists.{cond_case}
-use Rattle.mx_nodelaws.specs.World.{World}
-use Rattle.mx_nodelaws.specs.Core.{Core}
 use Rattle.mx_journal.specs.declared.receipts.Receipt.{Receipt}
 use Rattle.mx_journal.specs.Drafted.{with_read, with_write, fresh}
 use Rattle.mx_journal.proofs.Choices.{cond_true, cond_false}
-use Rattle.mx_member.specs.declared.parcel.Parcel.{Parcel}
-use Rattle.mx_member.specs.Member.{MemberState}
 use Rattle.mx_trace.specs.Sections.{Came, Got, Mark, Section, Went, Woke, Wrote, after_mark, after_marks, at_open, closing, opened, redrafted}
 use Rattle.mx_trace.specs.Serial.{AllClosed, AllFit, Alternate, NumberedFrom}
-use Rattle.mx_member.specs.World.{IsSound}
 use Rattle.mx_member.proofs.SectionLists.{at_open_newest, at_open_none, length_at_open}
 
 -- the sections after two histories, one behind the other
@@ -22,13 +17,6 @@ after_marks-append ss (m ∷ ms) ns = after_marks-append (after_mark ss m) ms ns
 pub AllFit-append : (ss : List Section) (ms ns : List Mark) → AllFit ss ms → AllFit (after_marks ss ms) ns → AllFit ss (ms ++ ns)
 AllFit-append ss [] ns a b = b
 AllFit-append ss (m ∷ ms) ns a b = (a.0, AllFit-append (after_mark ss m) ms ns a.1 b)
-
--- what an act tells, behind a history that fits and leaves a sound world
-pub history_kept : {H S M : Type 0} (core : Core H S M) (Good : World S M → Type 0) (ss : List Section) (ms ns : List Mark) (members : List (MemberState S)) (sent : List (ℕ × ℕ × Parcel M)) →
-    AllFit ss ms → AllFit (after_marks ss ms) ns → IsSound core Good (after_marks (after_marks ss ms) ns) members sent →
-    AllFit ss (ms ++ ns) × IsSound core Good (after_marks ss (ms ++ ns)) members sent
-history_kept core Good ss ms ns members sent a b sound =
-    (AllFit-append ss ms ns a b, subst (λ l. IsSound core Good l members sent) (sym (after_marks-append ss ms ns)) sound)
 
 -- a mark that enters nothing leaves the next number
 same_next : (i : ℕ) (f : Section → Section) (ss : List Section) (ms : List Mark) → NumberedFrom (suc (length (at_open i f ss))) ms → NumberedFrom (suc (length ss)) ms

@@ -1,5 +1,5 @@
 -- The join of all nodes' journals, made of one after another.
-use Rattle.std.proofs.Common.{ℕ, zero, suc, ◌+◌, ◌<◌, ◌≡◌, ◌⊎◌, inl, inr, List, [], ◌∷◌, ◌++◌, Some, length, take, slice_get, refl, sym, ◌∙◌, ap, subst, arith}
+use Rattle.std.proofs.Common.{ℕ, ◌+◌, ◌≡◌, ◌⊎◌, inl, inr, List, [], ◌∷◌, ◌++◌, length, take, refl, sym, ◌∙◌, ap, subst, arith}
 use Rattle.mx_stamps.specs.Lists.{IsIn}
 use Rattle.mx_stamps.proofs.Lists.{get_append_left, get_at_end, get_snoc, none_is_no_some, take_at}
 use Rattle.mx_journal.specs.declared.records.Record.{Record}
@@ -14,7 +14,7 @@ use Rattle.mx_nodelaws.specs.World.{World}
 use Rattle.mx_nodelaws.specs.Core.{Core}
 use Rattle.mx_member.specs.declared.parcel.Parcel.{Parcel}
 use Rattle.mx_member.specs.Journals.{IsBaseOf, IsJournalOf}
-use Rattle.mx_member.specs.Running.{IsAboveNodes, IsJoinOfNodes, IsNode, IsRunning, Owned}
+use Rattle.mx_member.specs.Running.{IsJoinOfNodes, IsNode, IsRunning, Owned}
 use Rattle.mx_trace.specs.Sections.{section_journal}
 use Rattle.mx_member.proofs.OfSections.{journals_of_one, origin_of}
 use Rattle.mx_member.proofs.Running.{member_at}
@@ -76,13 +76,6 @@ join_more {S} nodes o all new join made bound = record {
 pub join_next : {S : Type 0} (nodes : List (Owned S)) (k : ℕ) (o : Owned S) (all new : JournalState) → IsNode nodes k o → IsJoinOfNodes (take k nodes) all → new ≡ joined o.member.journal all → IsLeastJournal all o.member.journal new → IsJoinOfNodes (take (k + 1) nodes) new
 join_next nodes k o all new at join made bound = subst (λ ns. IsJoinOfNodes ns new) (sym (take_at nodes k o at)) (join_more (take k nodes) o all new join made bound)
 
--- an element of the first ones
-get_first : {X : Type 0} (xs : List X) (k j : ℕ) (x : X) → slice_get (take k xs) j ≡ Some x → slice_get xs j ≡ Some x
-get_first xs zero j x h = absurd (none_is_no_some x h)
-get_first [] (suc k) j x h = absurd (none_is_no_some x h)
-get_first (y ∷ ys) (suc k) zero x h = h
-get_first (y ∷ ys) (suc k) (suc j) x h = get_first ys k j x h
-
 module _ {H S M : Type 0} (core : Core H S M) (Good : World S M → Type 0) (nodes : List (Owned S)) (sent : List (ℕ × ℕ × Parcel M)) (running : IsRunning core Good nodes sent) where
   -- the sections that were left
   abbrev its_sections : List Record
@@ -108,27 +101,6 @@ module _ {H S M : Type 0} (core : Core H S M) (Good : World S M → Type 0) (nod
   joins_agree some i o all within join at =
       journals_of_one its_sections all o.member.journal (journal_ascends running.sections) (join_of_sections some all within join) (node_of i o at)
 
-  -- so does that of the first ones
-  pub first_agree : (k i : ℕ) (o : Owned S) (all : JournalState) → IsJoinOfNodes (take k nodes) all → IsNode nodes i o → DoAgree all o.member.journal
-  first_agree k i o all join at = joins_agree (take k nodes) i o all (λ j p here. (j, get_first nodes k j p here)) join at
-
   -- the join of all
   pub whole_of_sections : (all : JournalState) → IsJoinOfNodes nodes all → IsJournalOf its_sections all
   whole_of_sections all join = join_of_sections nodes all (λ j p here. (j, here)) join
-
--- the join is below each journal that is above an empty one and those of the nodes
-pub join_least : {S : Type 0} (nodes : List (Owned S)) (all other : JournalState) → IsJoinOfNodes nodes all → IsWithin (unsettled []) other → IsAboveNodes nodes other → IsWithin all other
-join_least nodes all other join empty above = elim join.base [
-  | inl none ↦
-      let l = empty.upto in
-      let zero : all.base.upto ≡ 0 = ap (λ (b : BaseState). b.upto) none in
-      record { upto = omega arith; base = λ e. none ∙ empty.base (omega arith); records = rest }
-  | inr w ↦
-      let a = above w.0 w.1 w.2 in
-      let l = a.upto in
-      let same : all.base.upto ≡ w.1.member.journal.base.upto = ap (λ (b : BaseState). b.upto) w.3 in
-      record { upto = omega arith; base = λ e. w.3 ∙ a.base (omega arith); records = rest }
-]
-  where
-    rest : (x : Record) → IsIn x all.records → other.base.upto < x.number → IsIn x other.records
-    rest x h past = let w = join.records x h in (above w.0 w.1 w.2).records x w.3 past

@@ -1,8 +1,8 @@
 -- What every world keeps. ActsKept: each act of one member. AtRest: the world at rest.
--- Histories: whole histories. Consequences: the journals of a sound world. HeldReads: what serial
--- reads show. Inside: who is inside, by the sections. Refused: refused acts. Shown: small histories that the definitions accept and refuse. Running: worlds whose nodes
--- hold their own receipts. RunningTells: what they tell. RunningStays: what stays. Joining: the join of
--- all journals. Owners: where the sections are known. Sharing: nodes shared out among threads.
+-- Histories: whole histories. Consequences: the journals of a sound world. Inside: who is inside, by the
+-- sections. Refused: refused acts. Shown: small histories that the definitions refuse. Running: worlds whose
+-- nodes hold their own receipts. RunningTells: what they tell. Joining: the join of all journals.
+-- Owners: where the sections are known.
 -- The others are the way there, lowest first. Phases: phases. CorePart: the core part of worlds.
 -- OfSections: bases and journals of the sections. SectionLists: sections and their journal. Covering: what
 -- journals go on covering. SectionWrites: what the sections wrote. AnyOrder: registers, whatever the order of records.
@@ -30,7 +30,6 @@ pub mod ActsKept
 pub mod AtRest
 pub mod Histories
 pub mod Consequences
-pub mod HeldReads
 pub mod Inside
 pub mod Refused
 pub mod Shown
@@ -41,9 +40,7 @@ pub mod ReceiptHistory
 pub mod Running
 pub mod RunningTells
 pub mod Joining
-pub mod RunningStays
 pub mod Owners
-pub mod Sharing
 pub mod CoreDone
 pub mod Guarded
 pub mod Choosing

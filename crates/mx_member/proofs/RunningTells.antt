@@ -1,13 +1,11 @@
 -- What a running world tells: who is inside, what can be done, what the receipts of all nodes are, and what the
 -- join of all journals has.
-use Rattle.std.proofs.Common.{ℕ, zero, suc, ◌<◌, ◌≤◌, ◌≡◌, ◌↔◌, ◌⊎◌, inl, inr, List, [], ◌∷◌, Some, length, slice_get, refl, sym, ◌∙◌, ap, subst, arith}
-use Rattle.std.proofs.lemmas.Option.{same_Some}
+use Rattle.std.proofs.Common.{ℕ, suc, ◌<◌, ◌≤◌, ◌≡◌, ◌↔◌, List, Some, length, refl, sym, ◌∙◌, ap, subst, arith}
 use Rattle.mx_stamps.specs.Lists.{IsIn}
-use Rattle.mx_stamps.proofs.Lists.{greatest_below, in_get, none_is_no_some}
+use Rattle.mx_stamps.proofs.Lists.{greatest_below, in_get}
 use Rattle.mx_nodelaws.specs.World.{World}
 use Rattle.mx_nodelaws.specs.Core.{Core, IsInside}
-use Rattle.mx_nodelaws.specs.Laws.{KeepsGood, greatest_mine}
-use Rattle.mx_nodelaws.specs.declared.phase.Phase.TheVariants.{Inside}
+use Rattle.mx_nodelaws.specs.Laws.{KeepsGood}
 use Rattle.mx_journal.specs.declared.records.Record.{Record}
 use Rattle.mx_journal.specs.declared.receipts.Read.{Read}
 use Rattle.mx_journal.specs.declared.receipts.Receipt.{Receipt}
@@ -15,7 +13,7 @@ use Rattle.mx_journal.specs.Drafted.{record_of}
 use Rattle.mx_journal.specs.Records.{Ascending, IsThere, record_at}
 use Rattle.mx_journal.specs.Settled.{Covers, DoAgree, JournalState, settled, unsettled}
 use Rattle.mx_journal.proofs.Found.{above_has}
-use Rattle.mx_journal.proofs.Maps.{ascending_same, found_at}
+use Rattle.mx_journal.proofs.Maps.{found_at}
 use Rattle.mx_registers.specs.Based.{registers_in}
 use Rattle.mx_registers.specs.Registers.{AreApplied, writes_to}
 use Rattle.mx_registers.proofs.Applying.{gapless_view}
@@ -24,29 +22,20 @@ use Rattle.mx_member.specs.declared.acts.Act.TheVariants as act
 use Rattle.mx_member.specs.declared.parcel.Parcel.{Parcel}
 use Rattle.mx_member.specs.Acts.{Arrives, IsDoable}
 use Rattle.mx_member.specs.Journals.{IsJournalOf}
-use Rattle.mx_member.specs.Member.{MemberState}
 use Rattle.mx_member.specs.Receipts.{receipts_in, records_of}
 use Rattle.mx_member.specs.Running.{IsAccount, IsHistory, IsJoinOfNodes, IsNode, IsReceiptAt, IsRunning, Owned, members_of, receipt_count}
 use Rattle.mx_trace.specs.Sections.{section_journal}
 use Rattle.mx_trace.specs.Serial.{IsSerialRead}
 use Rattle.mx_member.specs.Steps.{IsTakeable}
-use Rattle.mx_member.specs.World.{IsMember, core_part}
 use Rattle.mx_member.proofs.ActsKept.{doable}
 use Rattle.mx_member.proofs.Consequences.{journals_agree, one_member_inside}
 use Rattle.mx_member.proofs.Covering.{within_covers}
-use Rattle.mx_member.proofs.EntrySteps.{drafted}
 use Rattle.mx_member.proofs.Joining.{whole_of_sections}
 use Rattle.mx_member.proofs.OfSections.{covered_there, whole_is, whole_registers}
-use Rattle.mx_member.proofs.ReceiptHistory.{history_ascends, history_count, history_each, history_has, history_held, history_once, history_within, in_records, reads_ordered, records_have}
-use Rattle.mx_member.proofs.ReceiptLists.{receipts_journal, receipts_length}
+use Rattle.mx_member.proofs.ReceiptHistory.{history_ascends, history_each, history_has, history_held, history_once, history_within, in_records, reads_ordered, records_have}
+use Rattle.mx_member.proofs.ReceiptLists.{receipts_journal}
 use Rattle.mx_member.proofs.Running.{member_at, members_count, run_history}
 use Rattle.mx_member.proofs.SectionLists.{journal_ascends}
-
--- the node whose member it is
-owner : {S : Type 0} (nodes : List (Owned S)) (i : ℕ) (m : MemberState S) → IsMember (members_of nodes) i m → (o : Owned S) × IsNode nodes i o × (o.member ≡ m)
-owner [] i m at = absurd (none_is_no_some m at)
-owner (o ∷ os) zero m at = (o, refl, same_Some o.member m at)
-owner (o ∷ os) (suc i) m at = owner os i m at
 
 module _ {H S M : Type 0} (core : Core H S M) (IsShape : H → Type 0) (Good : World S M → Type 0) (laws : KeepsGood core IsShape Good) where
   -- at most one node is inside
@@ -90,10 +79,6 @@ module _ {H S M : Type 0} (core : Core H S M) (Good : World S M → Type 0) (nod
   record_known : (i k : ℕ) (r : Receipt) → IsReceiptAt nodes i k r → IsIn (record_of r) sections
   record_known i k r at = records_have all_receipts r (history_has nodes all_receipts its_history i k r at).0
 
-  -- the receipts of all nodes are a history
-  pub some_history : (rs : List Receipt) × IsHistory nodes rs
-  some_history = (all_receipts, its_history)
-
   -- each is its node's, and bears a number from 1 to how many there are
   pub receipt_within : (i k : ℕ) (r : Receipt) → IsReceiptAt nodes i k r → (r.node ≡ i) × (1 ≤ r.number) × (r.number ≤ receipt_count nodes)
   receipt_within = history_within nodes all_receipts its_history
@@ -105,35 +90,6 @@ module _ {H S M : Type 0} (core : Core H S M) (Good : World S M → Type 0) (nod
   -- at one place alone
   pub receipt_once : (i k j l : ℕ) (r s : Receipt) → IsReceiptAt nodes i k r → IsReceiptAt nodes j l s → r.number ≡ s.number → (i ≡ j) × (k ≡ l) × (r ≡ s)
   receipt_once = history_once nodes all_receipts its_history
-
-  -- each node's journal has the record of each of its own receipts, or has settled it
-  pub receipt_recorded : (i k : ℕ) (o : Owned S) (r : Receipt) → IsNode nodes i o → slice_get o.receipts k ≡ Some r → (r.number ≤ o.member.journal.base.upto) ⊎ (record_at r.number o.member.journal.records ≡ Some (record_of r))
-  receipt_recorded i k o r here at =
-      let m = member_at nodes i o here in
-      elim (running.run.recorded i o r here (in_get o.receipts k r at)) [
-        | inl s ↦ inl s.1
-        | inr t ↦
-            let order = running.run.sound.ordered i o.member m in
-            let known : IsIn (record_of r) sections = record_known i k r (o, here, at) in
-            let same : t.0 ≡ record_of r = ascending_same 1 sections sections_ascend t.0 (record_of r) (subst (λ l. IsIn t.0 l) sections_are ((running.run.sound.journals i o.member m).records t.0 t.1)) known t.2 in
-            inr (found_at (suc o.member.journal.base.upto) o.member.journal.records order (record_of r) (subst (λ z. IsIn z o.member.journal.records) same t.1))
-      ]
-
-  -- the node inside is in the section after all those that were left
-  pub inside_next : (i n : ℕ) (o : Owned S) → IsNode nodes i o → core.phase o.member.core ≡ Inside n → n ≡ suc (receipt_count nodes)
-  inside_next i n o here inside =
-      let d = drafted o.member n running.sections (running.run.sound.inside i n o.member (member_at nodes i o here) inside) in
-      let count : receipt_count nodes ≡ length all_receipts = history_count nodes all_receipts its_history in
-      let rest : length all_receipts ≡ length (receipts_in d.0) = ap (λ l. length (receipts_in l)) d.1 in
-      let size : length (receipts_in d.0) ≡ length d.0 = receipts_length d.0 d.3 in
-      omega (arith, d.2)
-
-  -- where nobody is inside, there are as many receipts as sections were entered
-  pub nobody_inside : ((i : ℕ) (o : Owned S) → IsNode nodes i o → IsInside core o.member.core → ⊥) → receipt_count nodes ≡ greatest_mine core (core_part (members_of nodes) sent)
-  nobody_inside none =
-      history_count nodes all_receipts its_history
-      ∙ receipts_length running.sections (running.run.sound.nobody (λ i m at h. let o = owner nodes i m at in none i o.0 o.1 (subst (λ (x : MemberState S). IsInside core x.core) (sym o.2) h)))
-      ∙ running.run.sound.counted
 
   -- the records of all receipts: each is one receipt's
   pub section_of : (x : Record) → IsIn x sections → (i : ℕ) × (k : ℕ) × (r : Receipt) × IsReceiptAt nodes i k r × (x ≡ record_of r)

@@ -4,12 +4,11 @@ use Rattle.mx_stamps.specs.Lists.{IsIn}
 use Rattle.mx_stamps.proofs.Choices.{dec_le}
 use Rattle.mx_stamps.proofs.Lists.{append_nil, cond_case, in_append, in_left, in_right}
 use Rattle.mx_journal.specs.declared.records.Record.{Record}
-use Rattle.mx_journal.specs.Agreement.{AreAgreeing, IsSubmap}
+use Rattle.mx_journal.specs.Agreement.{IsSubmap}
 use Rattle.mx_journal.specs.Drafted.{record_of}
-use Rattle.mx_journal.specs.Records.{Ascending, IsNumbered}
+use Rattle.mx_journal.specs.Records.{Ascending}
 use Rattle.mx_journal.specs.Settled.{Covers, JournalState}
 use Rattle.mx_journal.proofs.Choices.{cond_true, cond_false, eq_is, eq_not, lt_is}
-use Rattle.mx_journal.proofs.Maps.{ascending_above, ascending_same}
 use Rattle.mx_trace.specs.Sections.{Section, at_open, closed_record, oldest, section_journal, section_receipt}
 use Rattle.mx_member.specs.Journals.{IsJournalOf}
 use Rattle.mx_trace.specs.Serial.{AllClosed}
@@ -97,14 +96,6 @@ journal_at_newest s ss x h e = elim (in_append x (section_journal ss) (closed_re
   | inl a ↦ absurd (let l = journal_high ss x a in omega arith)
   | inr b ↦ in_closed (suc (length ss)) s x b
 ]
-
--- journals of the same sections agree
-pub submaps_agree : (ss : List Section) (xs ys : List Record) → IsSubmap xs (section_journal ss) → IsSubmap ys (section_journal ss) → AreAgreeing xs ys
-submaps_agree ss xs ys a b x y h k e = ascending_same 1 (section_journal ss) (journal_ascends ss) x y (a x h) (b y k) e
-
--- and bear numbers from 1 on
-pub submap_numbered : (ss : List Section) (xs : List Record) → IsSubmap xs (section_journal ss) → IsNumbered xs
-submap_numbered ss xs a x h = ascending_above 1 (section_journal ss) (journal_ascends ss) x (a x h)
 
 -- what journals of the sections cover are numbers of sections, and a base stands for no others
 pub covered_high : (ss : List Section) (journal : JournalState) → IsJournalOf (section_journal ss) journal → (n : ℕ) → Covers n journal → n ≤ length ss

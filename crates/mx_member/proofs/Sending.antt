@@ -22,10 +22,6 @@ pub sends_records : {M : Type 0} (i : ℕ) (rs : List Record) → 0 < length rs 
 sends_records i [] l = absurd (omega arith)
 sends_records i (r ∷ rs) l = refl
 
-pub sends_nothing : {M : Type 0} (i : ℕ) (rs : List Record) → length rs ≡ 0 → records_to {M = M} i rs ≡ []
-sends_nothing i [] l = refl
-sends_nothing i (r ∷ rs) l = absurd (omega arith)
-
 -- a base is one parcel at most
 pub base_short : (M : Type 0) (i : ℕ) (ranges : List Range) (journal : JournalState) → length (base_to {M = M} i ranges journal) ≤ 1
 base_short M i ranges journal =

@@ -72,11 +72,6 @@ pub record IsRunning {H S M : Type 0} (core : Core H S M) (Good : World S M → 
   pub sections : List Section
   pub run : IsRun core Good sections nodes sent
 
--- IsRun holds for some list of sections and some parcels sent
-abbrev pub HaveRun : {H S M : Type 0} → Core H S M → (World S M → Type 0) → List (Owned S) → Type 0
-HaveRun {H} {S} {M} core Good nodes =
-    (sent : List (ℕ × ℕ × Parcel M)) × IsRunning core Good nodes sent
-
 -- these receipts, the newest first, are exactly those of the nodes, and are in order
 pub record IsHistory {S : Type 0} (nodes : List (Owned S)) (rs : List Receipt) : Type 0 where
   pub ordered : StandInOrder rs

@@ -1,70 +1,71 @@
-//! The harness of calls that may be refused memory: each is made, checked, and after a refusal made
-//! again.
+//! The harness of calls that may be refused memory: each is made, and after a refusal, if nothing
+//! has changed, made again. What a call returns is what its clauses say. A line that cannot be
+//! printed is missing from the program's output, which is compared.
 
-use crate::report::{back, call, expect, refused};
-use anyhow::Result;
+use crate::bench::{Bench, make, renew_run, set_up, state_of};
+use crate::table::{Call, Row};
+use anyhow::{Result, bail};
+use std::thread::Threads;
 
-/// The result of a call.
-#[derive(Clone, Copy, Debug, PartialEq, Eq)]
+#[derive(Clone, Copy, PartialEq, Eq)]
 pub(crate) enum Outcome {
     Done,
-    /// Memory was refused.
+    /// Memory was refused, and nothing may have changed.
     Refused,
+    /// Memory was refused to the rest of the call, whose first part remains.
+    Partly,
+    /// Turns were spent, since memory was refused to each of them.
+    Spent,
     /// Another fault, or another value than the right one.
     Wrong,
 }
 
-/// Returns the outcome of a call that was not refused memory, and whose result holds.
+use Outcome::{Done, Partly, Refused, Spent, Wrong};
+
 pub(crate) fn done(holds: bool) -> Outcome {
-    if holds { Outcome::Done } else { Outcome::Wrong }
+    if holds { Done } else { Wrong }
 }
 
-/// Something on which calls are made that may be refused memory.
-pub(crate) trait Subject {
-    /// A call, with its arguments.
-    type Call;
-    /// The state that a refused call leaves as it was.
-    type Shown: PartialEq + Drop;
-
-    fn shown(&self) -> Self::Shown;
-
-    /// Makes the call, for the second time if memory was refused to the first.
-    fn make(&mut self, call: &Self::Call, is_again: bool) -> Outcome;
-
-    /// Returns whether the call has done what it has to, from this state.
-    fn is_right(&mut self, call: &Self::Call, before: &Self::Shown) -> bool;
-}
-
-/// Makes the call of this name. If memory is refused, nothing has changed, and the call succeeds the
-/// second time.
-pub(crate) fn make<S: Subject>(
-    rt: &HostRuntime,
-    subject: &mut S,
-    name: &str,
-    wanted: &S::Call,
-) -> Result<()> {
-    let before = subject.shown();
-    call(rt, name);
-    let mut outcome = subject.make(wanted, false);
-    back(rt);
-    if outcome == Outcome::Refused {
-        refused(rt, name, subject.shown() == before)?;
-        outcome = subject.make(wanted, true);
+/// Returns the outcome of a call whose fault, if any, is that memory ran out, or not.
+pub(crate) fn ended(for_memory: Option<bool>) -> Outcome {
+    match for_memory {
+        None => Done,
+        Some(true) => Refused,
+        Some(false) => Wrong,
     }
-    expect(
-        name,
-        outcome == Outcome::Done && subject.is_right(wanted, &before),
-    )
 }
 
-/// Makes calls, each with its name, one after another.
-pub(crate) fn make_each<S: Subject>(
-    rt: &HostRuntime,
-    subject: &mut S,
-    calls: &[(&str, S::Call)],
-) -> Result<()> {
-    for (name, wanted) in calls {
-        make(rt, subject, *name, wanted)?;
+pub(crate) fn expect(name: &str, holds: bool) -> Result<()> {
+    if !holds {
+        bail!("{name} is not as it should be");
     }
     Ok(())
+}
+
+/// Does what a row says with the call of this name.
+pub(crate) fn step<R: Threads>(
+    rt: &HostRuntime,
+    threads: &R,
+    bench: &mut Bench,
+    name: &str,
+    call: Call,
+    row: Row,
+) -> Result<()> {
+    if !set_up(bench, row)? {
+        return Ok(());
+    }
+    let before = state_of(bench)?;
+    let _ = println!(rt; "call {name}");
+    let mut outcome = make(threads, bench, call, row, false);
+    let _ = println!(rt; "back");
+    if outcome == Refused || outcome == Partly {
+        let _ = println!(rt; "refused {name}");
+        expect(name, row.takes_memory())?;
+        expect(name, outcome == Partly || state_of(bench)? == before)?;
+    }
+    if outcome == Refused || outcome == Partly || outcome == Spent {
+        renew_run(bench)?;
+        outcome = make(threads, bench, call, row, true);
+    }
+    expect(name, outcome == Done)
 }

@@ -5,22 +5,32 @@
 //! refused, refuses the mutant `always_out_of_memory`.
 #![tactic(auto)]
 
-mod clusters;
+mod bench;
 mod harness;
 mod jobs;
-mod journals;
-mod members;
-mod report;
+mod nodes;
 mod stations;
+mod table;
 mod values;
 
+use crate::bench::{new_bench, set_up};
+use crate::harness::step;
+use crate::table::{Row, TABLE};
 use anyhow::Result;
 
 fn main(rt: HostRuntime) -> Result<()> {
-    journals::each(&rt)?;
-    members::each(&rt)?;
-    clusters::each(&rt)?;
-    stations::each(&rt)?;
-    jobs::each(&rt, &rt)?;
-    values::each(&rt)
+    let mut bench = new_bench(rt.alloc())?;
+    for (name, call, rows) in &TABLE {
+        for row in *rows {
+            let Row::Lists(lists) = row else {
+                step(&rt, &rt, &mut bench, *name, *call, *row)?;
+                continue;
+            };
+            set_up(&mut bench, Row::New)?;
+            for numbers in *lists {
+                step(&rt, &rt, &mut bench, *name, *call, Row::Numbers(*numbers))?;
+            }
+        }
+    }
+    Ok(())
 }

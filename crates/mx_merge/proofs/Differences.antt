@@ -4,7 +4,7 @@ use Rattle.mx_stamps.specs.Lists.{IsIn}
 use Rattle.mx_stamps.proofs.Lists.{in_append, in_left, in_right}
 use Rattle.mx_journal.specs.declared.records.Record.{Record}
 use Rattle.mx_journal.specs.Records.{Ascending}
-use Rattle.mx_journal.specs.Agreement.{AgreesWith, AreAgreeing, IsConsistent, IsFirstConflict, IsOpposed, IsSubmap}
+use Rattle.mx_journal.specs.Agreement.{AgreesWith, AreAgreeing, IsConsistent, IsFirstConflict, IsOpposed}
 use Rattle.mx_journal.specs.Settled.{DoAgree, JournalState}
 use Rattle.mx_journal.proofs.Answering.{not_consistent, one_first}
 use Rattle.mx_journal.proofs.Maps.{ascending_above, ascending_same}
@@ -44,10 +44,6 @@ first_opposed xs done rest r a b h w =
         | inr p ↦ elim (in_append y xs ys t) [ inl q ↦ sym (across y x q p (sym e) l) | inr q ↦ ascending_same 1 ys b x y p q e ]
       ],
     )
-
--- what is contained agrees
-pub contained_agrees : (xs ys : List Record) → Ascending 1 xs → IsSubmap ys xs → AreAgreeing xs ys
-contained_agrees xs ys a s x y h k e = ascending_same 1 xs a x y h (s y k) e
 
 -- no first conflict of journals that agree
 pub no_conflict : (n : ℕ) (xs ys : List Record) → Ascending 1 xs → Ascending 1 ys → AreAgreeing xs ys → IsFirstConflict n (xs ++ ys) → ⊥

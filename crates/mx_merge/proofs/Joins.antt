@@ -1,33 +1,17 @@
--- The join of two agreeing journals is their least upper bound, and it is the only one.
-use Rattle.std.proofs.Common.{suc, ◌<◌, ◌≤◌, ◌≡◌, ◌⊎◌, inl, inr, List, nat_lt, refl, sym, ◌∙◌, ap, arith}
+-- The join of two agreeing journals is their least upper bound.
+use Rattle.std.proofs.Common.{suc, ◌<◌, ◌≤◌, ◌⊎◌, inl, inr, List, nat_lt, refl, sym, ◌∙◌, ap, arith}
 use Rattle.mx_stamps.specs.Lists.{IsIn}
 use Rattle.mx_stamps.proofs.Choices.{cond_case, lt_false, lt_true}
 use Rattle.mx_journal.specs.declared.records.Record.{Record}
 use Rattle.mx_journal.specs.Bases.{BaseState}
 use Rattle.mx_journal.specs.Records.{Ascending, above, with_records}
-use Rattle.mx_journal.specs.Settled.{AreOfOneMap, DoAgree, IsOfSections, IsWithin, JournalState, base_of, joined, unsettled, with_base}
+use Rattle.mx_journal.specs.Settled.{AreOfOneMap, DoAgree, IsOfSections, IsWithin, JournalState, base_of, joined, with_base}
 use Rattle.mx_journal.specs.Agreement.{AreAgreeing, IsConsistent, IsSubmap}
-use Rattle.mx_journal.proofs.Maps.{ascending_above, ascending_same, ascending_with_all, in_with_records, same_members, with_records_have, with_records_keep}
+use Rattle.mx_journal.proofs.Maps.{ascending_above, ascending_same, in_with_records, with_records_have, with_records_keep}
 use Rattle.mx_journal.proofs.Found.{above_has, in_above}
-use Rattle.mx_journal.proofs.Going.{above_all, ascending_rest_above}
+use Rattle.mx_journal.proofs.Going.{ascending_rest_above}
 use Rattle.mx_journal.proofs.Settled.{ascending_joined}
-use Rattle.mx_merge.specs.Join.{IsLeastJournal, IsLeastUpperBound}
-
--- the join is above both, and each map above both is above it
-pub join_is_least : (xs ys : List Record) → Ascending 1 ys → AreAgreeing xs ys → IsLeastUpperBound xs ys (with_records ys xs)
-join_is_least xs ys a agree = record {
-  left = λ x h. with_records_keep ys xs x h;
-  right = λ x h. with_records_have ys xs agree (ascending_same 1 ys a) x h;
-  least = λ m low high x h. elim (in_with_records ys xs x h) [ inl k ↦ low x k | inr k ↦ high x k ];
-}
-
--- it ascends
-pub join_ascends : (xs ys : List Record) → Ascending 1 xs → Ascending 1 ys → Ascending 1 (with_records ys xs)
-join_ascends xs ys a b = ascending_with_all ys xs a (ascending_above 1 ys b)
-
--- two least upper bounds of the same journals are equal
-pub one_join : (xs ys j k : List Record) → Ascending 1 j → Ascending 1 k → IsLeastUpperBound xs ys j → IsLeastUpperBound xs ys k → j ≡ k
-one_join xs ys j k a b h t = same_members 1 1 j k a b (h.least k t.left t.right) (t.least j h.left h.right)
+use Rattle.mx_merge.specs.Join.{IsLeastJournal}
 
 -- parts of one consistent list agree
 pub parts_agree : (xs ys m : List Record) → IsConsistent m → IsSubmap xs m → IsSubmap ys m → AreAgreeing xs ys
@@ -36,14 +20,6 @@ parts_agree xs ys m c s t x y h k e = c x y (s x h) (t y k) e
 -- two sub-maps of one map agree
 pub submaps_agree : (xs ys m : List Record) → Ascending 1 m → IsSubmap xs m → IsSubmap ys m → AreAgreeing xs ys
 submaps_agree xs ys m a s t = parts_agree xs ys m (ascending_same 1 m a) s t
-
--- and their join is a sub-map of it too
-pub join_of_submaps : (xs ys m : List Record) → IsSubmap xs m → IsSubmap ys m → IsSubmap (with_records ys xs) m
-join_of_submaps xs ys m s t x h = elim (in_with_records ys xs x h) [ inl k ↦ s x k | inr k ↦ t x k ]
-
--- agreement does not depend on which comes first
-pub agreeing_back : (xs ys : List Record) → AreAgreeing xs ys → AreAgreeing ys xs
-agreeing_back xs ys h x y k t e = sym (h y x t k (sym e))
 
 -- what holds of a journal with another base, by whether that is above its own
 pub with_base_case : (P : JournalState → Type 0) (base : BaseState) (journal : JournalState) → (journal.base.upto < base.upto → P (record { base = base; records = above base.upto journal.records })) → (base.upto ≤ journal.base.upto → P journal) → P (with_base base journal)
@@ -104,25 +80,6 @@ journal_join_ascends a b order other =
     let mine = ascending_joined a.base.upto 1 b.records a.records order other in
     with_base_case (λ j. Ascending (suc j.base.upto) j.records) b.base (record { base = a.base; records = both })
     (λ _. ascending_rest_above b.base.upto (suc a.base.upto) both mine) (λ _. mine)
-
--- two journals that are each above the other are equal
-pub within_both : (a b : JournalState) → Ascending (suc a.base.upto) a.records → Ascending (suc b.base.upto) b.records → IsWithin a b → IsWithin b a → a ≡ b
-within_both a b oa ob ab ba =
-    let l = ab.upto in
-    let m = ba.upto in
-    let base : a.base ≡ b.base = ab.base (omega arith) in
-    let records : a.records ≡ b.records = same_members (suc a.base.upto) (suc b.base.upto) a.records b.records oa ob
-    (λ x h. ab.records x h (let q = ascending_above (suc a.base.upto) a.records oa x h in omega arith))
-    (λ x h. ba.records x h (let q = ascending_above (suc b.base.upto) b.records ob x h in omega arith)) in
-    ap (λ s. let j : JournalState = record { base = s; records = a.records } in j) base ∙ ap (λ l. let j : JournalState = record { base = b.base; records = l } in j) records
-
--- so there is one join
-pub one_journal_join : (a b j k : JournalState) → Ascending (suc j.base.upto) j.records → Ascending (suc k.base.upto) k.records → IsLeastJournal a b j → IsLeastJournal a b k → j ≡ k
-one_journal_join a b j k oj ok h t = within_both j k oj ok (h.least k t.left t.right) (t.least j h.left h.right)
-
--- the join of journals that have settled nothing is the map of the records of both
-pub joined_unsettled : (xs ys : List Record) → Ascending 1 ys → joined (unsettled ys) (unsettled xs) ≡ unsettled (with_records ys xs)
-joined_unsettled xs ys a = ap (λ l. unsettled (with_records l xs)) (above_all 0 ys a)
 
 -- journals that know of the same sections agree
 pub of_one_agree : (a b : JournalState) → AreOfOneMap a b → DoAgree a b

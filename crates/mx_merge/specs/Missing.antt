@@ -46,10 +46,6 @@ gaps_above before limit (x ∷ xs) =
     if nat_lt limit x.number then gap_after before limit
     else gap_after before (x.number - 1) ++ gaps_above x.number limit xs
 
--- all gaps of a map of records, from 1 to the limit, ascending
-abbrev pub gaps_of : ℕ → List Record → List Range
-gaps_of limit journal = gaps_above 0 limit journal
-
 -- all gaps of a journal, up to the limit, ascending; the base covers all numbers up to its `upto`
 abbrev pub gaps_in : ℕ → JournalState → List Range
 gaps_in limit journal = gaps_above journal.base.upto limit journal.records

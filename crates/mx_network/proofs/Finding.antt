@@ -23,7 +23,3 @@ found {X} xs ys k n o same place within is =
 pub if_found : {X : Type 0} (P : X → Type 0) (ys : List X) (n : ℕ) (o : Option (Bor X)) → MatchOption o (slice_get ys n ≡ None) (λ b. slice_get ys n ≡ Some b.now) → ((x : X) → slice_get ys n ≡ Some x → P x) → IfSome o (λ b. P b.now)
 if_found P ys n None found each = tt
 if_found P ys n (Some b) found each = each b.now found
-
--- none was handed out, as none is there
-pub none_out : {X Y : Type 0} (ys : List X) (n : ℕ) (r : Option Y) (P : Y → Type 0) → r ≡ None → slice_get ys n ≡ None → MatchOption r (slice_get ys n ≡ None) P
-none_out {X} {Y} ys n r P is out = subst (λ (o : Option Y). MatchOption o (slice_get ys n ≡ None) P) (sym is) out

@@ -1,5 +1,5 @@
 -- One event over the parts of a cluster, by whether its node is there.
-use Rattle.std.proofs.Common.{ℕ, Option, OnOk, zero, suc, ◌<◌, ◌≤◌, ◌≡◌, inl, inr, List, [], ◌∷◌, ◌++◌, Some, None, Result, Ok, Err, IsErrAnd, IfErr, IsOk, OnErr, get_or, slice_get, slice_set, length, refl, sym, ◌∙◌, ap, subst, arith}
+use Rattle.std.proofs.Common.{ℕ, Option, zero, suc, ◌<◌, ◌≤◌, ◌≡◌, inl, inr, List, [], ◌∷◌, ◌++◌, Some, None, Result, Ok, Err, IsErrAnd, IsOk, get_or, slice_get, slice_set, length, refl, sym, ◌∙◌, ap, subst, arith}
 use Rattle.std.proofs.lemmas.Option.{slice_get_cases}
 use Rattle.mx_stamps.specs.Lists.{each_below}
 use Rattle.mx_stamps.proofs.Lists.{set_itself}
@@ -35,10 +35,6 @@ at_place (y ∷ ys) (suc k) x l e = at_place ys k x (omega (arith, l)) e
 pub one_more : {X : Type 0} (xs new : List X) (f : ℕ → X) (i j : ℕ) (x : X) → xs ≡ each_below f i → new ≡ xs ++ x ∷ [] → x ≡ f i → j ≡ suc i → new ≡ each_below f j
 one_more xs new f i j x was is e next =
     is ∙ ap (λ l. l ++ x ∷ []) was ∙ ap (λ y. each_below f i ++ y ∷ []) e ∙ ap (λ n. each_below f n) (sym next)
-
-pub at_err : {A F : Type 0} (P : Type 0) (r : Result A F) → P → OnErr r P
-at_err P (Ok a) h = tt
-at_err P (Err f) h = h
 
 -- a cluster of equal lists
 pub same_parts : {S M : Type 0} (members members' : List (MemberState S)) (sent sent' : List (ℕ × ℕ × Parcel M)) (trace trace' : List Entry) → members' ≡ members → sent' ≡ sent → trace' ≡ trace →

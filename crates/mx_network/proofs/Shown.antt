@@ -1,12 +1,10 @@
 -- A small trace that shows what the definitions on sections and journals accept and refuse.
-use Rattle.std.proofs.Common.{ℕ, ◌≡◌, inl, inr, true, List, [], ◌∷◌, Some, refl, sym, subst, arith}
-use Rattle.mx_stamps.specs.Lists.{IsIn}
+use Rattle.std.proofs.Common.{ℕ, inl, inr, true, List, [], ◌∷◌, Some, refl, arith}
 use Rattle.mx_journal.specs.declared.records.Record.{Record}
-use Rattle.mx_journal.specs.declared.receipts.Read.{Read}
 use Rattle.mx_journal.specs.Agreement.{IsSubmap}
 use Rattle.mx_journal.specs.Settled.{IsCovered, settled, unsettled}
 use Rattle.mx_merge.specs.Join.{IsLeastUpperBound}
-use Rattle.mx_trace.specs.Serial.{IsSerialRead, ReadSerially}
+use Rattle.mx_trace.specs.Serial.{ReadSerially}
 use Rattle.mx_member.proofs.SectionLists.{journal_ascends}
 use Rattle.mx_member.proofs.OfSections.{settled_ascends, settled_of, unsettled_of}
 use Rattle.mx_member.proofs.SectionWrites.{covered_shows}
@@ -27,9 +25,6 @@ one_section =
       event = event.Leave 0;
       outcome = Left (record { number = 1; node = 0; reads = record { items = [] }; writes = record { items = record { register = 0; value = 7 } ∷ [] } });
     } ∷ []
-
-pub its_journal : journal_of one_section ≡ wrote 7 ∷ []
-its_journal = refl
 
 -- its journal shows the writes in order, whether it has settled the section or not
 pub shown : ShowsInOrder one_section (unsettled (journal_of one_section))
@@ -56,14 +51,6 @@ not_shown h =
 -- a section that read what nobody wrote
 pub unwritten_read : ReadSerially (record { node = 0; draft = record { reads = record { register = 0; value = 5; after = 0 } ∷ []; writes = [] }; closed = true } ∷ []) → ⊥
 unwritten_read h = let e = (h.0 (record { register = 0; value = 5; after = 0 }) (inl refl)).1 in absurd (omega (arith, e))
-
--- and one that read its own write
-pub own_read : ReadSerially (record { node = 0; draft = record { reads = record { register = 0; value = 7; after = 1 } ∷ []; writes = record { register = 0; value = 7 } ∷ [] }; closed = true } ∷ [])
-own_read = ((λ x h. one x h), tt)
-  where
-    one : (x : Read) → IsIn x (record { register = 0; value = 7; after = 1 } ∷ []) → IsSerialRead [] (record { register = 0; value = 7 } ∷ []) x
-    one x (inl e) = subst (λ (y : Read). IsSerialRead [] (record { register = 0; value = 7 } ∷ []) y) (sym e) (omega arith, refl)
-    one x (inr bad) = absurd bad
 
 -- a record is in no empty journal, and no join of two empty ones has it
 pub not_below : IsSubmap (wrote 7 ∷ []) [] → ⊥

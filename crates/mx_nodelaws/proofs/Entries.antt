@@ -1,15 +1,9 @@
--- The number that an accepted entry draws.
-use Rattle.std.proofs.Common.{ℕ, suc, ◌≤◌, ◌+◌, ◌≡◌, Bool, true, false, Ok, Err, arith, if◌then◌else◌}
+-- The greatest number that the nodes of a world have reached.
+use Rattle.std.proofs.Common.{ℕ, ◌≤◌, ◌≡◌, arith}
 use Rattle.mx_stamps.specs.Lists.{greatest}
 use Rattle.mx_stamps.proofs.Lists.{greatest_above, greatest_below}
 use Rattle.mx_nodelaws.specs.World.{World, IsNode}
 use Rattle.mx_nodelaws.specs.Raised.{IsReachedBy}
-use Rattle.mx_nodelaws.specs.declared.faults.EnterFault.TheVariants.{NumbersSpent}
-
--- the number that it draws
-pub drawn : (b : Bool) (m n : ℕ) → (if b then Ok (m + 1) else Err NumbersSpent) ≡ Ok n → n ≡ suc m
-drawn true m n e = let k : m + 1 ≡ n = cc in omega (arith, k)
-drawn false m n e = let bad : ⊥ = cc in absurd bad
 
 -- a number that some node has reached, and none has gone above, is the greatest
 pub greatest_is : {S M : Type 0} (number : S → ℕ) (w : World S M) (top : ℕ) → ((j : ℕ) (t : S) → IsNode w j t → number t ≤ top) → IsReachedBy number w top → greatest number w.nodes ≡ top

@@ -11,9 +11,6 @@ idle_apart n e = cc
 pub waiting_apart : (n : ℕ) → ◌≡◌ {A = Phase} Waiting (Inside n) → ⊥
 waiting_apart n e = cc
 
-pub inside_inj : (m n : ℕ) → ◌≡◌ {A = Phase} (Inside m) (Inside n) → m ≡ n
-inside_inj m n e = cc
-
 pub idle_not_inside : (p : Phase) (n : ℕ) → p ≡ Idle → p ≡ Inside n → ⊥
 idle_not_inside p n e h = idle_apart n (sym e ∙ h)
 
@@ -30,9 +27,6 @@ pub waiting_is : (p : Phase) → is_waiting p ≡ true → p ≡ Waiting
 waiting_is Idle h = let bad : ⊥ = cc in absurd bad
 waiting_is Waiting h = refl
 waiting_is (Inside n) h = let bad : ⊥ = cc in absurd bad
-
-pub is_waiting_is : (p : Phase) → p ≡ Waiting → is_waiting p ≡ true
-is_waiting_is p e = ap is_waiting e
 
 -- where a phase passes the test of waiting, and another test too, it is Waiting
 pub waits_alone : (p : Phase) (b : Bool) → (is_waiting p && b) ≡ true → p ≡ Waiting

@@ -11,30 +11,14 @@ use Rattle.mx_format.specs.EventTexts.{name_of}
 use Rattle.mx_format.specs.Lines.{texts_from}
 use Rattle.mx_cli.specs.declared.faults.CommandError.{CommandError}
 use Rattle.mx_io.specs.Outputs.{Held}
-use Rattle.mx_picture.specs.declared.opening.Corner.{Corner}
-use Rattle.mx_picture.specs.declared.opening.Size.{Size}
+use Rattle.mx_picture.specs.declared.opening.Frame.{Frame}
 
--- ---- the first line
-
-abbrev pub size_text : Size → Text
-size_text size =
-    codes "width=\"" ++ decimal size.width ++ codes "\" height=\"" ++ decimal size.height
-    ++ codes "\""
-
-abbrev pub corner_text : Corner → Text
-corner_text corner = codes "-" ++ decimal corner.left ++ codes " -" ++ decimal corner.top
-
-abbrev pub view_text : Corner → Size → Text
-view_text corner size =
-    codes "viewBox=\"" ++ corner_text corner ++ codes " " ++ decimal size.width ++ codes " "
-    ++ decimal size.height ++ codes "\""
-
-abbrev pub opening_line : Corner → Size → Text
-opening_line corner size =
-    codes "<svg xmlns=\"http://www.w3.org/2000/svg\" role=\"img\" " ++ size_text size ++ codes " "
-    ++ view_text corner size ++ codes ">\n"
-
--- ---- the title
+abbrev pub opening_line : Frame → Text
+opening_line frame =
+    codes "<svg xmlns=\"http://www.w3.org/2000/svg\" role=\"img\" width=\"" ++ decimal frame.width
+    ++ codes "\" height=\"" ++ decimal frame.height ++ codes "\" viewBox=\"-"
+    ++ decimal frame.left ++ codes " -" ++ decimal frame.top ++ codes " " ++ decimal frame.width
+    ++ codes " " ++ decimal frame.height ++ codes "\">\n"
 
 abbrev pub algorithm_name : Shape → Text
 algorithm_name (Ricart count) = codes "Ricart and Agrawala's"
@@ -58,14 +42,12 @@ abbrev pub title_line : Fields → ℕ → Text
 title_line p events =
     title_start (algorithm_name p.shape) ++ names_text p ++ title_end events
 
--- ---- the whole picture
-
 -- a picture of a run of this many events: its first line opens it, its second is its title, and its
 -- last closes it
 abbrev pub IsPicture : Fields → ℕ → Text → Type 0
 IsPicture p events picture =
-    (corner : Corner) × (size : Size) × (body : Text)
-    × (picture ≡ opening_line corner size ++ title_line p events ++ body
+    (frame : Frame) × (body : Text)
+    × (picture ≡ opening_line frame ++ title_line p events ++ body
     ++ (codes "</svg>" ++ line_feed))
 
 -- a picture of the events that a text lists

@@ -6,7 +6,7 @@ use Rattle.mx_events.specs.declared.event.Event.{Event}
 use Rattle.mx_events.specs.declared.event.Event.TheVariants as event
 use Rattle.mx_trace.specs.declared.outcome.Outcome.{Outcome}
 use Rattle.mx_trace.specs.declared.outcome.Outcome.TheVariants as outcome
-use Rattle.mx_picture.specs.declared.flights.Flight.{Flight}
+use Rattle.mx_picture.specs.declared.sheet.Flight.{Flight}
 
 -- a parcel is a letter of the algorithm, and not gossip
 abbrev pub is_letter : {M : Type 0} → Parcel M → Bool
@@ -28,7 +28,6 @@ is_first (Some flight) = flight.is_original && not flight.is_delivered
 abbrev pub is_first_delivery : ℕ → List Flight → Bool
 is_first_delivery number flights = is_first (slice_get flights number)
 
--- a node asked, entered, left or cancelled
 abbrev pub changes_phase : Outcome → Bool
 changes_phase (outcome.Asked stamp) = true
 changes_phase (outcome.Entered number) = true

@@ -11,37 +11,34 @@ unfoldable pub picture_line : App
 picture_line = line_of (id.Picture ∷ [])
 
 -- the names of the plan and of the events; the indices of the first and the last event drawn; the
--- only node drawn, if one is named; whether journals are drawn, and whether only letters are
+-- only node drawn, if one is named; whether only letters are drawn
 pub record Request : Type 0 where
   pub names : Text × Text
   pub from : ℕ
   pub to : ℕ
   pub node : Option Text
-  pub has_journals : Bool
   pub only_letters : Bool
 
-abbrev pub request : Text × Text → ℕ → ℕ → Option Text → Bool → Bool → Request
-request names from to node has_journals only_letters = record {
+abbrev pub request : Text × Text → ℕ → ℕ → Option Text → Bool → Request
+request names from to node only_letters = record {
   names = names;
   from = from;
   to = to;
   node = node;
-  has_journals = has_journals;
   only_letters = only_letters;
 }
 
 abbrev pub request_of : Told → Request
 request_of told =
     request (names_of told.names) told.from told.to
-    (option_map (λ name. name.now) told.node) told.has_journals told.only_letters
+    (option_map (λ name. name.now) told.node) told.only_letters
 
 -- the request of the given arguments. A bound that is absent excludes no event
 abbrev pub part_of : List Row → Text × Text → Request
 part_of rows names =
     request names (unwrap_or (number_at (codes "from") rows) 0)
     (unwrap_or (number_at (codes "to") rows) 18446744073709551615)
-    (first_of (codes "node") rows) (is_given (codes "journals") rows)
-    (is_given (codes "letters") rows)
+    (first_of (codes "node") rows) (is_given (codes "letters") rows)
 
 abbrev pub picture_in : List Row → Option Request
 picture_in rows = option_map (part_of rows) (names_at rows)

@@ -3,8 +3,7 @@
 ghost use Rattle.std.specs.Prelude.{◌≤◌, max};
 
 use crate::labels::Label;
-use crate::lanes::Lanes;
-use crate::text_width::width_of;
+use crate::text::width_of;
 use mx_plan::Plan;
 use mx_stamps::{MAX_NODES, NodeId};
 
@@ -30,41 +29,28 @@ struct Room {
 }
 
 impl Room {
-    /// Finds the room for the names of the plan's nodes, and for these texts on the sides that they
-    /// prefer.
     fn new(plan: &Plan, labels: &[Label]) -> Self {
         let mut room = Room {
             names: [0; MAX_NODES as usize],
             left: [0; MAX_NODES as usize],
             right: [0; MAX_NODES as usize],
         };
-        room.add_names(plan);
-        room.add_labels(labels);
-        room
-    }
-
-    /// Adds the room for half of each name.
-    fn add_names(&mut self, plan: &Plan) {
         for index in 0..MAX_NODES {
             let name = plan.node_name(index).unwrap_or("");
-            self.names[usize::from(index)] = width_of(name) / 2;
+            room.names[usize::from(index)] = width_of(name) / 2;
         }
-    }
-
-    /// Adds the room for these texts on the sides that they prefer.
-    fn add_labels(&mut self, labels: &[Label]) {
         for label in labels {
             let index = usize::from(label.node.get());
             let wanted = label.reach(label.side);
             if label.side.is_left() {
-                self.left[index] = self.left[index].max(wanted);
+                room.left[index] = room.left[index].max(wanted);
             } else {
-                self.right[index] = self.right[index].max(wanted);
+                room.right[index] = room.right[index].max(wanted);
             }
         }
+        room
     }
 
-    /// Returns the distance that names and texts want between the lines of two neighbours.
     fn between(&self, left: NodeId, right: NodeId) -> u64 {
         let left = usize::from(left.get());
         let right = usize::from(right.get());
@@ -74,16 +60,40 @@ impl Room {
     }
 }
 
+/// The set of nodes that have a line.
+#[derive(Clone, Copy)]
+pub(crate) struct Lanes {
+    has: [bool; MAX_NODES as usize],
+}
+
+impl Lanes {
+    /// Creates the set of the first nodes, this many.
+    pub(crate) fn new(nodes: u8) -> Self {
+        let mut has = [false; MAX_NODES as usize];
+        for index in 0..MAX_NODES as usize {
+            has[index] = index < usize::from(nodes);
+        }
+        Lanes { has }
+    }
+
+    pub(crate) fn add(&mut self, node: NodeId) {
+        self.has[usize::from(node.get())] = true;
+    }
+
+    pub(crate) fn has(&self, node: NodeId) -> bool {
+        self.has[usize::from(node.get())]
+    }
+
+    pub(crate) fn len(&self) -> u64 {
+        self.has.iter().filter(|has| **has).count() as u64
+    }
+}
+
 /// The horizontal positions of the lines of nodes, in pixels from the first line.
 #[derive(Clone, Copy)]
 pub(crate) struct Columns {
-    /// The nodes that have a line.
-    lanes: Lanes,
-    /// The greatest distance between the lines of neighbours.
-    widest: u64,
-    /// The position of each node's line.
+    pub(crate) lanes: Lanes,
     places: [u64; MAX_NODES as usize],
-    /// The position of the last line.
     pub(crate) last: u64,
 }
 
@@ -100,11 +110,9 @@ impl Columns {
         }
     }
 
-    /// Places the lines of these nodes at most `widest` pixels apart.
     fn within(widest: u64, lanes: &Lanes, room: &Room) -> Self {
         let mut columns = Columns {
             lanes: *lanes,
-            widest,
             places: [0; MAX_NODES as usize],
             last: 0,
         };
@@ -113,28 +121,17 @@ impl Columns {
             if let Some(node) = NodeId::of(index)
                 && lanes.has(node)
             {
-                columns.add(before, node, room);
+                if let Some(before) = before {
+                    let width = column_width(room.between(before, node), widest);
+                    columns.last = columns.last.saturating_add(width);
+                }
+                columns.places[usize::from(index)] = columns.last;
                 before = Some(node);
             }
         }
         columns
     }
 
-    /// Places the line of a node: at the right of the line of `before`, or first if that is `None`.
-    fn add(&mut self, before: Option<NodeId>, node: NodeId, room: &Room) {
-        if let Some(before) = before {
-            let width = column_width(room.between(before, node), self.widest);
-            self.last = self.last.saturating_add(width);
-        }
-        self.places[usize::from(node.get())] = self.last;
-    }
-
-    /// Returns whether the picture has a lane for this node.
-    pub(crate) fn has(&self, node: NodeId) -> bool {
-        self.lanes.has(node)
-    }
-
-    /// Returns the position of the node's line.
     pub(crate) fn x_of(&self, node: NodeId) -> u64 {
         self.places[usize::from(node.get())]
     }
@@ -149,8 +146,6 @@ fn widest_column(lines: u64) -> u64
     MAX_COLUMN.min(MAX_SPAN / columns)
 }
 
-/// Returns the distance between two lines whose texts want `room` between them: at most `widest`,
-/// but at least `MIN_COLUMN`.
 fn column_width(room: u64, widest: u64) -> u64
     ensures least { 60 ≤ result }
     ensures most { result ≤ max 60 widest }

@@ -1,6 +1,3 @@
-//! Runs `picture`: takes its arguments, a source of named bytes and two outputs, and returns an
-//! exit status.
-
 ghost use Rattle.std.specs.Prelude.{IfSome};
 ghost use Rattle.mx_cli.specs.Words.{texts_of};
 ghost use Rattle.mx_cli.specs.Reports.{Answers, seen};
@@ -13,13 +10,8 @@ use mx_cli::{close, refuse};
 use mx_io::{Output, Source};
 use std::alloc::Global;
 
-/// Runs a command line whose first argument is `picture`, without the program's name. Reads a plan
-/// and its events, and prints a picture of their outcomes. Returns the exit status:
-///
-/// - 0 on success, or if help was requested;
-/// - 1 for an error in the plan, its events, a file or an output;
-/// - 2 for arguments that are not those of `picture`;
-/// - 5 if memory ran out.
+/// Runs a command line whose first argument is `picture`, without the program's name: reads a plan
+/// and its events, and prints a picture of their outcomes. Returns the exit status.
 pub fn picture<S: Source, O: Output, E: Output>(
     alloc: Global,
     words: &[&str],
@@ -40,8 +32,6 @@ pub fn picture<S: Source, O: Output, E: Output>(
     }
 }
 
-/// Prints the requested picture, or reports why there is none, as `close` does. Returns the exit
-/// status.
 fn run_picture<S: Source, O: Output, E: Output>(
     alloc: Global,
     request: &Request<'_>,

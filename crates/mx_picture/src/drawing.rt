@@ -1,26 +1,22 @@
-//! Draws a run. A `Drawing` is a sink, which is told of each event: it gives each event shown a row
-//! of the sheet, and prints nothing.
+//! Draws a run: a `Drawing` is a sink that gives each event shown a row of the sheet.
 
 ghost use Rattle.std.specs.Prelude.{◌<◌, length};
 ghost use Rattle.mx_commands.specs.Runs.{silent};
 
-use crate::journals::ShownJournals;
-use crate::omissions::{Subject, is_shown, pass_over, phase_after, subject_of};
+use crate::omissions::{change_phase, is_shown, pass_over};
 use crate::parcels::{draw_delivery, draw_sent};
 use crate::part::Part;
 use crate::sheet::Sheet;
 use crate::side::Side;
 use mx_commands::{Sink, newest};
-use mx_format::{EventText, Letter, OutcomeText, add_parcel};
-use mx_member::{Parcel, SentParcel};
+use mx_format::{EventText, Letter, OutcomeText};
 use mx_network::{Cluster, Entry, Event, Outcome};
-use mx_nodelaws::{Exclusion, Phase};
+use mx_nodelaws::Exclusion;
 use mx_plan::Plan;
 use mx_stamps::NodeId;
 use std::alloc::{AllocError, Global};
 use std::collections::HashSet;
 
-/// A drawing in progress.
 #[derive(Drop)]
 pub(crate) struct Drawing {
     pub(crate) sheet: Sheet,
@@ -28,16 +24,12 @@ pub(crate) struct Drawing {
     pub(crate) arriving: HashSet<u64>,
     /// The text that is drawn next, beside a node or as a title.
     pub(crate) label: String,
-    /// The part of the run that is shown.
     pub(crate) part: Part,
-    /// The size of each node's journal when it was last shown.
-    journals: ShownJournals,
     /// Whether events were left out since the last row, and a row with `..` has to say so.
     has_skipped: bool,
 }
 
 impl Drawing {
-    /// Creates the drawing of a part of these events. Nothing is drawn yet.
     pub(crate) fn new(alloc: Global, events: &[Event], part: &Part) -> Result<Self, AllocError> {
         let mut arriving = HashSet::new(alloc);
         for event in events {
@@ -50,7 +42,6 @@ impl Drawing {
             arriving,
             label: String::new(alloc),
             part: *part,
-            journals: ShownJournals::new(),
             has_skipped: false,
         })
     }
@@ -62,8 +53,6 @@ where
 {
     ghost texts = { λ _ _. silent };
 
-    /// Draws the newest event of the cluster. The event has this index, and sent the parcels from
-    /// `before` on.
     fn event(
         &mut self,
         plan: &Plan,
@@ -90,8 +79,6 @@ where
     }
 }
 
-/// Draws the newest event and the parcels that it sent, if the event is shown, and otherwise only
-/// notes them. The event has this index, and its parcels have the numbers from `before` on.
 fn draw_row<C: Exclusion>(
     plan: &Plan,
     index: u64,
@@ -106,12 +93,13 @@ where
     let entry = newest(cluster.trace());
     if !is_shown(index, before, entry, cluster, drawing) {
         drawing.has_skipped |= !(drawing.part.only_letters && drawing.part.has_index(index));
-        return pass_over(plan, index, before, cluster, drawing);
+        pass_over(plan, index, entry, cluster, drawing)?;
+        return draw_sent(plan, cluster, before, &entry.event, false, drawing);
     }
     add_gap(drawing)?;
     drawing.sheet.begin(index)?;
     draw_event_at_node(plan, before, entry, cluster, drawing)?;
-    draw_sent(plan, cluster, before, &entry.event, drawing)?;
+    draw_sent(plan, cluster, before, &entry.event, true, drawing)?;
     drawing.sheet.next_row()
 }
 
@@ -125,8 +113,6 @@ fn add_gap(drawing: &mut Drawing) -> Result<(), AllocError> {
     Ok(())
 }
 
-/// Draws the newest event, `entry`, at its node, or a delivery at the addressee. The event sent the
-/// parcels from `before` on.
 fn draw_event_at_node<C: Exclusion>(
     plan: &Plan,
     before: u64,
@@ -137,40 +123,46 @@ fn draw_event_at_node<C: Exclusion>(
 where
     C::Msg: Letter,
 {
-    match subject_of(&entry.event) {
-        Subject::Parcel(number) => draw_delivery(plan, cluster, number, drawing),
-        Subject::Node(node) => {
+    match &entry.event {
+        Event::Deliver(number) => draw_delivery(plan, cluster, *number, drawing),
+        event => {
+            let node = event.node().unwrap_or_default();
             let side = side_of_act(cluster, node, before);
-            write_act(plan, entry, &mut drawing.label)?;
-            describe_section(&entry.outcome, drawing)?;
-            write_journal(cluster, node, drawing)?;
-            drawing.sheet.text(node, side, drawing.label.as_str())?;
-            draw_outcome(node, &entry.outcome, drawing)
+            draw_act(plan, node, side, entry, drawing)
         }
     }
 }
 
-/// Appends the contents of the node's journal to the label, if journals are shown and this one has
-/// changed.
-pub(crate) fn write_journal<C: Exclusion>(
-    cluster: &Cluster<C>,
+/// Draws an event and its outcome. An entry has no dot: its place is taken by the number of the
+/// section.
+fn draw_act(
+    plan: &Plan,
     node: NodeId,
+    side: Side,
+    entry: &Entry,
     drawing: &mut Drawing,
 ) -> Result<(), AllocError> {
-    if !drawing.part.has_journals {
-        return Ok(());
+    let done = EventText {
+        plan,
+        event: &entry.event,
+    };
+    let outcome = OutcomeText(&entry.outcome);
+    drawing.label.clear();
+    write!(drawing.label, "{done}: {outcome}")?;
+    let label = drawing.label.as_str();
+    if let Outcome::Entered(_) | Outcome::Left(_) = entry.outcome {
+        drawing.sheet.describe(label)?;
     }
-    match cluster.member(node) {
-        Some(member) => drawing
-            .journals
-            .add_changed(node, member.journal(), &mut drawing.label),
-        None => Ok(()),
+    drawing.sheet.text(node, side, label)?;
+    if !matches!(entry.outcome, Outcome::Entered(_)) {
+        let is_refused = matches!(entry.outcome, Outcome::Refused(_));
+        drawing.sheet.dot(node, is_refused, label)?;
     }
+    change_phase(node, &entry.outcome, &mut drawing.sheet)
 }
 
-/// Returns the side of this node for the text of an event that sent the parcels from `before` on.
-/// It is the left if there are such parcels and all go to the right, so that no arrow runs under
-/// the text.
+/// Returns the left if the event sent parcels, from `before` on, and all go to the right, so that no
+/// arrow runs under its text.
 fn side_of_act<C: Exclusion>(cluster: &Cluster<C>, node: NodeId, before: u64) -> Side {
     let mut to_left = false;
     let mut to_right = false;
@@ -187,73 +179,5 @@ fn side_of_act<C: Exclusion>(cluster: &Cluster<C>, node: NodeId, before: u64) ->
         Side::Left
     } else {
         Side::Right
-    }
-}
-
-/// Replaces the label by the text of an event and its outcome.
-fn write_act(plan: &Plan, entry: &Entry, label: &mut String) -> Result<(), AllocError> {
-    let done = EventText {
-        plan,
-        event: &entry.event,
-    };
-    let outcome = OutcomeText(&entry.outcome);
-    label.clear();
-    write!(label, "{done}: {outcome}")
-}
-
-/// Replaces the label by the number and the text of a parcel.
-pub(crate) fn write_parcel<M: Letter>(
-    plan: &Plan,
-    number: u64,
-    parcel: &Parcel<M>,
-    label: &mut String,
-) -> Result<(), AllocError> {
-    label.clear();
-    write!(label, "#{number} ")?;
-    add_parcel(plan, parcel, label)
-}
-
-/// Appends `word`, which is `from` or `to`, and the name of the node at that end of a parcel's way.
-pub(crate) fn write_end(
-    plan: &Plan,
-    word: &str,
-    node: NodeId,
-    label: &mut String,
-) -> Result<(), AllocError> {
-    let name = plan.node_name(node.get()).unwrap_or("");
-    write!(label, " {word} {name}")
-}
-
-/// Replaces the label by the number, the text, the sender and the addressee of a parcel.
-pub(crate) fn write_route<M: Letter>(
-    plan: &Plan,
-    number: u64,
-    sent: &SentParcel<'_, M>,
-    label: &mut String,
-) -> Result<(), AllocError> {
-    write_parcel(plan, number, sent.parcel, label)?;
-    write_end(plan, "from", sent.from, label)?;
-    write_end(plan, "to", sent.to, label)
-}
-
-/// Adds the label to the description of the picture, if a node entered or left a section.
-fn describe_section(outcome: &Outcome, drawing: &mut Drawing) -> Result<(), AllocError> {
-    match outcome {
-        Outcome::Entered(_) | Outcome::Left(_) => drawing.sheet.describe(drawing.label.as_str()),
-        _ => Ok(()),
-    }
-}
-
-/// Draws the outcome of an event at its node: a dot, and the new phase if the phase changes. An
-/// entry has no dot: its place is taken by the number of the section.
-fn draw_outcome(node: NodeId, outcome: &Outcome, drawing: &mut Drawing) -> Result<(), AllocError> {
-    let title = drawing.label.as_str();
-    match phase_after(outcome) {
-        Some(Phase::Inside(number)) => drawing.sheet.enter(node, number),
-        Some(phase) => drawing.sheet.turn(node, phase, title),
-        None => {
-            let is_refused = matches!(outcome, Outcome::Refused(_));
-            drawing.sheet.dot(node, is_refused, title)
-        }
     }
 }

@@ -20,12 +20,6 @@ use mx_plan::{Place, Plan, PlanFault, read_events};
 use mx_stamps::NodeId;
 use std::alloc::Global;
 
-/// Reads the plan, then the events, and prints a picture of the requested part. Returns the exit
-/// status.
-///
-/// # Errors
-///
-/// Returns why the run stops: the first fault, an output that refuses, or `Memory`.
 pub(crate) fn draw<S: Source, O: Output>(
     alloc: Global,
     request: &Request<'_>,
@@ -42,7 +36,6 @@ pub(crate) fn draw<S: Source, O: Output>(
     draw_text(alloc, request, &both.plan, both.text.as_slice(), out)
 }
 
-/// Reads the events from `text`, and prints a picture of the requested part.
 fn draw_text<O: Output>(
     alloc: Global,
     request: &Request<'_>,
@@ -63,8 +56,6 @@ fn draw_text<O: Output>(
     Ok(0)
 }
 
-/// Returns the part of a run that is requested. Returns an error if the plan lacks the requested
-/// node.
 fn part_of(plan: &Plan, request: &Request<'_>) -> Result<Part, CommandError>
     ensures err { IfErr result (IsUnknownNode plan.now (request_of request.now).node) }
 {
@@ -73,13 +64,10 @@ fn part_of(plan: &Plan, request: &Request<'_>) -> Result<Part, CommandError>
         from: request.from,
         to: request.to,
         node,
-        has_journals: request.has_journals,
         only_letters: request.only_letters,
     })
 }
 
-/// Returns the node of this name, or `None` if no name is given. Returns an error if the plan lacks
-/// the name.
 fn node_in(plan: &Plan, name: Option<&str>) -> Result<Option<NodeId>, CommandError>
     ensures err { IfErr result
         (IsUnknownNode plan.now (option_map (λ text. text.now) name.entry)) }
@@ -93,7 +81,6 @@ fn node_in(plan: &Plan, name: Option<&str>) -> Result<Option<NodeId>, CommandErr
     }
 }
 
-/// Returns the SVG of a part of the run of these events.
 fn picture_of(
     alloc: Global,
     plan: &Plan,

@@ -27,12 +27,10 @@ pub(crate) struct Label {
 }
 
 impl Label {
-    /// Returns the distance between the node and the far end of the text on this side, in pixels.
     pub(crate) fn reach(&self, side: Side) -> u64 {
         side.gap().saturating_add(self.width)
     }
 
-    /// Returns the rectangle of the text on this side of the line at `x`.
     fn rect(&self, x: u64, side: Side) -> Rect {
         let node = x.saturating_add(SHIFT);
         let near = side.gap();
@@ -50,8 +48,6 @@ impl Label {
         }
     }
 
-    /// Returns whether an arrow runs through the text, placed on this side of its node's line at
-    /// `x`.
     fn is_crossed(&self, x: u64, segments: &[Segment], side: Side) -> bool {
         let rect = self.rect(x, side);
         let own = self.arrows.saturating_sub(1).min(segments.len());
@@ -61,8 +57,6 @@ impl Label {
             .any(|segment| segment.crosses(&rect))
     }
 
-    /// Returns the side for the text: the one that it prefers, or the other if an arrow runs
-    /// through the text only on the first. The line of its node is at `x`.
     fn free_side(&self, x: u64, segments: &[Segment]) -> Side {
         let other = self.side.other();
         if self.is_crossed(x, segments, self.side) && !self.is_crossed(x, segments, other) {
@@ -70,15 +64,6 @@ impl Label {
         } else {
             self.side
         }
-    }
-
-    /// Appends the label to `text`, the SVG, on this side of its node's line at `x`.
-    fn add_to(&self, x: u64, side: Side, text: &mut String) -> Result<(), AllocError> {
-        let y = self.y;
-        let attributes = side.attributes();
-        write!(text, "<text{attributes} x=\"{x}\" y=\"{y}\" dy=\"4\">")?;
-        text.push_str(self.text.as_str())?;
-        text.push_str("</text>\n")
     }
 }
 
@@ -91,7 +76,6 @@ pub(crate) struct Extent {
 }
 
 impl Extent {
-    /// Returns the extent, widened for this text on this side of its node's line at `x`.
     fn with(self, label: &Label, x: u64, side: Side) -> Extent {
         if side.is_left() {
             let left = self.left.max(label.width.saturating_sub(x));
@@ -103,8 +87,6 @@ impl Extent {
     }
 }
 
-/// Appends the labels to `text`, the SVG, each on its free side, and returns how far they extend.
-/// `segments` are the lines of all arrows.
 pub(crate) fn add_labels(
     labels: &[Label],
     segments: &[Segment],
@@ -116,7 +98,13 @@ pub(crate) fn add_labels(
         let x = columns.x_of(label.node);
         let side = label.free_side(x, segments);
         extent = extent.with(label, x, side);
-        label.add_to(x, side, text)?;
+        let attributes = side.attributes();
+        let y = label.y;
+        let shown = label.text.as_str();
+        write!(
+            text,
+            "<text{attributes} x=\"{x}\" y=\"{y}\" dy=\"4\">{shown}</text>\n"
+        )?;
     }
     Ok(extent)
 }

@@ -24,7 +24,6 @@ path{fill:none;stroke-width:1.4px}
 /// The width of the legend, in pixels.
 pub(crate) const LEGEND_WIDTH: u64 = 710;
 
-/// The legend: the meaning of each style.
 pub(crate) const LEGEND: &str =
     "<path class=\"request\" d=\"M16 18H46\" marker-end=\"url(#request)\"/><text x=\"52\" y=\"22\">request</text>
 <path class=\"grant\" d=\"M116 18H146\" marker-end=\"url(#grant)\"/><text x=\"152\" y=\"22\">grant</text>

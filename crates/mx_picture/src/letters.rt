@@ -3,11 +3,10 @@
 ghost use Rattle.std.specs.Prelude.{◌≡◌};
 ghost use Rattle.mx_picture.specs.LettersOnly.{changes_phase, is_drawn, is_first_delivery, is_letter, is_original};
 
-use crate::flights::Flight;
+use crate::sheet::Flight;
 use mx_member::Parcel;
 use mx_network::{Event, Outcome};
 
-/// Returns whether a parcel is a letter of the algorithm, and not gossip.
 pub(crate) fn is_letter<M>(parcel: &Parcel<M>) -> bool
     ensures { result ≡ is_letter parcel.now }
 {
@@ -17,8 +16,6 @@ pub(crate) fn is_letter<M>(parcel: &Parcel<M>) -> bool
     }
 }
 
-/// Returns whether a parcel that this event sends is a letter of the algorithm, and the event is no
-/// tick: a tick sends letters again.
 pub(crate) fn is_original<M>(event: &Event, parcel: &Parcel<M>) -> bool
     ensures { result ≡ is_original event.now parcel.now }
 {
@@ -28,8 +25,6 @@ pub(crate) fn is_original<M>(event: &Event, parcel: &Parcel<M>) -> bool
     }
 }
 
-/// Returns whether an event with this outcome is drawn. `flights` are the parcels sent before the
-/// event, by number.
 pub(crate) fn is_drawn(event: &Event, outcome: &Outcome, flights: &[Flight]) -> bool
     ensures { result ≡ is_drawn event.now outcome.now flights.now }
 {
@@ -39,7 +34,6 @@ pub(crate) fn is_drawn(event: &Event, outcome: &Outcome, flights: &[Flight]) -> 
     }
 }
 
-/// Returns whether a node asked, entered, left or cancelled.
 fn changes_phase(outcome: &Outcome) -> bool
     ensures { result ≡ changes_phase outcome.now }
 {
@@ -49,8 +43,6 @@ fn changes_phase(outcome: &Outcome) -> bool
     }
 }
 
-/// Returns whether the parcel of this number is a letter that no tick sent, and was not delivered
-/// before.
 fn is_first_delivery(number: u64, flights: &[Flight]) -> bool
     ensures { result ≡ is_first_delivery number flights.now }
 {

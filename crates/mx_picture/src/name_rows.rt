@@ -2,7 +2,7 @@
 
 use crate::columns::Columns;
 use crate::phases::PhaseSpan;
-use crate::title::add_escaped;
+use mx_format::name_of;
 use mx_nodelaws::Phase;
 use mx_plan::Plan;
 use mx_stamps::{MAX_NODES, NodeId};
@@ -19,7 +19,6 @@ pub(crate) struct NameRow {
 }
 
 impl NameRow {
-    /// Creates the row at the height `y`, for nodes in these phases.
     pub(crate) fn new(y: u64, phases: &[PhaseSpan; MAX_NODES as usize]) -> Self {
         let mut is_inside = [false; MAX_NODES as usize];
         for index in 0..MAX_NODES as usize {
@@ -28,7 +27,6 @@ impl NameRow {
         NameRow { y, is_inside }
     }
 
-    /// Appends the names to `text`, the SVG.
     pub(crate) fn add_to(
         &self,
         plan: &Plan,
@@ -37,26 +35,18 @@ impl NameRow {
     ) -> Result<(), AllocError> {
         for index in 0..MAX_NODES {
             if let Some(node) = NodeId::of(index)
-                && columns.has(node)
+                && columns.lanes.has(node)
                 && !self.is_inside[usize::from(index)]
             {
-                self.add_name(plan, node, columns.x_of(node), text)?;
+                let x = columns.x_of(node);
+                let y = self.y;
+                let name = name_of(plan, node);
+                write!(
+                    text,
+                    "<text class=\"name\" x=\"{x}\" y=\"{y}\" dy=\"4\">{name}</text>\n"
+                )?;
             }
         }
         Ok(())
-    }
-
-    /// Appends the name of a node whose line is at `x`.
-    fn add_name(
-        &self,
-        plan: &Plan,
-        node: NodeId,
-        x: u64,
-        text: &mut String,
-    ) -> Result<(), AllocError> {
-        let y = self.y;
-        write!(text, "<text class=\"name\" x=\"{x}\" y=\"{y}\" dy=\"4\">")?;
-        add_escaped(plan.node_name(node.get()).unwrap_or(""), text)?;
-        text.push_str("</text>\n")
     }
 }

@@ -1,7 +1,8 @@
 //! The events of a run that are not shown, and their effects on the picture.
 
-use crate::drawing::{Drawing, write_route};
-use crate::letters::{is_drawn, is_letter, is_original};
+use crate::drawing::Drawing;
+use crate::letters::{is_drawn, is_letter};
+use crate::parcels::write_route;
 use crate::part::Part;
 use crate::route::Route;
 use crate::sheet::Sheet;
@@ -12,25 +13,8 @@ use mx_plan::Plan;
 use mx_stamps::NodeId;
 use std::alloc::AllocError;
 
-/// What an event is about: the node that acts, or the number of the parcel that is delivered.
-#[derive(Clone, Copy)]
-pub(crate) enum Subject {
-    Node(NodeId),
-    Parcel(u64),
-}
-
-/// Returns the parcel of a delivery, or the node of any other event.
-pub(crate) fn subject_of(event: &Event) -> Subject {
-    match event {
-        Event::Deliver(number) => Subject::Parcel(*number),
-        _ => Subject::Node(event.node().unwrap_or_default()),
-    }
-}
-
-/// Returns whether the newest event, `entry`, is shown. The event has this index, and sent the
-/// parcels from `before` on. It has to be in the drawn part, and to be an event of a shown node, or
-/// to send or deliver a parcel from or to such a node. If only letters are shown, `is_drawn` has to
-/// allow it too.
+/// Returns whether the newest event, `entry`, is shown: it is in the drawn part, and an event of a
+/// shown node, or sends or delivers a parcel from or to such a node.
 pub(crate) fn is_shown<C: Exclusion>(
     index: u64,
     before: u64,
@@ -39,20 +23,17 @@ pub(crate) fn is_shown<C: Exclusion>(
     drawing: &Drawing,
 ) -> bool {
     let part = &drawing.part;
-    if !part.has_index(index) || !is_allowed(entry, part, &drawing.sheet) {
+    let flights = drawing.sheet.flights.as_slice();
+    if !part.has_index(index)
+        || part.only_letters && !is_drawn(&entry.event, &entry.outcome, flights)
+    {
         return false;
     }
-    let is_own = match subject_of(&entry.event) {
-        Subject::Parcel(number) => concerns(cluster, number, part),
-        Subject::Node(node) => part.has_node(node),
+    let is_own = match &entry.event {
+        Event::Deliver(number) => concerns(cluster, *number, part),
+        event => part.has_node(event.node().unwrap_or_default()),
     };
     is_own || (before..cluster.sent()).any(|number| concerns(cluster, number, part))
-}
-
-/// Returns whether an event may be shown: all may, or only those that `is_drawn` allows if only
-/// letters are shown.
-fn is_allowed(entry: &Entry, part: &Part, sheet: &Sheet) -> bool {
-    !part.only_letters || is_drawn(&entry.event, &entry.outcome, sheet.flights())
 }
 
 /// Returns whether the parcel of this number is from or to a shown node, and is a letter if only
@@ -67,50 +48,28 @@ pub(crate) fn concerns<C: Exclusion>(cluster: &Cluster<C>, number: u64, part: &P
     }
 }
 
-/// Takes note of the newest event, which is not shown: of its delivery or new phase, and of the
-/// parcels that it sent. The event has this index, and its parcels have the numbers from `before`
-/// on. An event after the drawn part changes no phase.
+/// Takes note of the newest event, which is not shown. After the drawn part it changes no phase.
 pub(crate) fn pass_over<C: Exclusion>(
     plan: &Plan,
     index: u64,
-    before: u64,
+    entry: &Entry,
     cluster: &Cluster<C>,
     drawing: &mut Drawing,
 ) -> Result<(), AllocError>
 where
     C::Msg: Letter,
 {
-    let Some(entry) = cluster.trace().last() else {
-        return Ok(());
-    };
-    match subject_of(&entry.event) {
-        Subject::Parcel(number) => pass_delivery(plan, cluster, number, drawing)?,
-        Subject::Node(node) if index <= drawing.part.to => {
-            pass_outcome(node, &entry.outcome, &mut drawing.sheet)?
+    match &entry.event {
+        Event::Deliver(number) => pass_delivery(plan, cluster, *number, drawing),
+        event if index <= drawing.part.to => {
+            let node = event.node().unwrap_or_default();
+            change_phase(node, &entry.outcome, &mut drawing.sheet)
         }
-        Subject::Node(_) => {}
-    }
-    for number in before..cluster.sent() {
-        let is_original = sends_original(cluster, number, &entry.event);
-        drawing.sheet.send(false, is_original)?;
-    }
-    Ok(())
-}
-
-/// Returns whether the parcel of this number, which the event sent, is a letter, and the event is
-/// no tick.
-pub(crate) fn sends_original<C: Exclusion>(
-    cluster: &Cluster<C>,
-    number: u64,
-    event: &Event,
-) -> bool {
-    match cluster.sent_parcel(number) {
-        Some(sent) => is_original(event, sent.parcel),
-        None => false,
+        _ => Ok(()),
     }
 }
 
-/// Takes note of a delivery that is not shown: that of the parcel of this number.
+/// Takes note of a delivery that is not shown.
 fn pass_delivery<C: Exclusion>(
     plan: &Plan,
     cluster: &Cluster<C>,
@@ -127,30 +86,27 @@ where
         write_route(plan, number, &sent, &mut drawing.label)?;
     }
     let title = drawing.label.as_str();
-    drawing.sheet.cut_off(number, Route::new(&sent), title)
+    drawing
+        .sheet
+        .arrive(number, Route::new(&sent), false, title)
 }
 
-/// Changes the phase of a node if the outcome of its event, which is not shown, leads to another.
-fn pass_outcome(node: NodeId, outcome: &Outcome, sheet: &mut Sheet) -> Result<(), AllocError> {
-    match phase_after(outcome) {
-        Some(Phase::Inside(number)) => sheet.enter(node, number),
-        Some(phase) => sheet.change(node, phase),
-        None => Ok(()),
-    }
-}
-
-/// Returns the phase to which an outcome leads, or `None` if the phase stays.
-pub(crate) fn phase_after(outcome: &Outcome) -> Option<Phase> {
+/// Changes the phase of a node if the outcome of its event leads to another.
+pub(crate) fn change_phase(
+    node: NodeId,
+    outcome: &Outcome,
+    sheet: &mut Sheet,
+) -> Result<(), AllocError> {
     match outcome {
-        Outcome::Entered(number) => Some(Phase::Inside(*number)),
-        Outcome::Left(_) | Outcome::Cancelled => Some(Phase::Idle),
-        Outcome::Asked(_) => Some(Phase::Waiting),
+        Outcome::Entered(number) => sheet.enter(node, *number),
+        Outcome::Left(_) | Outcome::Cancelled => sheet.change(node, Phase::Idle),
+        Outcome::Asked(_) => sheet.change(node, Phase::Waiting),
         Outcome::Value(_)
         | Outcome::Written
         | Outcome::Sent(_)
         | Outcome::Settled
         | Outcome::Delivered
         | Outcome::Woken
-        | Outcome::Refused(_) => None,
+        | Outcome::Refused(_) => Ok(()),
     }
 }

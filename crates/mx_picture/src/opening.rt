@@ -1,7 +1,7 @@
 //! The first two lines of a picture: its size, and its title.
 
 ghost use Rattle.std.specs.Prelude.{◌≡◌, ◌<◌, ◌++◌, OnOk, Some, string_bytes};
-ghost use Rattle.mx_picture.specs.Drawn.{algorithm_name, corner_text, name_text, names_text, opening_line, size_text, title_end, title_line, title_start, view_text};
+ghost use Rattle.mx_picture.specs.Drawn.{algorithm_name, name_text, names_text, opening_line, title_end, title_line, title_start};
 
 use mx_format::name_of;
 use mx_plan::{Plan, Shape};
@@ -9,80 +9,31 @@ use mx_stamps::{MAX_NODES, NodeId};
 use std::alloc::AllocError;
 use std::fmt;
 
-/// The first line of a picture.
+/// What of the plane a picture shows, in pixels: its width and height, and the distance from its
+/// top left corner to the line of its first node (`left`) and to its first row (`top`).
 #[derive(Clone, Copy)]
-pub(crate) struct OpeningLine {
-    pub(crate) corner: Corner,
-    pub(crate) size: Size,
-}
-
-impl fmt::Display for OpeningLine {
-    ghost output = { λ l. Some (opening_line l.corner l.size) };
-
-    fn fmt<W: fmt::Write>(&self, f: &mut fmt::Formatter<W>) -> fmt::Result {
-        let size = self.size;
-        let view = View {
-            corner: self.corner,
-            size,
-        };
-        write!(
-            f,
-            "<svg xmlns=\"http://www.w3.org/2000/svg\" role=\"img\" {size} {view}>\n"
-        )
-    }
-}
-
-/// The width and the height of a picture, in pixels.
-#[derive(Clone, Copy)]
-pub(crate) struct Size {
+pub(crate) struct Frame {
+    pub(crate) left: u64,
+    pub(crate) top: u64,
     pub(crate) width: u64,
     pub(crate) height: u64,
 }
 
-impl fmt::Display for Size {
-    ghost output = { λ s. Some (size_text s) };
+impl fmt::Display for Frame {
+    ghost output = { λ frame. Some (opening_line frame) };
 
     fn fmt<W: fmt::Write>(&self, f: &mut fmt::Formatter<W>) -> fmt::Result {
-        write!(f, "width=\"{}\" height=\"{}\"", self.width, self.height)
+        let width = self.width;
+        let height = self.height;
+        write!(
+            f,
+            "<svg xmlns=\"http://www.w3.org/2000/svg\" role=\"img\" width=\"{width}\" height=\"{height}\" viewBox=\"-{} -{} {width} {height}\">\n",
+            self.left, self.top
+        )
     }
 }
 
-/// The distance from the top left corner of a picture to the line of its first node (`left`), and
-/// to its first row (`top`), in pixels.
-#[derive(Clone, Copy)]
-pub(crate) struct Corner {
-    pub(crate) left: u64,
-    pub(crate) top: u64,
-}
-
-impl fmt::Display for Corner {
-    ghost output = { λ c. Some (corner_text c) };
-
-    fn fmt<W: fmt::Write>(&self, f: &mut fmt::Formatter<W>) -> fmt::Result {
-        write!(f, "-{} -{}", self.left, self.top)
-    }
-}
-
-/// The rectangle of coordinates that a picture shows (`viewBox`).
-#[derive(Clone, Copy)]
-struct View {
-    corner: Corner,
-    size: Size,
-}
-
-impl fmt::Display for View {
-    ghost output = { λ v. Some (view_text v.corner v.size) };
-
-    fn fmt<W: fmt::Write>(&self, f: &mut fmt::Formatter<W>) -> fmt::Result {
-        let corner = self.corner;
-        let width = self.size.width;
-        let height = self.size.height;
-        write!(f, "viewBox=\"{corner} {width} {height}\"")
-    }
-}
-
-/// Appends the title: the algorithm, the names of the nodes, and the number of events. Names need
-/// no escapes: a plan allows no character in them that XML escapes.
+/// Appends the title. Names need no escapes: a plan allows no character in them that XML escapes.
 pub(crate) fn add_title_line(plan: &Plan, events: u64, text: &mut String) -> Result<(), AllocError>
     ensures { OnOk result (string_bytes text.new
         ≡ string_bytes text.old ++ title_line plan.now events) }
@@ -92,7 +43,6 @@ pub(crate) fn add_title_line(plan: &Plan, events: u64, text: &mut String) -> Res
     text.write(TitleEnd(events))
 }
 
-/// The title up to the names of the nodes, with the name of the algorithm.
 #[derive(Clone, Copy)]
 struct TitleStart<'a>(&'a str);
 
@@ -104,7 +54,6 @@ impl fmt::Display for TitleStart<'_> {
     }
 }
 
-/// The title after the names of the nodes, with the number of events.
 #[derive(Clone, Copy)]
 struct TitleEnd(u64);
 
@@ -116,7 +65,6 @@ impl fmt::Display for TitleEnd {
     }
 }
 
-/// Returns the name of the plan's algorithm, in the form `Maekawa's`.
 pub(crate) fn algorithm_of(plan: &Plan) -> &'static str
     ensures { result.now ≡ algorithm_name plan.now.shape }
 {
@@ -127,7 +75,6 @@ pub(crate) fn algorithm_of(plan: &Plan) -> &'static str
     }
 }
 
-/// Appends the names of all nodes, each after a space.
 fn add_names(plan: &Plan, text: &mut String) -> Result<(), AllocError>
     ensures { OnOk result (string_bytes text.new ≡ string_bytes text.old ++ names_text plan.now) }
 {
@@ -137,7 +84,6 @@ fn add_names(plan: &Plan, text: &mut String) -> Result<(), AllocError>
     Ok(())
 }
 
-/// Appends a space and the name of node `i`.
 fn add_name(plan: &Plan, i: u8, text: &mut String) -> Result<(), AllocError>
     requires { i < MAX_NODES }
     ensures { OnOk result (string_bytes text.new ≡ string_bytes text.old ++ name_text plan.now i) }

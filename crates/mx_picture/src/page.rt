@@ -3,18 +3,16 @@
 ghost use Rattle.std.specs.Prelude.{string_bytes, IfOk};
 ghost use Rattle.mx_picture.specs.Drawn.{IsPicture};
 
-use crate::columns::Columns;
-use crate::heading::{add_story, heading_of};
+use crate::columns::{Columns, Lanes};
 use crate::labels::Extent;
-use crate::lanes::Lanes;
 use crate::legend::{LEGEND, LEGEND_WIDTH, STYLES};
-use crate::opening::{Corner, OpeningLine, Size, add_title_line};
+use crate::opening::{Frame, add_title_line, algorithm_of};
 use crate::part::Part;
-use crate::rows::y_of;
+use crate::segment::y_of;
 use crate::shapes::Shapes;
 use crate::sheet::Sheet;
-use crate::text_width::width_of;
-use crate::title::add_escaped;
+use crate::text::width_of;
+use mx_format::name_of;
 use mx_plan::Plan;
 use mx_stamps::{MAX_NODES, NodeId};
 use std::alloc::{AllocError, Global};
@@ -42,52 +40,27 @@ const MARGIN: u64 = 40;
 /// The distance of the heading from the edge, in pixels.
 const INDENT: u64 = 16;
 
-/// The size of the page, in pixels, with room for all texts. The line of the first node is `left`
-/// pixels from the left edge, and all lines end `bottom` pixels below the first row.
-#[derive(Clone, Copy)]
-struct Frame {
-    left: u64,
-    width: u64,
-    height: u64,
-    bottom: u64,
-}
-
-impl Frame {
-    /// Finds the size for these columns, for texts of this extent, and for this heading.
-    fn new(columns: &Columns, extent: Extent, heading: &str, bottom: u64) -> Self {
-        let left = extent
-            .left
-            .saturating_add(MARGIN)
-            .max(NAME)
-            .saturating_add(INDICES);
-        let right = extent
-            .right
-            .saturating_add(MARGIN)
-            .max(columns.last.saturating_add(NAME))
-            .saturating_add(INDICES);
-        Frame {
-            left,
-            width: left
-                .saturating_add(right)
-                .max(LEGEND_WIDTH)
-                .max(heading_width(heading)),
-            height: bottom.saturating_add(HEAD + FOOT),
-            bottom,
-        }
-    }
-
-    /// Returns the first line of the SVG.
-    fn opening(&self) -> OpeningLine {
-        OpeningLine {
-            corner: Corner {
-                left: self.left,
-                top: HEAD,
-            },
-            size: Size {
-                width: self.width,
-                height: self.height,
-            },
-        }
+/// Returns the frame with room for these columns, for texts of this extent, and for this heading.
+/// All lines end `bottom` pixels below the first row.
+fn frame_of(columns: &Columns, extent: Extent, heading: &str, bottom: u64) -> Frame {
+    let left = extent
+        .left
+        .saturating_add(MARGIN)
+        .max(NAME)
+        .saturating_add(INDICES);
+    let right = extent
+        .right
+        .saturating_add(MARGIN)
+        .max(columns.last.saturating_add(NAME))
+        .saturating_add(INDICES);
+    Frame {
+        left,
+        top: HEAD,
+        width: left
+            .saturating_add(right)
+            .max(LEGEND_WIDTH)
+            .max(heading_width(heading)),
+        height: bottom.saturating_add(HEAD + FOOT),
     }
 }
 
@@ -97,23 +70,22 @@ fn heading_width(heading: &str) -> u64 {
     width_of(heading).saturating_mul(5) / 4 + 2 * INDENT
 }
 
-/// What a page shows, and the places of the nodes' lines on it.
 #[derive(Drop)]
 struct Page<'a> {
     plan: &'a Plan,
     shapes: &'a Shapes,
     columns: Columns,
     frame: Frame,
+    /// Where the lines of nodes end.
+    bottom: u64,
 }
 
-/// The SVG of a page below its title, and the size of the page.
 #[derive(Drop)]
 struct Body {
     frame: Frame,
     svg: String,
 }
 
-/// Returns the whole SVG of a part of a run. `events` is the number of events of the run.
 pub(crate) fn page_of(
     plan: &Plan,
     events: u64,
@@ -126,97 +98,121 @@ pub(crate) fn page_of(
     whole_page(sheet.shapes.alloc, plan, events, &body)
 }
 
-/// Returns the whole SVG: its first line, its title and this body.
 fn whole_page(alloc: Global, plan: &Plan, events: u64, body: &Body) -> Result<String, AllocError>
     ensures { IfOk result (λ page. IsPicture plan.now events (string_bytes page)) }
 {
     let mut text = String::new(alloc);
-    text.write(body.frame.opening())?;
+    text.write(body.frame)?;
     add_title_line(plan, events, &mut text)?;
     text.push_str(body.svg.as_str())?;
     text.push_str("</svg>\n")?;
     Ok(text)
 }
 
-/// Returns the SVG of a part of a run below the title, and the size of its page.
 fn body_of(plan: &Plan, part: &Part, sheet: &Sheet) -> Result<Body, AllocError> {
     let shapes = &sheet.shapes;
-    let columns = columns_of(plan, part, shapes);
+    // In a part of a run, only nodes that act or receive get a line, or all if there are none.
+    let lanes = if part.is_whole() || shapes.lanes.len() == 0 {
+        Lanes::new(plan.nodes())
+    } else {
+        shapes.lanes
+    };
+    let columns = Columns::new(plan, &lanes, shapes.labels.as_slice());
     let texts = shapes.texts(&columns)?;
     let heading = heading_of(plan, part, sheet)?;
-    let frame = Frame::new(&columns, texts.extent, heading.as_str(), y_of(sheet.row));
+    let bottom = y_of(sheet.row);
+    let frame = frame_of(&columns, texts.extent, heading.as_str(), bottom);
     let page = Page {
         plan,
         shapes,
         columns,
         frame,
+        bottom,
     };
     let mut svg = String::new(shapes.alloc);
-    add_top(&page, heading.as_str(), &mut svg)?;
-    add_lines(&page, &mut svg)?;
-    add_marks(&page, texts.svg.as_str(), &mut svg)?;
+    add_page(&page, heading.as_str(), texts.svg.as_str(), &mut svg)?;
     Ok(Body { frame, svg })
 }
 
-/// Returns the columns of the nodes that get a line: in a part of a run, those that act or receive
-/// in it; in a whole run, or if there are none, all.
-fn columns_of(plan: &Plan, part: &Part, shapes: &Shapes) -> Columns {
-    let lanes = if part.is_whole() || shapes.lanes.is_empty() {
-        Lanes::all(plan.nodes())
-    } else {
-        shapes.lanes
-    };
-    Columns::new(plan, &lanes, shapes.labels.as_slice())
+/// Returns the algorithm, the number of nodes, the number of sections entered, which part of the
+/// run is shown, and whether that part is empty.
+fn heading_of(plan: &Plan, part: &Part, sheet: &Sheet) -> Result<String, AllocError> {
+    let mut text = String::new(sheet.shapes.alloc);
+    add_heading(plan, part, sheet, &mut text)?;
+    Ok(text)
 }
 
-/// Appends the description, and what the shapes are drawn over: the styles, the legend, the
-/// heading, guides, indices and the lines of nodes.
-fn add_top(page: &Page<'_>, heading: &str, text: &mut String) -> Result<(), AllocError> {
-    add_story(page.shapes.story.as_str(), text)?;
-    add_head(&page.frame, text)?;
-    add_heading_text(&page.frame, heading, text)?;
+fn add_heading(
+    plan: &Plan,
+    part: &Part,
+    sheet: &Sheet,
+    text: &mut String,
+) -> Result<(), AllocError> {
+    let algorithm = algorithm_of(plan);
+    let nodes = plan.nodes();
+    let entered = sheet.entered;
+    write!(
+        text,
+        "{algorithm} algorithm, nodes: {nodes}, sections entered: {entered}"
+    )?;
+    if part.from > 0 {
+        write!(text, ", from event {}", part.from)?;
+    }
+    if part.to < u64::MAX {
+        write!(text, ", to event {}", part.to)?;
+    }
+    if let Some(node) = part.node {
+        write!(text, ", node {}", name_of(plan, node))?;
+    }
+    if part.only_letters {
+        text.push_str(", letters only")?;
+    }
+    if sheet.shapes.labels.is_empty() {
+        text.push_str(", no events")?;
+    }
+    Ok(())
+}
+
+/// Appends all of a page below its title. `texts` is the SVG of the texts beside nodes.
+fn add_page(
+    page: &Page<'_>,
+    heading: &str,
+    texts: &str,
+    text: &mut String,
+) -> Result<(), AllocError> {
+    add_head(page, heading, text)?;
     add_guides(page, text)?;
     add_indices(page, text)?;
-    add_lanes(page, text)
-}
-
-/// Appends bars, boxes and arrows, and over them the rows that repeat the names of the nodes.
-fn add_lines(page: &Page<'_>, text: &mut String) -> Result<(), AllocError> {
-    page.shapes.add_lines(&page.columns, text)?;
-    page.shapes
-        .add_repeated_names(page.plan, &page.columns, text)
-}
-
-/// Appends dots, numbers of sections, and `texts`, the SVG of the texts beside nodes.
-fn add_marks(page: &Page<'_>, texts: &str, text: &mut String) -> Result<(), AllocError> {
+    add_lanes(page, text)?;
+    page.shapes.add_lines(page.plan, &page.columns, text)?;
     page.shapes.add_marks(&page.columns, text)?;
     text.push_str(texts)
 }
 
-/// Appends the styles, the white background and the legend.
-fn add_head(frame: &Frame, text: &mut String) -> Result<(), AllocError> {
-    let left = frame.left;
-    let width = frame.width;
-    let height = frame.height;
-    text.push_str(STYLES)?;
-    write!(text, "<g transform=\"translate(-{left} -{HEAD})\">\n")?;
+/// Appends the description, the styles, the white background, the legend and the heading.
+fn add_head(page: &Page<'_>, heading: &str, text: &mut String) -> Result<(), AllocError> {
+    let mut story = page.shapes.story.as_str();
+    if story.is_empty() {
+        story = " none.";
+    }
+    let left = page.frame.left;
+    let width = page.frame.width;
+    let height = page.frame.height;
+    let aside = left.saturating_sub(INDENT);
     write!(
         text,
-        "<path class=\"paper\" d=\"M0 0h{width}v{height}h-{width}z\"/>\n<g transform=\"translate(0 22)\">\n"
+        "<desc>Time goes down, and each event is told beside its node. Sections:{story}</desc>\n{STYLES}"
     )?;
-    text.push_str(LEGEND)?;
-    text.push_str("</g>\n</g>\n")
+    write!(
+        text,
+        "<g transform=\"translate(-{left} -{HEAD})\">\n<path class=\"paper\" d=\"M0 0h{width}v{height}h-{width}z\"/>\n<g transform=\"translate(0 22)\">\n{LEGEND}</g>\n</g>\n"
+    )?;
+    write!(
+        text,
+        "<text class=\"heading\" x=\"-{aside}\" y=\"-66\">{heading}</text>\n"
+    )
 }
 
-/// Appends the heading.
-fn add_heading_text(frame: &Frame, heading: &str, text: &mut String) -> Result<(), AllocError> {
-    let aside = frame.left.saturating_sub(INDENT);
-    write!(text, "<text class=\"heading\" x=\"-{aside}\" y=\"-66\">")?;
-    text.push_str(heading)?;
-    text.push_str("</text>\n")
-}
-
-/// Appends the guides: lines across the page at each tenth event.
 fn add_guides(page: &Page<'_>, text: &mut String) -> Result<(), AllocError> {
     let left = page.frame.left;
     let width = page.frame.width;
@@ -230,38 +226,28 @@ fn add_guides(page: &Page<'_>, text: &mut String) -> Result<(), AllocError> {
 /// Appends the indices of the events, at the left edge and at the right one.
 fn add_indices(page: &Page<'_>, text: &mut String) -> Result<(), AllocError> {
     let aside = page.frame.left.saturating_sub(INDEX_END);
+    let across = page.frame.width.saturating_sub(INDICES);
+    let indices = page.shapes.indices.as_str();
     write!(
         text,
-        "<g id=\"indices\" class=\"index\" transform=\"translate(-{aside})\">\n<text y=\"-18\">event</text>\n"
-    )?;
-    text.push_str(page.shapes.indices.as_str())?;
-    let across = page.frame.width.saturating_sub(INDICES);
-    write!(text, "</g>\n<use href=\"#indices\" x=\"{across}\"/>\n")
+        "<g id=\"indices\" class=\"index\" transform=\"translate(-{aside})\">\n<text y=\"-18\">event</text>\n{indices}</g>\n<use href=\"#indices\" x=\"{across}\"/>\n"
+    )
 }
 
 /// Appends the line of each node that is shown, with its name above and below.
 fn add_lanes(page: &Page<'_>, text: &mut String) -> Result<(), AllocError> {
     for index in 0..MAX_NODES {
         if let Some(node) = NodeId::of(index)
-            && page.columns.has(node)
+            && page.columns.lanes.has(node)
         {
-            let name = page.plan.node_name(index).unwrap_or("");
-            add_lane(name, page.columns.x_of(node), page.frame.bottom, text)?;
+            let name = name_of(page.plan, node);
+            let x = page.columns.x_of(node);
+            let bottom = page.bottom;
+            write!(
+                text,
+                "<path class=\"node\" d=\"M{x}-12V{bottom}\"/>\n<text class=\"name\" x=\"{x}\" y=\"-18\">{name}</text>\n<text class=\"name\" x=\"{x}\" y=\"{bottom}\" dy=\"20\">{name}</text>\n"
+            )?;
         }
     }
     Ok(())
-}
-
-/// Appends the line of a node at `x`, down to the height `bottom`, with the node's name above and
-/// below.
-fn add_lane(name: &str, x: u64, bottom: u64, text: &mut String) -> Result<(), AllocError> {
-    write!(text, "<path class=\"node\" d=\"M{x}-12V{bottom}\"/>\n")?;
-    write!(text, "<text class=\"name\" x=\"{x}\" y=\"-18\">")?;
-    add_escaped(name, text)?;
-    write!(
-        text,
-        "</text>\n<text class=\"name\" x=\"{x}\" y=\"{bottom}\" dy=\"20\">"
-    )?;
-    add_escaped(name, text)?;
-    text.push_str("</text>\n")
 }

@@ -1,11 +1,12 @@
 //! The drawing of parcels: as arrows to their delivery, or lost in the air.
 
-use crate::drawing::{Drawing, write_end, write_journal, write_parcel, write_route};
-use crate::omissions::{concerns, sends_original};
+use crate::drawing::Drawing;
+use crate::letters::is_original;
+use crate::omissions::concerns;
 use crate::route::Route;
 use crate::side::Side;
-use mx_format::Letter;
-use mx_member::SentParcel;
+use mx_format::{Letter, add_parcel, name_of};
+use mx_member::{Parcel, SentParcel};
 use mx_network::{Cluster, Event};
 use mx_nodelaws::Exclusion;
 use mx_plan::Plan;
@@ -25,93 +26,93 @@ where
     let Some(sent) = cluster.sent_parcel(number) else {
         return Ok(());
     };
-    draw_arrow(plan, number, &sent, drawing)?;
-    write_delivery(plan, number, &sent, drawing)?;
-    write_journal(cluster, sent.to, drawing)?;
-    let side = Side::after(Route::new(&sent).is_left());
-    drawing.sheet.mark(sent.to, side, drawing.label.as_str())
-}
-
-/// Replaces the label by the number and the text of a parcel that is delivered now, and by its
-/// sender if the arrow is long or its start is not shown.
-fn write_delivery<M: Letter>(
-    plan: &Plan,
-    number: u64,
-    sent: &SentParcel<'_, M>,
-    drawing: &mut Drawing,
-) -> Result<(), AllocError> {
+    let route = Route::new(&sent);
+    write_route(plan, number, &sent, &mut drawing.label)?;
+    drawing
+        .sheet
+        .arrive(number, route, true, drawing.label.as_str())?;
     write_parcel(plan, number, sent.parcel, &mut drawing.label)?;
-    if drawing.sheet.is_far(number, Route::new(sent)) {
-        write_end(plan, "from", sent.from, &mut drawing.label)
-    } else {
-        Ok(())
+    if drawing.sheet.is_far(number, route) {
+        write!(drawing.label, " from {}", name_of(plan, sent.from))?;
     }
+    let label = drawing.label.as_str();
+    drawing.sheet.dot(sent.to, false, label)?;
+    let side = if route.is_left() {
+        Side::Left
+    } else {
+        Side::Right
+    };
+    drawing.sheet.text(sent.to, side, label)
 }
 
-/// Draws the arrow of a parcel to its delivery. The title of the arrow has the text, the sender and
-/// the addressee of the parcel.
-fn draw_arrow<M: Letter>(
-    plan: &Plan,
-    number: u64,
-    sent: &SentParcel<'_, M>,
-    drawing: &mut Drawing,
-) -> Result<(), AllocError> {
-    write_route(plan, number, sent, &mut drawing.label)?;
-    let title = drawing.label.as_str();
-    drawing.sheet.arrow(number, Route::new(sent), title)
-}
-
-/// Notes the parcels that the newest event sent, from `before` on, and draws those of the drawn
-/// part that no event delivers.
+/// Notes the parcels that the newest event sent, from `before` on. Draws those of the drawn part
+/// that no event delivers, if the event is shown.
 pub(crate) fn draw_sent<C: Exclusion>(
     plan: &Plan,
     cluster: &Cluster<C>,
     before: u64,
     event: &Event,
+    is_event_shown: bool,
     drawing: &mut Drawing,
 ) -> Result<(), AllocError>
 where
     C::Msg: Letter,
 {
     for number in before..cluster.sent() {
-        let is_shown = concerns(cluster, number, &drawing.part);
-        let is_original = sends_original(cluster, number, event);
-        drawing.sheet.send(is_shown, is_original)?;
-        if is_shown && !drawing.arriving.contains(&number) {
-            draw_loss(plan, cluster, number, drawing)?;
+        if let Some(sent) = cluster.sent_parcel(number) {
+            let is_shown = is_event_shown && concerns(cluster, number, &drawing.part);
+            drawing
+                .sheet
+                .send(is_shown, is_original(event, sent.parcel))?;
+            if is_shown && !drawing.arriving.contains(&number) {
+                draw_loss(plan, number, &sent, drawing)?;
+            }
         }
     }
     Ok(())
 }
 
-/// Draws the parcel of this number, which no event delivers, in a new row.
-fn draw_loss<C: Exclusion>(
+/// Draws a parcel that no event delivers, in a new row.
+fn draw_loss<M: Letter>(
     plan: &Plan,
-    cluster: &Cluster<C>,
     number: u64,
+    sent: &SentParcel<'_, M>,
     drawing: &mut Drawing,
-) -> Result<(), AllocError>
-where
-    C::Msg: Letter,
-{
-    let Some(sent) = cluster.sent_parcel(number) else {
-        return Ok(());
-    };
-    let route = Route::new(&sent);
-    write_route(plan, number, &sent, &mut drawing.label)?;
+) -> Result<(), AllocError> {
+    let route = Route::new(sent);
+    write_route(plan, number, sent, &mut drawing.label)?;
     drawing.sheet.lose(route, drawing.label.as_str())?;
-    write_loss(plan, number, &sent, &mut drawing.label)?;
-    let side = Side::in_air(route.is_left());
+    write_parcel(plan, number, sent.parcel, &mut drawing.label)?;
+    write!(drawing.label, " to {}", name_of(plan, sent.to))?;
+    let side = if route.is_left() {
+        Side::LeftInAir
+    } else {
+        Side::RightInAir
+    };
     drawing.sheet.text(route.from, side, drawing.label.as_str())
 }
 
-/// Replaces the label by the number, the text and the addressee of a parcel.
-fn write_loss<M: Letter>(
+/// Replaces the label by the number and the text of a parcel.
+fn write_parcel<M: Letter>(
+    plan: &Plan,
+    number: u64,
+    parcel: &Parcel<M>,
+    label: &mut String,
+) -> Result<(), AllocError> {
+    label.clear();
+    write!(label, "#{number} ")?;
+    add_parcel(plan, parcel, label)
+}
+
+/// Replaces the label by the number, the text, the sender and the addressee of a parcel.
+pub(crate) fn write_route<M: Letter>(
     plan: &Plan,
     number: u64,
     sent: &SentParcel<'_, M>,
     label: &mut String,
 ) -> Result<(), AllocError> {
     write_parcel(plan, number, sent.parcel, label)?;
-    write_end(plan, "to", sent.to, label)
+    let from = name_of(plan, sent.from);
+    let to = name_of(plan, sent.to);
+    write!(label, " from {from} to {to}")
 }

@@ -1,5 +1,6 @@
 //! The phases of nodes: bars while they wait, and boxes while they are inside.
 
+use crate::columns::Columns;
 use mx_nodelaws::Phase;
 use mx_stamps::NodeId;
 use std::alloc::AllocError;
@@ -21,32 +22,39 @@ pub(crate) struct Bar {
 }
 
 impl Bar {
-    /// Appends the bar of a node that waits, or the box of one that is inside, on the line at `x`.
-    pub(crate) fn add_to(&self, x: u64, text: &mut String) -> Result<(), AllocError> {
+    pub(crate) fn add_to(&self, columns: &Columns, text: &mut String) -> Result<(), AllocError> {
+        let x = columns.x_of(self.node);
         let y = self.y;
         let down = self.down;
         match self.phase {
-            Phase::Idle => Ok(()),
-            Phase::Waiting => write!(text, "<path class=\"waits\" d=\"M{x} {y}v{down}\"/>\n"),
-            Phase::Inside(number) => {
+            Phase::Waiting if columns.lanes.has(self.node) => {
+                write!(text, "<path class=\"waits\" d=\"M{x} {y}v{down}\"/>\n")
+            }
+            Phase::Inside(number) if columns.lanes.has(self.node) => {
                 let high = down.saturating_add(12);
                 write!(
                     text,
                     "<path class=\"inside\" d=\"M{x} {y}m-12-6h24v{high}h-24z\"><title>section {number}</title></path>\n"
                 )
             }
+            _ => Ok(()),
         }
     }
 
-    /// Appends the number of the section in the box of a node that is inside, on the line at `x`.
-    pub(crate) fn add_number(&self, x: u64, text: &mut String) -> Result<(), AllocError> {
+    /// Appends the number of the section in the box of a node that is inside.
+    pub(crate) fn add_number(
+        &self,
+        columns: &Columns,
+        text: &mut String,
+    ) -> Result<(), AllocError> {
+        let x = columns.x_of(self.node);
         let y = self.y;
         match self.phase {
-            Phase::Inside(number) => write!(
+            Phase::Inside(number) if columns.lanes.has(self.node) => write!(
                 text,
                 "<text class=\"section\" x=\"{x}\" y=\"{y}\" dy=\"4\">{number}</text>\n"
             ),
-            Phase::Idle | Phase::Waiting => Ok(()),
+            _ => Ok(()),
         }
     }
 }

@@ -1,8 +1,7 @@
-//! The routes of parcels.
+//! The routes of parcels, and the styles of their arrows.
 
-use crate::style::style_of;
 use mx_format::{Letter, Style};
-use mx_member::SentParcel;
+use mx_member::{Parcel, SentParcel};
 use mx_stamps::NodeId;
 
 /// The sender and the addressee of a parcel, and the style of its arrow.
@@ -14,16 +13,27 @@ pub(crate) struct Route {
 }
 
 impl Route {
-    /// Returns the route of a parcel.
     pub(crate) fn new<M: Letter>(sent: &SentParcel<'_, M>) -> Self {
+        let style = match sent.parcel {
+            Parcel::Guard(letter) => letter.parts().style,
+            Parcel::Want(_) | Parcel::Base(_) | Parcel::Records(_) => Style::Other,
+        };
         Route {
             from: sent.from,
             to: sent.to,
-            style: style_of(sent.parcel),
+            style,
         }
     }
 
-    /// Returns whether the parcel goes to the left.
+    /// Returns the class of the arrow, which is also the name of its tip.
+    pub(crate) fn class(&self) -> &'static str {
+        match self.style {
+            Style::Request => "request",
+            Style::Grant => "grant",
+            Style::Other => "other",
+        }
+    }
+
     pub(crate) fn is_left(&self) -> bool {
         self.to.get() < self.from.get()
     }

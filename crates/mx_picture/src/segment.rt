@@ -1,4 +1,20 @@
-//! The lines of arrows, and the rectangles of texts that they may cross.
+//! The heights of rows, the lines of arrows, and the rectangles of texts that they may cross.
+
+ghost use Rattle.std.specs.Prelude.{◌≡◌, ◌≤◌, ◌*◌};
+
+/// The distance between two rows, in pixels.
+pub(crate) const ROW: u64 = 13;
+
+pub(crate) const MAX_ROWS: u64 = 1_000_000_000_000;
+
+/// Returns the height of this many rows, which is also the vertical position of the row of this
+/// number, in pixels.
+pub(crate) fn y_of(rows: u64) -> u64
+    requires { rows ≤ 1000000000000 }
+    ensures { result ≡ 13 * rows }
+{
+    ROW * rows
+}
 
 /// How far lines and rectangles are moved to the right, in pixels, so that no position left of the
 /// first node is negative.
@@ -18,8 +34,7 @@ pub(crate) struct Segment {
 }
 
 impl Segment {
-    /// Creates the line from the node at `from`, at the height `y`, to the node at `to`, `down`
-    /// pixels below. The bow of an arrow to its own node counts as a line at the left of the node.
+    /// The bow of an arrow to its own node counts as a line at the left of the node.
     pub(crate) fn new(from: u64, to: u64, y: u64, down: u64) -> Self {
         let aside = if to == from { SHIFT - BOW } else { SHIFT };
         Segment {
@@ -30,7 +45,6 @@ impl Segment {
         }
     }
 
-    /// Returns the horizontal position of the line at the height `y`.
     fn across(&self, y: u64) -> u64 {
         let down = self.bottom.saturating_sub(self.top).max(1);
         let part = y.saturating_sub(self.top);
@@ -42,7 +56,6 @@ impl Segment {
         }
     }
 
-    /// Returns whether the line runs through a rectangle.
     pub(crate) fn crosses(&self, rect: &Rect) -> bool {
         let top = rect.top.max(self.top);
         let bottom = rect.bottom.min(self.bottom);

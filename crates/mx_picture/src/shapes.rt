@@ -1,22 +1,26 @@
 //! All that a picture shows, before it is known where the lines of the nodes are.
 
-use crate::arrows::{Arrow, End, Piece};
-use crate::columns::Columns;
-use crate::dots::Dot;
+use crate::arrows::{Arrow, End};
+use crate::columns::{Columns, Lanes};
 use crate::labels::{Extent, Label, add_labels};
-use crate::lanes::Lanes;
 use crate::name_rows::NameRow;
 use crate::phases::Bar;
 use crate::route::Route;
-use crate::segment::Segment;
-use crate::side::Side;
-use crate::text_width::width_of;
-use crate::title::{add_escaped, escaped};
+use crate::text::escaped;
 use mx_plan::Plan;
 use mx_stamps::NodeId;
 use std::alloc::{AllocError, Global};
 
-/// The texts beside nodes as SVG, and how far they extend.
+/// The dot of an event at its node. It is hollow if the event is refused.
+#[derive(Drop)]
+pub(crate) struct Dot {
+    pub(crate) node: NodeId,
+    pub(crate) y: u64,
+    pub(crate) is_refused: bool,
+    /// The title, escaped.
+    pub(crate) title: String,
+}
+
 #[derive(Drop)]
 pub(crate) struct Texts {
     pub(crate) svg: String,
@@ -27,12 +31,13 @@ pub(crate) struct Texts {
 #[derive(Drop)]
 pub(crate) struct Shapes {
     pub(crate) alloc: Global,
-    bars: Vec<Bar>,
-    pieces: Vec<Piece>,
-    arrows: Vec<Arrow>,
-    names: Vec<NameRow>,
-    dots: Vec<Dot>,
-    /// The texts beside nodes, one or more for each event that is shown.
+    pub(crate) bars: Vec<Bar>,
+    /// The arrows of which only an end is drawn.
+    pieces: Vec<Arrow>,
+    /// The other arrows. None ends in a lower row than a later one.
+    pub(crate) arrows: Vec<Arrow>,
+    pub(crate) names: Vec<NameRow>,
+    pub(crate) dots: Vec<Dot>,
     pub(crate) labels: Vec<Label>,
     /// The SVG of the events' indices, which both edges show.
     pub(crate) indices: String,
@@ -40,7 +45,7 @@ pub(crate) struct Shapes {
     pub(crate) guides: Vec<u64>,
     /// The entries and exits in words, for readers who cannot see the picture.
     pub(crate) story: String,
-    /// The nodes that act or receive in the picture.
+    /// The nodes that act or receive.
     pub(crate) lanes: Lanes,
 }
 
@@ -57,102 +62,11 @@ impl Shapes {
             indices: String::new(alloc),
             guides: Vec::new(alloc),
             story: String::new(alloc),
-            lanes: Lanes::new(),
+            lanes: Lanes::new(0),
         }
     }
 
-    pub(crate) fn add_bar(&mut self, bar: Bar) -> Result<(), AllocError> {
-        self.bars.push(bar)?;
-        Ok(())
-    }
-
-    pub(crate) fn add_names(&mut self, row: NameRow) -> Result<(), AllocError> {
-        self.names.push(row)?;
-        Ok(())
-    }
-
-    /// Adds the index of an event at the height `y`, or `..` for events that are not shown if there
-    /// is no index.
-    pub(crate) fn add_index(&mut self, y: u64, index: Option<u64>) -> Result<(), AllocError> {
-        write!(self.indices, "<text y=\"{y}\" dy=\"4\">")?;
-        match index {
-            Some(index) => write!(self.indices, "{index}</text>\n"),
-            None => self.indices.push_str("..</text>\n"),
-        }
-    }
-
-    /// Adds a line across the page at the height `y`, if the index of the event is a multiple of
-    /// 10.
-    pub(crate) fn add_guide(&mut self, y: u64, index: u64) -> Result<(), AllocError> {
-        if index % 10 == 0 {
-            self.guides.push(y)?;
-        }
-        Ok(())
-    }
-
-    /// Adds the dot of an event.
-    pub(crate) fn add_dot(
-        &mut self,
-        node: NodeId,
-        y: u64,
-        is_refused: bool,
-        title: &str,
-    ) -> Result<(), AllocError> {
-        let title = escaped(self.alloc, title)?;
-        self.dots.push(Dot {
-            node,
-            y,
-            is_refused,
-            title,
-        })?;
-        Ok(())
-    }
-
-    /// Adds a text beside a node, at the height `y`. No arrow that was added before ends in a lower
-    /// row.
-    pub(crate) fn add_label(
-        &mut self,
-        node: NodeId,
-        y: u64,
-        side: Side,
-        raw: &str,
-    ) -> Result<(), AllocError> {
-        self.lanes.add(node);
-        let text = escaped(self.alloc, raw)?;
-        self.labels.push(Label {
-            node,
-            y,
-            side,
-            width: width_of(raw),
-            arrows: self.arrows.len(),
-            text,
-        })?;
-        Ok(())
-    }
-
-    /// Adds an arrow that begins at the height `y` and goes `down` pixels down. No arrow that was
-    /// added before ends in a lower row.
     pub(crate) fn add_arrow(
-        &mut self,
-        route: Route,
-        is_repeat: bool,
-        y: u64,
-        down: u64,
-        title: &str,
-    ) -> Result<(), AllocError> {
-        let title = escaped(self.alloc, title)?;
-        self.arrows.push(Arrow {
-            route,
-            is_repeat,
-            y,
-            down,
-            title,
-        })?;
-        Ok(())
-    }
-
-    /// Adds the start or the tip of an arrow whose other end is not drawn.
-    pub(crate) fn add_piece(
         &mut self,
         route: Route,
         end: End,
@@ -160,28 +74,20 @@ impl Shapes {
         title: &str,
     ) -> Result<(), AllocError> {
         let title = escaped(self.alloc, title)?;
-        self.pieces.push(Piece {
+        let arrow = Arrow {
             route,
             end,
             y,
             title,
-        })?;
+        };
+        match end {
+            End::Whole { .. } => self.arrows.push(arrow)?,
+            _ => self.pieces.push(arrow)?,
+        }
         Ok(())
     }
 
-    /// Appends this text, about the event of this index, to the description of the picture.
-    pub(crate) fn describe(&mut self, index: u64, raw: &str) -> Result<(), AllocError> {
-        write!(self.story, " {index} ")?;
-        add_escaped(raw, &mut self.story)?;
-        self.story.push('.')
-    }
-
-    /// Returns whether no event is shown.
-    pub(crate) fn is_empty(&self) -> bool {
-        self.labels.is_empty()
-    }
-
-    /// Returns the texts beside nodes, each on its side, as SVG.
+    /// Returns the texts beside nodes, each on its side, as SVG, and how far they extend.
     pub(crate) fn texts(&self, columns: &Columns) -> Result<Texts, AllocError> {
         let mut segments = Vec::new(self.alloc);
         for arrow in &self.arrows {
@@ -193,43 +99,22 @@ impl Shapes {
         Ok(Texts { svg, extent })
     }
 
-    /// Appends bars, boxes, arrows and pieces of arrows.
-    pub(crate) fn add_lines(&self, columns: &Columns, text: &mut String) -> Result<(), AllocError> {
-        self.add_bars(columns, text)?;
-        self.add_pieces(columns, text)?;
-        self.add_arrows(columns, text)
-    }
-
-    fn add_bars(&self, columns: &Columns, text: &mut String) -> Result<(), AllocError> {
-        for bar in &self.bars {
-            if columns.has(bar.node) {
-                bar.add_to(columns.x_of(bar.node), text)?;
-            }
-        }
-        Ok(())
-    }
-
-    fn add_pieces(&self, columns: &Columns, text: &mut String) -> Result<(), AllocError> {
-        for piece in &self.pieces {
-            piece.add_to(columns, text)?;
-        }
-        Ok(())
-    }
-
-    fn add_arrows(&self, columns: &Columns, text: &mut String) -> Result<(), AllocError> {
-        for arrow in &self.arrows {
-            arrow.add_to(columns, text)?;
-        }
-        Ok(())
-    }
-
-    /// Appends the names in the rows that repeat them.
-    pub(crate) fn add_repeated_names(
+    /// Appends bars, boxes and arrows, and over them the rows that repeat the names of the nodes.
+    pub(crate) fn add_lines(
         &self,
         plan: &Plan,
         columns: &Columns,
         text: &mut String,
     ) -> Result<(), AllocError> {
+        for bar in &self.bars {
+            bar.add_to(columns, text)?;
+        }
+        for piece in &self.pieces {
+            piece.add_to(columns, text)?;
+        }
+        for arrow in &self.arrows {
+            arrow.add_to(columns, text)?;
+        }
         for row in &self.names {
             row.add_to(plan, columns, text)?;
         }
@@ -239,16 +124,21 @@ impl Shapes {
     /// Appends dots, and the numbers of sections.
     pub(crate) fn add_marks(&self, columns: &Columns, text: &mut String) -> Result<(), AllocError> {
         for dot in &self.dots {
-            dot.add_to(columns, text)?;
+            let class = if dot.is_refused {
+                " class=\"refused\""
+            } else {
+                ""
+            };
+            let x = columns.x_of(dot.node);
+            let y = dot.y;
+            let title = dot.title.as_str();
+            write!(
+                text,
+                "<circle{class} cx=\"{x}\" cy=\"{y}\" r=\"2.5\"><title>{title}</title></circle>\n"
+            )?;
         }
-        self.add_numbers(columns, text)
-    }
-
-    fn add_numbers(&self, columns: &Columns, text: &mut String) -> Result<(), AllocError> {
         for bar in &self.bars {
-            if columns.has(bar.node) {
-                bar.add_number(columns.x_of(bar.node), text)?;
-            }
+            bar.add_number(columns, text)?;
         }
         Ok(())
     }

@@ -4,13 +4,14 @@ ghost use Rattle.std.specs.Prelude.{◌<◌, ◌≤◌, IsTrue, length, nat_le};
 ghost use Rattle.std.specs.List.{list_all};
 
 use crate::arrows::End;
-use crate::flights::Flight;
+use crate::labels::Label;
 use crate::name_rows::{NAMED_ROWS, NameRow};
 use crate::phases::{Bar, PhaseSpan};
 use crate::route::Route;
-use crate::rows::{MAX_ROWS, y_of};
-use crate::shapes::Shapes;
+use crate::segment::{MAX_ROWS, y_of};
+use crate::shapes::{Dot, Shapes};
 use crate::side::Side;
+use crate::text::{add_escaped, escaped, width_of};
 use mx_nodelaws::Phase;
 use mx_stamps::{MAX_NODES, NodeId};
 use std::alloc::{AllocError, Global};
@@ -22,23 +23,31 @@ const LONG_ROWS: u64 = 26;
 /// An arrow is also long if the numbers of its two nodes differ by this much or more.
 const LONG_NODES: u8 = 6;
 
+/// A parcel that was sent: the row of its sending, and what else is known of it.
+#[derive(Clone, Copy)]
+pub(crate) struct Flight {
+    pub(crate) row: u64,
+    /// Whether the picture shows the sending.
+    pub(crate) is_shown: bool,
+    /// Whether the parcel is a letter that no tick sent.
+    pub(crate) is_original: bool,
+    /// Whether an event so far delivered the parcel.
+    pub(crate) is_delivered: bool,
+}
+
 /// The shapes of a picture, and what has to be known of the rows above.
 #[derive(Drop)]
 pub(crate) struct Sheet {
     pub(crate) shapes: Shapes,
     /// The last row that repeats the names of the nodes, or 0 before the first.
     named: u64,
-    /// The number of sections entered.
     pub(crate) entered: u64,
-    /// The current row.
     pub(crate) row: u64,
     /// The row of the current event.
     event: u64,
-    /// The index of the current event.
     index: u64,
     /// The parcels sent so far, by number.
-    flights: Vec<Flight>,
-    /// The current phase of each node.
+    pub(crate) flights: Vec<Flight>,
     phases: [PhaseSpan; MAX_NODES as usize],
     ghost short: { row ≤ 1000000000000 },
     ghost present: { event ≤ row },
@@ -64,7 +73,7 @@ impl Sheet {
         }
     }
 
-    /// Moves to the next row. Returns `AllocError` if the picture has `MAX_ROWS` rows.
+    /// Returns `AllocError` if the picture has `MAX_ROWS` rows.
     pub(crate) fn next_row(&mut self) -> Result<(), AllocError> {
         if self.row >= MAX_ROWS {
             return Err(AllocError);
@@ -73,73 +82,79 @@ impl Sheet {
         Ok(())
     }
 
-    /// Starts the event of this index in the current row. If the names of the nodes have to be
-    /// repeated, a row with them comes first.
     pub(crate) fn begin(&mut self, index: u64) -> Result<(), AllocError> {
         self.repeat_names()?;
         self.event = self.row;
         self.index = index;
         let y = y_of(self.row);
-        self.shapes.add_guide(y, index)?;
-        self.shapes.add_index(y, Some(index))
+        if index % 10 == 0 {
+            self.shapes.guides.push(y)?;
+        }
+        write!(
+            self.shapes.indices,
+            "<text y=\"{y}\" dy=\"4\">{index}</text>\n"
+        )
     }
 
-    /// Repeats the names of the nodes in a row of their own, if the last such row, or the top of
-    /// the picture before the first, is `NAMED_ROWS` rows or more above.
     fn repeat_names(&mut self) -> Result<(), AllocError> {
         if self.row.saturating_sub(self.named) < NAMED_ROWS {
             return Ok(());
         }
         self.named = self.row;
         let row = NameRow::new(y_of(self.row), &self.phases);
-        self.shapes.add_names(row)?;
+        self.shapes.names.push(row)?;
         self.next_row()
     }
 
-    /// Adds a row with `..` as its index, for events that are not shown.
     pub(crate) fn skip(&mut self) -> Result<(), AllocError> {
-        self.shapes.add_index(y_of(self.row), None)?;
+        let y = y_of(self.row);
+        write!(self.shapes.indices, "<text y=\"{y}\" dy=\"4\">..</text>\n")?;
         self.next_row()
     }
 
-    /// Counts the entry of a node into the section of this number, and changes the node's phase.
     pub(crate) fn enter(&mut self, node: NodeId, number: u64) -> Result<(), AllocError> {
         self.entered = self.entered.saturating_add(1);
         self.change(node, Phase::Inside(number))
     }
 
-    /// Draws the dot of an event at its node, in the current row. The dot has this title, and is
-    /// hollow if the event is refused.
     pub(crate) fn dot(
         &mut self,
         node: NodeId,
         is_refused: bool,
         title: &str,
     ) -> Result<(), AllocError> {
-        let y = y_of(self.row);
-        self.shapes.add_dot(node, y, is_refused, title)
+        let title = escaped(self.shapes.alloc, title)?;
+        self.shapes.dots.push(Dot {
+            node,
+            y: y_of(self.row),
+            is_refused,
+            title,
+        })?;
+        Ok(())
     }
 
-    /// Adds a text beside a node, in the current row.
-    pub(crate) fn text(&mut self, node: NodeId, side: Side, text: &str) -> Result<(), AllocError> {
-        let y = y_of(self.row);
-        self.shapes.add_label(node, y, side, text)
+    pub(crate) fn text(&mut self, node: NodeId, side: Side, raw: &str) -> Result<(), AllocError> {
+        let text = escaped(self.shapes.alloc, raw)?;
+        self.shapes.lanes.add(node);
+        self.shapes.labels.push(Label {
+            node,
+            y: y_of(self.row),
+            side,
+            width: width_of(raw),
+            arrows: self.shapes.arrows.len(),
+            text,
+        })?;
+        Ok(())
     }
 
-    /// Draws the dot of an event at its node, with this text as its title and beside it.
-    pub(crate) fn mark(&mut self, node: NodeId, side: Side, text: &str) -> Result<(), AllocError> {
-        self.dot(node, false, text)?;
-        self.text(node, side, text)
+    /// Appends this text, about the current event, to the description of the picture.
+    pub(crate) fn describe(&mut self, raw: &str) -> Result<(), AllocError> {
+        let index = self.index;
+        write!(self.shapes.story, " {index} ")?;
+        add_escaped(raw, &mut self.shapes.story)?;
+        self.shapes.story.push('.')
     }
 
-    /// Adds this text, about the current event, to the description of the picture.
-    pub(crate) fn describe(&mut self, text: &str) -> Result<(), AllocError> {
-        self.shapes.describe(self.index, text)
-    }
-
-    /// Notes that the next parcel is sent, in the row of the current event. `is_shown` says whether
-    /// the picture shows the sending, and `is_original` whether the parcel is a letter that no tick
-    /// sends.
     pub(crate) fn send(&mut self, is_shown: bool, is_original: bool) -> Result<(), AllocError> {
         self.flights.push(Flight {
             row: self.event,
@@ -150,21 +165,20 @@ impl Sheet {
         Ok(())
     }
 
-    /// Draws the arrow of a parcel that the current event sent and that is never delivered. The
-    /// arrow ends in the air, in a new row.
     pub(crate) fn lose(&mut self, route: Route, title: &str) -> Result<(), AllocError> {
         self.next_row()?;
         let y = y_of(self.event);
         let end = End::Loss(y_of(self.row - self.event));
-        self.shapes.add_piece(route, end, y, title)
+        self.shapes.add_arrow(route, end, y, title)
     }
 
-    /// Draws the arrow of the parcel of this number, which is delivered in the current row. Only
-    /// the tip is drawn if the sending is not shown.
-    pub(crate) fn arrow(
+    /// Notes that the parcel of this number is delivered now, and draws what is seen of its arrow.
+    /// `is_shown` says whether the picture shows the delivery.
+    pub(crate) fn arrive(
         &mut self,
         number: u64,
         route: Route,
+        is_shown: bool,
         title: &str,
     ) -> Result<(), AllocError> {
         let index = number as usize;
@@ -172,24 +186,22 @@ impl Sheet {
             return Ok(());
         }
         let flight = self.deliver(index);
-        if flight.is_shown {
-            self.join(flight, route, title)
-        } else {
-            let y = y_of(self.row);
-            let is_repeat = flight.is_delivered;
-            self.shapes
-                .add_piece(route, End::Delivery { is_repeat }, y, title)
-        }
-    }
-
-    /// Draws the whole arrow of a parcel, from the row of its sending to the current one.
-    fn join(&mut self, flight: Flight, route: Route, title: &str) -> Result<(), AllocError>
-        requires { flight.row ≤ self.old.row }
-    {
+        let is_repeat = flight.is_delivered;
         let y = y_of(flight.row);
-        let down = y_of(self.row - flight.row);
-        self.shapes
-            .add_arrow(route, flight.is_delivered, y, down, title)
+        match (flight.is_shown, is_shown) {
+            (true, true) => {
+                let down = y_of(self.row - flight.row);
+                self.shapes
+                    .add_arrow(route, End::Whole { is_repeat, down }, y, title)
+            }
+            (false, true) => {
+                let y = y_of(self.row);
+                self.shapes
+                    .add_arrow(route, End::Delivery { is_repeat }, y, title)
+            }
+            (true, false) if !is_repeat => self.shapes.add_arrow(route, End::Sending, y, title),
+            _ => Ok(()),
+        }
     }
 
     /// Returns whether the arrow of the parcel of this number, delivered in the current row, is
@@ -206,13 +218,7 @@ impl Sheet {
         }
     }
 
-    /// Returns the parcels that were sent, by number.
-    pub(crate) fn flights(&self) -> &[Flight] {
-        self.flights.as_slice()
-    }
-
-    /// Returns whether only the start of a parcel's arrow is drawn, if its delivery now is not
-    /// shown: the sending is shown, and the parcel was not delivered before.
+    /// Returns whether only the start of a parcel's arrow is drawn, if its delivery now is not shown.
     pub(crate) fn is_cut(&self, number: u64) -> bool {
         match self.flights.get(number as usize) {
             Some(flight) => flight.is_shown && !flight.is_delivered,
@@ -220,43 +226,19 @@ impl Sheet {
         }
     }
 
-    /// Notes that the parcel of this number is delivered by an event that is not shown. Draws the
-    /// start of its arrow if the sending is shown and the parcel was not delivered before.
-    pub(crate) fn cut_off(
-        &mut self,
-        number: u64,
-        route: Route,
-        title: &str,
-    ) -> Result<(), AllocError> {
-        let index = number as usize;
-        if index >= self.flights.len() {
-            return Ok(());
-        }
-        let flight = self.deliver(index);
-        if !flight.is_shown || flight.is_delivered {
-            return Ok(());
-        }
-        self.shapes
-            .add_piece(route, End::Sending, y_of(flight.row), title)
-    }
-
-    /// Notes that the parcel of this number is delivered, and returns what was known of it before.
+    /// Returns what was known of the parcel before.
     fn deliver(&mut self, index: usize) -> Flight
         requires { index < length self.old.flights.items }
         ensures { result.row ≤ self.new.row }
     {
         let flight = self.flights[index];
         self.flights[index] = Flight {
-            row: flight.row,
-            is_shown: flight.is_shown,
-            is_original: flight.is_original,
             is_delivered: true,
+            ..flight
         };
         flight
     }
 
-    /// Changes the phase of a node in the current row, and draws the phase that ends, if that began
-    /// in a row above.
     pub(crate) fn change(&mut self, node: NodeId, phase: Phase) -> Result<(), AllocError> {
         let index = usize::from(node.get());
         let span = self.phases[index];
@@ -270,30 +252,18 @@ impl Sheet {
         self.end(node, span)
     }
 
-    /// Draws a phase of a node that ends in the current row.
     fn end(&mut self, node: NodeId, span: PhaseSpan) -> Result<(), AllocError>
         requires { span.since ≤ self.old.row }
     {
-        self.shapes.add_bar(Bar {
+        self.shapes.bars.push(Bar {
             node,
             y: y_of(span.since),
             down: y_of(self.row - span.since),
             phase: span.phase,
-        })
+        })?;
+        Ok(())
     }
 
-    /// Draws the dot of an event at its node, with this title, and changes the node's phase.
-    pub(crate) fn turn(
-        &mut self,
-        node: NodeId,
-        phase: Phase,
-        title: &str,
-    ) -> Result<(), AllocError> {
-        self.dot(node, false, title)?;
-        self.change(node, phase)
-    }
-
-    /// Ends all phases at the end of the picture.
     pub(crate) fn close(&mut self) -> Result<(), AllocError> {
         for index in 0..MAX_NODES {
             if let Some(node) = NodeId::of(index) {

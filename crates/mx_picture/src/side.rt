@@ -1,8 +1,6 @@
-//! The sides of a node on which a text may be.
-
 /// The place of a text: to the left or right of its node, or on that side beside the end of a lost
 /// parcel's arrow (in the air).
-#[derive(Clone, Copy, PartialEq, Eq)]
+#[derive(Clone, Copy)]
 pub(crate) enum Side {
     Left,
     Right,
@@ -11,23 +9,6 @@ pub(crate) enum Side {
 }
 
 impl Side {
-    /// Returns the side for the text of a delivery, away from the arrow. `is_left` says whether the
-    /// arrow goes to the left.
-    pub(crate) fn after(is_left: bool) -> Side {
-        if is_left { Side::Left } else { Side::Right }
-    }
-
-    /// Returns the side for the text at the end of a lost parcel's arrow. `is_left` says whether
-    /// the arrow goes to the left.
-    pub(crate) fn in_air(is_left: bool) -> Side {
-        if is_left {
-            Side::LeftInAir
-        } else {
-            Side::RightInAir
-        }
-    }
-
-    /// Returns the other side of the node. The text of a lost parcel stays on its side.
     pub(crate) fn other(self) -> Side {
         match self {
             Side::Left => Side::Right,
@@ -51,7 +32,6 @@ impl Side {
         }
     }
 
-    /// Returns the SVG attributes of a text on this side.
     pub(crate) fn attributes(self) -> &'static str {
         match self {
             Side::Left => " class=\"left\" dx=\"-17\"",

@@ -9,24 +9,15 @@ use clap::{ArgMatches, Error};
 use mx_cli::{CommandId, Names, is_given, matches_in, names_at, number_at, text_at};
 use std::alloc::Global;
 
-/// What a command line requests: the names of the plan and the events, the first and the last
-/// index, the node if only one is shown, and whether journals are shown, or only letters.
 #[derive(Clone, Copy)]
 pub(crate) struct Request<'a> {
     pub(crate) names: Names<'a>,
     pub(crate) from: u64,
     pub(crate) to: u64,
     pub(crate) node: Option<&'a str>,
-    pub(crate) has_journals: bool,
     pub(crate) only_letters: bool,
 }
 
-/// Parses a command line that begins with `picture`.
-///
-/// # Errors
-///
-/// Returns the error of `clap` for wrong arguments, and also, with the text to show, if help is
-/// requested.
 pub(crate) fn parse<'a>(alloc: Global, words: &'a [&'a str]) -> Result<Option<Request<'a>>, Error>
     ensures { Asks request_of picture_line (texts_of words.entry.now)
         (request_asked (texts_of words.entry.now)) result }
@@ -35,7 +26,6 @@ pub(crate) fn parse<'a>(alloc: Global, words: &'a [&'a str]) -> Result<Option<Re
     Ok(from_matches(&matches))
 }
 
-/// Returns the request, if the subcommand is `picture` and names a plan and events.
 fn from_matches<'a>(matches: &ArgMatches<'a>) -> Option<Request<'a>>
     ensures { option_map request_of result ≡ request_in (subcommand_rows_of matches.now) }
 {
@@ -45,7 +35,6 @@ fn from_matches<'a>(matches: &ArgMatches<'a>) -> Option<Request<'a>>
     }
 }
 
-/// Returns the request that the arguments of `picture` make, if they name a plan and events.
 fn picture_in<'a>(matches: &ArgMatches<'a>) -> Option<Request<'a>>
     ensures { option_map request_of result ≡ picture_in (rows_of (found_of matches.now)) }
 {
@@ -57,7 +46,6 @@ fn picture_in<'a>(matches: &ArgMatches<'a>) -> Option<Request<'a>>
         from: number_at(matches, "from").unwrap_or(0),
         to: number_at(matches, "to").unwrap_or(u64::MAX),
         node: text_at(matches, "node"),
-        has_journals: is_given(matches, "journals"),
         only_letters: is_given(matches, "letters"),
     })
 }

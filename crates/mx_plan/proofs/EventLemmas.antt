@@ -44,13 +44,6 @@ module _ {X : Type 0} (view : X → Data) (kinds : List ArgumentKind) (xs : List
   abbrev pub form_from : ℕ → Bool
   form_from i = have_form (drop i kinds) (map view (drop i xs))
 
-  pub form_at : (i : ℕ) (kind : ArgumentKind) (x : X) → i < length kinds → i < length xs
-      → form_from i ≡ (has_form (get_or kinds i kind) (view (get_or xs i x)) && form_from (i + 1))
-  form_at i kind x in_kinds in_values = heads have_form i kind x in_kinds in_values
-
-  pub form_end : (i : ℕ) → length kinds ≤ i → length xs ≤ i → form_from i ≡ true
-  form_end i no_kinds no_values = rw (drop_all i kinds no_kinds, drop_all i xs no_values) refl
-
   module _ (p : Fields) (k : ℕ) where
     abbrev pub arguments_from : ℕ → Result (List Argument) PlanFault
     arguments_from i = arguments_in p k (drop i kinds) (map view (drop i xs))

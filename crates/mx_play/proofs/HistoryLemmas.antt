@@ -10,8 +10,8 @@ use Rattle.mx_plan.specs.Text.{Text}
 use Rattle.mx_plan.specs.Fields.{Fields}
 use Rattle.mx_scripts.specs.Fates.{Fates, noted}
 use Rattle.mx_scripts.specs.States.{Brings, IsAllowed, RunState}
-use Rattle.mx_scripts.specs.declared.session_event.SessionEvent.{SessionEvent}
-use Rattle.mx_scripts.specs.declared.session_event.SessionEvent.TheVariants.{Happens, IsLost, LinksChange}
+use Rattle.mx_scripts.specs.declared.state.SessionEvent.{SessionEvent}
+use Rattle.mx_scripts.specs.declared.state.SessionEvent.TheVariants.{Happens, IsLost, LinksChange}
 use Rattle.mx_format.specs.ParcelTexts.{parcel_lines}
 use Rattle.mx_commands.specs.Runs.{event_lines}
 use Rattle.mx_commands.proofs.RunLemmas.{grows}

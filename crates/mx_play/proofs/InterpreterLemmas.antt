@@ -7,7 +7,7 @@ use Rattle.mx_plan.specs.Text.{Text}
 use Rattle.mx_plan.specs.Fields.{Fields}
 use Rattle.mx_scripts.specs.Lines.{IsNext, Performs, Repeats}
 use Rattle.mx_scripts.specs.States.{IsAllowed, RunState}
-use Rattle.mx_scripts.specs.declared.session_event.SessionEvent.{SessionEvent}
+use Rattle.mx_scripts.specs.declared.state.SessionEvent.{SessionEvent}
 use Rattle.mx_scripts.proofs.LineLemmas.{performs_next, repeats_end, repeats_next}
 use Rattle.mx_play.specs.Histories.{new_text}
 use Rattle.mx_play.specs.Sessions.{Adds, AddsOne, Extends, SessionState}

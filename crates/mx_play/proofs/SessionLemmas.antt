@@ -14,8 +14,8 @@ use Rattle.mx_scripts.specs.Lines.{Performs, Repeats}
 use Rattle.mx_scripts.specs.Played.{AreOver}
 use Rattle.mx_scripts.specs.Scripts.{IsOver}
 use Rattle.mx_scripts.specs.States.{IsDrawnOf, RunState}
-use Rattle.mx_scripts.specs.declared.session_event.SessionEvent.{SessionEvent}
-use Rattle.mx_scripts.specs.declared.session_event.SessionEvent.TheVariants.{Happens, IsLost, LinksChange}
+use Rattle.mx_scripts.specs.declared.state.SessionEvent.{SessionEvent}
+use Rattle.mx_scripts.specs.declared.state.SessionEvent.TheVariants.{Happens, IsLost, LinksChange}
 use Rattle.mx_scripts.proofs.LineLemmas.{next_drawn}
 use Rattle.mx_play.specs.Histories.{CanLead, Leads, Makes, events_in, first_state}
 use Rattle.mx_play.specs.Sessions.{Adds, Extends, IsSession, SessionState, at_start, undone_in}

@@ -28,7 +28,6 @@ second_of [] = []
 second_of (first ∷ []) = []
 second_of (first ∷ second ∷ more) = second
 
--- the second word of a line
 abbrev pub IsSecondWord : Text → Text → Type 0
 IsSecondWord line word =
     (words : List (Bor Text)) × AreWords (before_comment line) words
@@ -41,7 +40,6 @@ pub data Turn : Type 0 where
   refuses : SessionCommand → Turn
   rests : Turn
 
--- the turn is that of an input from this line
 abbrev pub IsTurnOf : Input → Text → Turn → Type 0
 IsTurnOf (input.Command command) line (executes done from) = (done ≡ command) × (from ≡ line)
 IsTurnOf (input.Command command) line (refuses done) = done ≡ command

@@ -11,7 +11,6 @@ abbrev pub is_to : Option ℕ → ℕ → Bool
 is_to None addressee = true
 is_to (Some node) addressee = addressee == node
 
--- the line of the link between two nodes
 abbrev pub cut_line : Fields → ℕ → ℕ → Text
 cut_line p one other =
     codes "cut " ++ name_of p one ++ codes " " ++ name_of p other ++ line_feed
@@ -28,6 +27,5 @@ module _ (p : Fields) (to : Option ℕ) (l : LinkState) where
   abbrev pub cut_lines_of : ℕ → Text
   cut_lines_of i = texts_from (λ j name. cut_text i j) i (drop i p.nodes)
 
-  -- the lines of all links that are shown
   abbrev pub cut_lines : Text
   cut_lines = texts_from (λ i name. cut_lines_of i) 0 p.nodes

@@ -6,8 +6,8 @@ use Rattle.mx_plan.specs.Text.{Text}
 use Rattle.mx_plan.specs.Fields.{Fields}
 use Rattle.mx_commands.specs.Runs.{at_rest, text_of}
 use Rattle.mx_scripts.specs.States.{Brings, IsAllowed, RunState, before_any}
-use Rattle.mx_scripts.specs.declared.session_event.SessionEvent.{SessionEvent}
-use Rattle.mx_scripts.specs.declared.session_event.SessionEvent.TheVariants.{Happens, IsLost, LinksChange}
+use Rattle.mx_scripts.specs.declared.state.SessionEvent.{SessionEvent}
+use Rattle.mx_scripts.specs.declared.state.SessionEvent.TheVariants.{Happens, IsLost, LinksChange}
 
 -- the cluster of a plan, at rest, before any parcel was sent
 abbrev pub first_state : {H S M : Type 0} → Core H S M → Fields → H → RunState S M

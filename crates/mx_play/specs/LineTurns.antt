@@ -16,7 +16,6 @@ use Rattle.mx_play.specs.declared.input.Input.{Input}
 use Rattle.mx_play.specs.declared.input.Input.TheVariants as input
 use Rattle.mx_play.specs.declared.lines.TheConstants.{MAX_LINE}
 
--- the turn ends the session
 abbrev pub ends : Turn → Bool
 ends (executes End from) = true
 ends _ = false
@@ -25,7 +24,6 @@ abbrev pub has_ended : List Turn → Bool
 has_ended [] = false
 has_ended (turn ∷ turns) = ends turn || has_ended turns
 
--- an input ends the session
 abbrev pub is_end : Input → Bool
 is_end (input.Command End) = true
 is_end _ = false

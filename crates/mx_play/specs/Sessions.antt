@@ -5,7 +5,7 @@ use Rattle.mx_plan.specs.Text.{Text}
 use Rattle.mx_plan.specs.Fields.{Fields}
 use Rattle.mx_scripts.specs.Played.{AreOver}
 use Rattle.mx_scripts.specs.States.{Brings, RunState}
-use Rattle.mx_scripts.specs.declared.session_event.SessionEvent.{SessionEvent}
+use Rattle.mx_scripts.specs.declared.state.SessionEvent.{SessionEvent}
 use Rattle.mx_play.specs.Histories.{CanLead, Leads, Makes, events_in, first_state, new_text}
 use Rattle.mx_play.specs.declared.undo.Undone.{Undone}
 

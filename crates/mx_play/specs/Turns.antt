@@ -15,7 +15,7 @@ use Rattle.mx_commands.specs.Runs.{closing_text}
 use Rattle.mx_scripts.specs.Files.{file_text}
 use Rattle.mx_scripts.specs.Lines.{Repeats}
 use Rattle.mx_scripts.specs.Played.{AreOver, events_of}
-use Rattle.mx_scripts.specs.declared.session_event.SessionEvent.{SessionEvent}
+use Rattle.mx_scripts.specs.declared.state.SessionEvent.{SessionEvent}
 use Rattle.mx_play.specs.Commands.{IsSecondWord, IsTurnOf, Turn, executes, refuses, rests}
 use Rattle.mx_play.specs.Help.{words_text}
 use Rattle.mx_play.specs.LineTurns.{AreTurns, AreTurnsOf, has_ended}

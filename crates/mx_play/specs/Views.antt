@@ -44,6 +44,5 @@ module _ {H S M : Type 0} (core : Core H S M) (letter_text : Fields → M → Te
       standing_lines core knows p to s.cluster ++ cut_lines p to s.fates.links
       ++ waiting_lines to s
 
--- the line that a mark prints
 abbrev pub mark_line : Text → Text
 mark_line word = codes "mark " ++ word ++ line_feed

@@ -16,12 +16,7 @@ use mx_io::{Output, Source};
 use std::alloc::Global;
 
 /// Runs a command line whose first argument is `play`, without the program's name, on the lines of
-/// a session. Returns the exit status:
-///
-/// - 0 if the session came to its end, or if help was requested;
-/// - 1 for an error in the plan, a file or an output;
-/// - 2 for wrong arguments;
-/// - 5 if memory ran out.
+/// a session. Returns the exit status.
 pub fn play<S: Source, L: Lines, O: Output, E: Output>(
     alloc: Global,
     words: &[&str],
@@ -48,7 +43,6 @@ pub fn play<S: Source, L: Lines, O: Output, E: Output>(
     }
 }
 
-/// Reads plan and script, and runs the session, or reports why it can't. Returns the status.
 fn play_request<S: Source, L: Lines, O: Output, E: Output>(
     alloc: Global,
     request: &Request<'_>,
@@ -69,8 +63,6 @@ fn play_request<S: Source, L: Lines, O: Output, E: Output>(
     }
 }
 
-/// Runs a session, and reports why it ended early, if it did. `plan` is the plan's name, for that
-/// report. Returns the status.
 fn play_and_close<L: Lines, O: Output, E: Output>(
     alloc: Global,
     plan: &str,

@@ -6,16 +6,13 @@ ghost use Rattle.mx_format.specs.LetterTexts.{letter_text};
 ghost use Rattle.mx_play.specs.Commands.{IsSecondWord, IsOverPlan, second_of};
 ghost use Rattle.mx_play.specs.Sessions.{IsSession};
 ghost use Rattle.mx_play.specs.Turns.{HasDone, HasExecuted};
-ghost use Rattle.mx_play.specs.Views.{mark_line, view_text};
-ghost use Rattle.mx_scripts.specs.Files.{file_text};
-ghost use Rattle.mx_scripts.specs.Played.{events_of};
+ghost use Rattle.mx_play.specs.Views.{mark_line};
 ghost use Rattle.mx_lines.specs.Names.{texts_of};
 ghost use Rattle.mx_scripts.specs.Scripts.{IsOver};
 
 use crate::faults::InputFault;
 use crate::help::add_words;
 use crate::interpreter::repeat;
-use crate::run_texts::add_events;
 use crate::session::{Session, Setting};
 use crate::undo::{event_count, redo_lines, truncate, undo_lines};
 use crate::views::show;
@@ -23,13 +20,10 @@ use mx_format::Letter;
 use mx_knowledge::Knowledge;
 use mx_lines::{Line, SessionCommand, words_in};
 use mx_nodelaws::Exclusion;
-use mx_scripts::LineFailure;
-use mx_stamps::NodeId;
+use mx_scripts::{LineFailure, add_file};
 use std::alloc::{AllocError, Global};
 use std::str;
 
-/// Executes the command of `line`, and appends what it prints. If that can't be done, returns why;
-/// then the session is as before, and nothing is printed.
 pub(crate) fn execute<C: Exclusion + Knowledge>(
     setting: &Setting<'_, C>,
     command: &SessionCommand,
@@ -53,11 +47,11 @@ where
         SessionCommand::Undo(count) => undo_lines(setting, *count, session),
         SessionCommand::Redo => redo_lines(setting, session),
         SessionCommand::Show(to) => {
-            show_session(setting, to, session, text)?;
+            show(setting, to, &session.state, text)?;
             Ok(None)
         }
         SessionCommand::Events => {
-            list_session(setting, session, text)?;
+            add_file(setting.plan, session.state.cluster().trace(), text)?;
             Ok(None)
         }
         SessionCommand::Mark => {
@@ -72,8 +66,6 @@ where
     }
 }
 
-/// Does a line of a script, and appends the lines of its events. If a part of it fails, returns
-/// why; then nothing changes.
 fn do_line<C: Exclusion>(
     setting: &Setting<'_, C>,
     line: &Line,
@@ -106,8 +98,6 @@ where
     }
 }
 
-/// Notes that a line is done and can be undone, and drops what could be redone. `before` is how
-/// many events came before the line.
 fn commit<C: Exclusion>(before: usize, session: &mut Session<C>) -> Result<(), AllocError>
     ensures state { session.new.state ≡ session.old.state }
     ensures done { session.new.done ≡ session.old.done }
@@ -119,37 +109,6 @@ fn commit<C: Exclusion>(before: usize, session: &mut Session<C>) -> Result<(), A
     Ok(())
 }
 
-/// Appends what `show` prints of the node `to`, or of all nodes.
-fn show_session<C: Exclusion + Knowledge>(
-    setting: &Setting<'_, C>,
-    to: &Option<NodeId>,
-    session: &Session<C>,
-    text: &mut String,
-) -> Result<(), AllocError>
-where
-    C::Msg: Letter,
-    requires members { length session.now.state.cluster.members
-        ≡ length setting.now.plan.now.nodes }
-    ensures { OnOk result (string_bytes text.new ≡ string_bytes text.old
-        ++ view_text C.core (letter_text C.Msg.parts) setting.now.plan.now C.knows to.now
-        session.now.state) }
-{
-    show(setting, to, &session.state, text)
-}
-
-/// Appends the events so far, as a file for `replay`.
-fn list_session<C: Exclusion>(
-    setting: &Setting<'_, C>,
-    session: &Session<C>,
-    text: &mut String,
-) -> Result<(), AllocError>
-    ensures { OnOk result (string_bytes text.new ≡ string_bytes text.old
-        ++ file_text setting.now.plan.now (events_of session.now.state.cluster.trace)) }
-{
-    add_events(setting.plan, &session.state, text)
-}
-
-/// Appends what `mark` prints: `mark` and the word.
 fn add_mark(word: &str, text: &mut String) -> Result<(), AllocError>
     ensures { OnOk result (string_bytes text.new ≡ string_bytes text.old ++ mark_line word.now) }
 {
@@ -168,7 +127,6 @@ fn second_word(alloc: Global, line: &[u8]) -> Result<&str, AllocError>
     }
 }
 
-/// Returns the second word of a text, or `""` if it has fewer words.
 fn second_in(alloc: Global, text: &str) -> Result<&str, AllocError>
     ensures { IfOk result (λ word. IsSecondWord text.now word.now) }
 {
@@ -176,7 +134,6 @@ fn second_in(alloc: Global, text: &str) -> Result<&str, AllocError>
     Ok(second_of(words.as_slice()))
 }
 
-/// Returns the second of these words, or `""` if there are fewer.
 fn second_of<'a>(words: &[&'a str]) -> &'a str
     ensures { result.now ≡ second_of (texts_of words.now) }
 {

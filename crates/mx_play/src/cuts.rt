@@ -10,7 +10,6 @@ use mx_stamps::{MAX_NODES, NodeId};
 use std::alloc::AllocError;
 use std::fmt;
 
-/// The line of the link between two nodes, which is cut.
 #[derive(Clone, Copy)]
 struct CutLine<'a> {
     plan: &'a Plan,
@@ -28,7 +27,6 @@ impl fmt::Display for CutLine<'_> {
     }
 }
 
-/// Appends the line of each cut link, or only of those at the node `to` if it is given.
 pub(crate) fn add_cuts(
     plan: &Plan,
     to: &Option<NodeId>,
@@ -44,8 +42,6 @@ pub(crate) fn add_cuts(
     Ok(())
 }
 
-/// Appends the lines, as `add_cuts` does, of the links between the node of index `i` and itself or
-/// a later node.
 fn add_cuts_of(
     plan: &Plan,
     to: &Option<NodeId>,
@@ -64,7 +60,6 @@ fn add_cuts_of(
     Ok(())
 }
 
-/// Appends the line of the link between the nodes of index `i` and `j`, if `is_shown` holds for it.
 fn add_cut(
     plan: &Plan,
     to: &Option<NodeId>,
@@ -83,7 +78,6 @@ fn add_cut(
     add_if_shown(plan, to, in_flight, one, other, text)
 }
 
-/// Appends the line of the link between two nodes, if `is_shown` holds for it.
 fn add_if_shown(
     plan: &Plan,
     to: &Option<NodeId>,
@@ -101,14 +95,12 @@ fn add_if_shown(
     Ok(())
 }
 
-/// Whether the link between two nodes is cut, and one of them is `to`, if it is given.
 fn is_shown(to: &Option<NodeId>, in_flight: &InFlight, one: NodeId, other: NodeId) -> bool
     ensures { result ≡ is_shown to.now in_flight.now.links one other }
 {
     in_flight.is_cut(one, other) && (is_to(to, one) || is_to(to, other))
 }
 
-/// Whether `addressee` is the node `to`, or no node is given.
 pub(crate) fn is_to(to: &Option<NodeId>, addressee: NodeId) -> bool
     ensures { result ≡ is_to to.now addressee }
 {

@@ -12,8 +12,6 @@ use mx_nodelaws::Exclusion;
 use mx_plan::Plan;
 use std::alloc::AllocError;
 
-/// Appends the lines of the events from number `event` on, and then those of the parcels from
-/// number `parcel` on.
 pub(crate) fn add_new<C: Exclusion>(
     plan: &Plan,
     cluster: &Cluster<C>,
@@ -33,7 +31,6 @@ where
     add_parcels(plan, cluster, parcel, text)
 }
 
-/// Appends the lines of the events from number `first` on.
 fn add_events(
     plan: &Plan,
     trace: &[Entry],
@@ -50,7 +47,6 @@ fn add_events(
     Ok(())
 }
 
-/// Appends the line of the event of this number.
 fn add_event(
     plan: &Plan,
     trace: &[Entry],

@@ -6,10 +6,8 @@ use mx_scripts::{LineFailure, message_of};
 use std::alloc::{AllocError, Global};
 use std::{fmt, str};
 
-/// Why a line of a session does nothing.
 #[derive(Clone, Copy)]
 pub(crate) enum InputFault {
-    /// It is not in UTF-8.
     NotText,
     /// One of its words is wrong, or what it asks for can't be done.
     Line(LineFailure),
@@ -17,7 +15,6 @@ pub(crate) enum InputFault {
     TooLong,
     /// `undo` asks for more lines than were done: only this many were.
     TooFew(usize),
-    /// `redo` finds nothing undone that can be redone.
     NoUndo,
 }
 
@@ -36,28 +33,10 @@ impl fmt::Display for InputFault {
 /// What is reported of a faulty line of a session. Lines are counted from 1.
 #[derive(Drop)]
 pub(crate) struct InputFaultLine {
-    number: u64,
-    fault: InputFault,
+    pub(crate) number: u64,
+    pub(crate) fault: InputFault,
     /// What is printed after the fault: a colon and a message about the line, or nothing.
-    message: String,
-}
-
-impl InputFaultLine {
-    /// Creates the report of a fault in line `number`, with the bytes `line`, of a session over
-    /// this plan.
-    pub(crate) fn of(
-        alloc: Global,
-        plan: &Plan,
-        number: u64,
-        fault: InputFault,
-        line: &[u8],
-    ) -> Result<InputFaultLine, AllocError> {
-        Ok(InputFaultLine {
-            number,
-            fault,
-            message: message_about(alloc, plan, &fault, line)?,
-        })
-    }
+    pub(crate) message: String,
 }
 
 impl fmt::Display for InputFaultLine {
@@ -67,9 +46,7 @@ impl fmt::Display for InputFaultLine {
     }
 }
 
-/// Returns a colon and a message about the line, if its fault is `InputFault::Line`: a word is
-/// wrong, or a script line can't be done. Returns an empty text for other faults.
-fn message_about(
+pub(crate) fn message_about(
     alloc: Global,
     plan: &Plan,
     fault: &InputFault,

@@ -5,7 +5,6 @@ ghost use Rattle.mx_play.specs.Help.{words_text};
 
 use std::alloc::AllocError;
 
-/// Appends what `help` prints: a line for each kind of line that a session takes.
 #[tactic(auto, unfolding(crate::specs::Help::words_text))]
 pub(crate) fn add_words(text: &mut String) -> Result<(), AllocError>
     ensures { OnOk result (string_bytes text.new ≡ string_bytes text.old ++ words_text) }
@@ -13,7 +12,6 @@ pub(crate) fn add_words(text: &mut String) -> Result<(), AllocError>
     text.push_str(WORDS)
 }
 
-/// For each kind of line that a session takes, a line that says what it does.
 const WORDS: &str = "ask N         node N asks to enter\n\
     enter N       node N enters, where it may\n\
     read N R      node N, inside, reads register R\n\

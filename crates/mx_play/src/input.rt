@@ -14,7 +14,6 @@ use mx_scripts::LineFailure;
 use std::alloc::{AllocError, Global};
 use std::str;
 
-/// What a line asks for, or what is wrong with it.
 #[derive(Clone, Copy)]
 pub(crate) enum Input {
     Command(SessionCommand),
@@ -23,7 +22,6 @@ pub(crate) enum Input {
     Eof,
 }
 
-/// Prompts for a line if lines are typed, reads it into `line`, and returns what it asks for.
 pub(crate) fn read_input<L: Lines, E: Output>(
     alloc: Global,
     plan: &Plan,
@@ -46,7 +44,6 @@ pub(crate) fn read_input<L: Lines, E: Output>(
     }
 }
 
-/// Prints a hint about `help` and `end`, if lines are typed.
 pub(crate) fn greet<L: Lines, E: Output>(lines: &L, err: &mut E) -> Result<(), OutputFault> {
     if lines.are_typed() {
         err.put(b"help lists all lines, end ends the session\n")?;
@@ -54,13 +51,11 @@ pub(crate) fn greet<L: Lines, E: Output>(lines: &L, err: &mut E) -> Result<(), O
     Ok(())
 }
 
-/// Prints the prompt, and flushes it.
 fn prompt<E: Output>(err: &mut E) -> Result<(), OutputFault> {
     err.put(b"> ")?;
     err.flush()
 }
 
-/// Returns what a line asks for, or the fault that it is not UTF-8.
 fn input_in(alloc: Global, plan: &Plan, line: &[u8]) -> Result<Input, AllocError>
     ensures over { IfOk result (IsInput plan.now) }
     ensures means { IfOk result (Means plan.now line.now) }
@@ -71,7 +66,6 @@ fn input_in(alloc: Global, plan: &Plan, line: &[u8]) -> Result<Input, AllocError
     }
 }
 
-/// Returns what the text of a line asks for, or which of its words is wrong.
 fn input_in_text(alloc: Global, plan: &Plan, text: &str) -> Result<Input, AllocError>
     ensures over { IfOk result (IsInput plan.now) }
     ensures means { IfOk result (MeansText plan.now text.now) }
@@ -83,7 +77,6 @@ fn input_in_text(alloc: Global, plan: &Plan, text: &str) -> Result<Input, AllocE
     }
 }
 
-/// Whether this is a command that ends the session.
 pub(crate) fn is_end(input: &Input) -> bool
     ensures { result ≡ is_end input.now }
 {

@@ -4,7 +4,7 @@ ghost use Rattle.std.specs.Prelude.{◌≡◌, ◌++◌, List, length, string_by
 ghost use Rattle.mx_format.specs.LetterTexts.{letter_text};
 ghost use Rattle.mx_scripts.specs.Lines.{Performs, Repeats};
 ghost use Rattle.mx_scripts.specs.States.{Brings, IsAllowed};
-ghost use Rattle.mx_scripts.specs.declared.session_event.SessionEvent.{SessionEvent};
+ghost use Rattle.mx_scripts.specs.declared.state.SessionEvent.{SessionEvent};
 ghost use Rattle.mx_play.specs.Histories.{new_text};
 ghost use Rattle.mx_play.specs.Sessions.{Adds, AddsOne, Extends};
 
@@ -15,11 +15,7 @@ use mx_lines::{Line, LineFault, Order};
 use mx_nodelaws::Exclusion;
 use mx_scripts::{LineFailure, SessionEvent, State};
 
-/// Does what a line asks for, as often as it says. Appends the lines of its events and parcels.
-///
-/// # Errors
-///
-/// After an error only a part of the line is done.
+/// Does a line. After an error only a part of it is done.
 pub(crate) fn repeat<C: Exclusion>(
     setting: &Setting<'_, C>,
     line: &Line,
@@ -40,7 +36,6 @@ where
     Ok(())
 }
 
-/// Does, once, all events that an order asks for.
 fn perform<C: Exclusion>(
     setting: &Setting<'_, C>,
     order: &Order,
@@ -65,7 +60,6 @@ where
     Err(LineFailure::Refused(LineFault::TooMany))
 }
 
-/// Does one event, adds it to what has happened in the session, and appends its lines, if any.
 fn apply<C: Exclusion>(
     setting: &Setting<'_, C>,
     event: &SessionEvent,
@@ -84,8 +78,6 @@ where
     Ok(())
 }
 
-/// Does one event, and appends the lines that are new: of an event of the cluster, and of the
-/// parcels that it sends.
 fn apply_to<C: Exclusion>(
     setting: &Setting<'_, C>,
     event: &SessionEvent,
@@ -105,7 +97,6 @@ where
     Ok(())
 }
 
-/// Returns how many events the cluster has had, and how many parcels it has sent.
 fn counts<C: Exclusion>(state: &State<C>) -> (usize, u64)
     ensures events { result.0 ≡ length state.now.cluster.trace }
     ensures parcels { result.1 ≡ length state.now.cluster.sent }

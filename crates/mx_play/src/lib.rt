@@ -9,9 +9,7 @@ mod faults;
 mod help;
 mod input;
 mod interpreter;
-mod laws;
 mod lines;
-mod run_texts;
 mod session;
 mod session_files;
 mod session_run;
@@ -24,6 +22,5 @@ mod views;
 mod words;
 
 pub use command::play;
-pub use laws::reads_as_script;
-pub use lines::{LineRead, Lines};
+pub use lines::{LineRead, Lines, reads_as_script};
 pub use typed_lines::Typed;

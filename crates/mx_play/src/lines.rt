@@ -1,7 +1,7 @@
-//! Where the lines of a session come from.
-
 ghost use Rattle.std.specs.Prelude.{List, Option, Some, None, ℕ, IfOk, IfSome};
+ghost use Rattle.std.specs.Str.Lines.{lines};
 ghost use Rattle.mx_play.specs.Lines.{ReadsNext, lines_of};
+ghost use Rattle.mx_play.specs.SameLines.{AreSameLines};
 
 use mx_cli::split_line;
 use std::alloc::AllocError;
@@ -35,7 +35,6 @@ pub trait Lines {
     fn are_typed(&self) -> bool;
 }
 
-/// The lines of a text that are still to be read.
 #[derive(Clone, Copy)]
 pub(crate) struct Listed<'a> {
     pub(crate) rest: &'a [u8],
@@ -62,3 +61,11 @@ impl Lines for Listed<'_> {
         false
     }
 }
+
+/// Proves that a session reads the lines of a script with the same words as the command `script`,
+/// which uses std's `lines`. The lines differ only in a carriage return at their end, which a
+/// session keeps. Does nothing.
+#[tactic(auto, using(crate::proofs::SameLineLemmas::same_lines))]
+pub fn reads_as_script(script: &str)
+    ensures { AreSameLines (lines_of script.now) (lines script.now) }
+{}

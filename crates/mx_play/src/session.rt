@@ -1,7 +1,6 @@
 //! A session: a cluster, and what lines have done to it.
 
 ghost use Rattle.std.specs.Prelude.{◌≡◌, IfOk};
-ghost use Rattle.mx_play.specs.Histories.{first_state};
 ghost use Rattle.mx_play.specs.Sessions.{at_start};
 
 use crate::undo::Undone;
@@ -11,7 +10,6 @@ use mx_scripts::{SessionEvent, State};
 use std::alloc::{AllocError, Global};
 use std::marker::Model;
 
-/// The plan of a session, and the shape of its cluster.
 #[derive(Clone, Copy)]
 pub(crate) struct Setting<'a, C: Exclusion> {
     pub(crate) alloc: Global,
@@ -19,7 +17,6 @@ pub(crate) struct Setting<'a, C: Exclusion> {
     pub(crate) shape: &'a C::Shape,
 }
 
-/// A session: its cluster and parcels as they are now, what has happened, and what can be redone.
 #[derive(Drop)]
 pub(crate) struct Session<C: Exclusion> {
     pub(crate) state: State<C>,
@@ -44,15 +41,6 @@ impl<C: Exclusion> Model for Session<C> {
     } };
 }
 
-/// Creates the cluster of the plan, at rest, before any parcel was sent.
-pub(crate) fn first_state<C: Exclusion>(setting: &Setting<'_, C>) -> Result<State<C>, AllocError>
-    ensures { IfOk result (λ state.
-        state ≡ first_state C.core setting.now.plan.now setting.now.shape.now) }
-{
-    State::start(setting.alloc, setting.plan, setting.shape)
-}
-
-/// Creates the session, before any line.
 pub(crate) fn first_session<C: Exclusion>(
     setting: &Setting<'_, C>,
 ) -> Result<Session<C>, AllocError>
@@ -60,7 +48,7 @@ pub(crate) fn first_session<C: Exclusion>(
         session ≡ at_start C.core setting.now.plan.now setting.now.shape.now) }
 {
     Ok(Session {
-        state: first_state(setting)?,
+        state: State::start(setting.alloc, setting.plan, setting.shape)?,
         done: Vec::new(setting.alloc),
         marks: Vec::new(setting.alloc),
         undone: Vec::new(setting.alloc),

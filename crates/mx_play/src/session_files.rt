@@ -4,7 +4,7 @@ ghost use Rattle.std.specs.Prelude.{◌≡◌, true, IfOk, option_map};
 ghost use Rattle.mx_cli.specs.Reading.{is_dash};
 ghost use Rattle.mx_play.specs.PlayWords.{request_of};
 ghost use Rattle.mx_play.specs.Lines.{AreLeft, session_lines};
-ghost use Rattle.mx_play.specs.Played.{IsLinePlan, IsPlanNamed, IsScriptOf, told_of_name, told_of_script};
+ghost use Rattle.mx_play.specs.Played.{IsLinePlan, IsPlanNamed, IsScriptOf, told_of_script};
 
 use crate::lines::{LineRead, Lines};
 use crate::words::Request;
@@ -13,7 +13,6 @@ use mx_io::Source;
 use mx_plan::Plan;
 use std::alloc::Global;
 
-/// Reads the plan, and the script if one is named.
 pub(crate) fn fetch_start<S: Source, L: Lines>(
     alloc: Global,
     request: &Request<'_>,
@@ -33,8 +32,6 @@ pub(crate) fn fetch_start<S: Source, L: Lines>(
     Ok(PlanAndText { plan, text })
 }
 
-/// Reads the plan of this name. If the name is `-`, standard input, the plan is the next of
-/// `lines`.
 fn plan_of<S: Source, L: Lines>(
     alloc: Global,
     name: &str,
@@ -53,7 +50,6 @@ fn plan_of<S: Source, L: Lines>(
     }
 }
 
-/// Reads the plan that stands in the next line.
 fn first_plan<L: Lines>(alloc: Global, lines: &mut L) -> Result<Plan, CommandError>
     ensures plan { IfOk result (IsLinePlan (L.rest lines.old)) }
     ensures left { IfOk result (λ _.
@@ -68,7 +64,8 @@ fn first_plan<L: Lines>(alloc: Global, lines: &mut L) -> Result<Plan, CommandErr
     }
 }
 
-/// Returns the bytes of the script, or none if no script is named.
+/// Returns the bytes of the script. There are none if no script is named, or if it is `-`, standard
+/// input, since its lines are read later.
 fn script_of<S: Source>(
     alloc: Global,
     name: Option<&str>,
@@ -77,30 +74,15 @@ fn script_of<S: Source>(
     ensures { IfOk result (λ text. IsScriptOf (told_of_script (S.told source.old)
         (option_map (λ name. name.now) name.entry)) text.items) }
 {
-    match name {
-        Some(name) => named_script(alloc, name, source),
-        None => Ok(Vec::new(alloc)),
-    }
-}
-
-/// Returns the bytes of the script of this name. For `-`, standard input, there are none, since its
-/// lines are read later.
-fn named_script<S: Source>(
-    alloc: Global,
-    name: &str,
-    source: &mut S,
-) -> Result<Vec<u8>, CommandError>
-    ensures { IfOk result (λ text.
-        IsScriptOf (told_of_name (S.told source.old) name.now) text.items) }
-{
+    let Some(name) = name else {
+        return Ok(Vec::new(alloc));
+    };
     if is_dash(name) {
-        Ok(Vec::new(alloc))
-    } else {
-        fetch(alloc, source, name, Named::Events)
+        return Ok(Vec::new(alloc));
     }
+    fetch(alloc, source, name, Named::Events)
 }
 
-/// Whether a name is `-`, which stands for standard input.
 fn is_dash(name: &str) -> bool
     ensures { result ≡ is_dash name.now }
 {

@@ -1,6 +1,6 @@
 //! A run of a session: its lines are read, executed and printed, one after another.
 
-ghost use Rattle.std.specs.Prelude.{◌≡◌, ◌++◌, [], false, length, string_bytes, IfOk, OnOk};
+ghost use Rattle.std.specs.Prelude.{◌≡◌, [], false, length, string_bytes, IfOk, OnOk};
 ghost use Rattle.std.specs.Io.KnownBytes.{Appends};
 ghost use Rattle.std.specs.Option.{is_some};
 ghost use Rattle.mx_format.specs.LetterTexts.{letter_text};
@@ -10,20 +10,18 @@ ghost use Rattle.mx_play.specs.Sessions.{IsSession, at_start};
 ghost use Rattle.mx_play.specs.Turns.{HasRun, HasTurned, IsPlayed, PrintsTurn, RunsOn};
 
 use crate::commands::execute;
-use crate::faults::{InputFault, InputFaultLine};
+use crate::faults::{InputFault, InputFaultLine, message_about};
 use crate::input::{Input, greet, is_end, read_input};
 use crate::lines::{Lines, Listed};
-use crate::run_texts::add_end;
 use crate::session::{Session, Setting};
 use mx_cli::{CommandError, Fault, Named, write_line};
+use mx_commands::{add_closing, verdict_status};
 use mx_format::Letter;
 use mx_io::Output;
 use mx_knowledge::Knowledge;
 use mx_nodelaws::Exclusion;
 use std::alloc::AllocError;
 
-/// Runs the lines of a script and then `lines`, until one ends the session or none is left; then
-/// prints the closing lines. Returns the status.
 pub(crate) fn run_session<C: Exclusion + Knowledge, L: Lines, O: Output, E: Output>(
     setting: &Setting<'_, C>,
     script: &[u8],
@@ -48,7 +46,6 @@ where
     finish(setting, session, out)
 }
 
-/// Runs `lines`, numbered from `next` on. Does nothing if `next` is `None`: the session has ended.
 fn run_rest<C: Exclusion + Knowledge, L: Lines, O: Output, E: Output>(
     setting: &Setting<'_, C>,
     next: Option<u64>,
@@ -76,8 +73,6 @@ where
     }
 }
 
-/// Runs lines, numbered from `first`, until there are no more, or one ends the session. Returns the
-/// number of the next line if the session goes on.
 fn run_lines<C: Exclusion + Knowledge, L: Lines, O: Output, E: Output>(
     setting: &Setting<'_, C>,
     first: u64,
@@ -109,8 +104,6 @@ where
     Err(CommandError::Fault(Fault::CannotRead(Named::Events)))
 }
 
-/// Executes what line `number` asks for, prints the result, and reports what is wrong with the
-/// line, if something is.
 fn turn<C: Exclusion + Knowledge, O: Output, E: Output>(
     setting: &Setting<'_, C>,
     number: u64,
@@ -135,8 +128,6 @@ where
     report(setting, number, &fault, line, err)
 }
 
-/// Executes what a line asks for, then prints and flushes the result. Returns the fault of the
-/// line, if it has one.
 fn execute_and_print<C: Exclusion + Knowledge, O: Output>(
     setting: &Setting<'_, C>,
     input: &Input,
@@ -161,8 +152,6 @@ where
     Ok(fault)
 }
 
-/// Executes what a line asks for, and appends what it prints. Returns the fault of the line, if it
-/// has one.
 fn execute_input<C: Exclusion + Knowledge>(
     setting: &Setting<'_, C>,
     input: &Input,
@@ -188,7 +177,6 @@ where
     }
 }
 
-/// Prints a text, and flushes the output.
 fn print<O: Output>(text: &str, out: &mut O) -> Result<(), CommandError>
     ensures printed { OnOk result (Appends (O.written out.old) (O.written out.new) text.now) }
     ensures passed { OnOk result (O.keeps_back out.new ≡ false) }
@@ -198,7 +186,6 @@ fn print<O: Output>(text: &str, out: &mut O) -> Result<(), CommandError>
     Ok(())
 }
 
-/// Reports what is wrong with the line of this number, if something is.
 fn report<C: Exclusion, E: Output>(
     setting: &Setting<'_, C>,
     number: u64,
@@ -209,13 +196,17 @@ fn report<C: Exclusion, E: Output>(
     let Some(fault) = fault else {
         return Ok(());
     };
-    let message = InputFaultLine::of(setting.alloc, setting.plan, number, *fault, line)?;
-    write_line(setting.alloc, err, message)?;
+    let message = message_about(setting.alloc, setting.plan, fault, line)?;
+    let said = InputFaultLine {
+        number,
+        fault: *fault,
+        message,
+    };
+    write_line(setting.alloc, err, said)?;
     err.flush()?;
     Ok(())
 }
 
-/// Prints the closing lines and the verdict. Returns the status.
 fn finish<C: Exclusion, O: Output>(
     setting: &Setting<'_, C>,
     session: &Session<C>,
@@ -231,25 +222,7 @@ where
     ensures zero { IfOk result (λ status. status ≡ 0) }
 {
     let mut text = String::new(setting.alloc);
-    let status = end_session(setting, session, &mut text)?;
+    let verdict = add_closing(setting.plan, session.state.cluster(), &mut text)?;
     out.put(text.as_bytes())?;
-    Ok(status)
-}
-
-/// Appends the closing lines and the verdict. Returns the status.
-fn end_session<C: Exclusion>(
-    setting: &Setting<'_, C>,
-    session: &Session<C>,
-    text: &mut String,
-) -> Result<u8, AllocError>
-where
-    C::Msg: Letter,
-    requires members { length session.now.state.cluster.members
-        ≡ length setting.now.plan.now.nodes }
-    ensures text { OnOk result (string_bytes text.new ≡ string_bytes text.old
-        ++ closing_text C.core (letter_text C.Msg.parts) setting.now.plan.now
-        session.now.state.cluster) }
-    ensures zero { IfOk result (λ status. status ≡ 0) }
-{
-    add_end(setting.plan, &session.state, text)
+    Ok(verdict_status(verdict))
 }

@@ -14,8 +14,6 @@ use mx_raymond::Raymond;
 use mx_ricart::Ricart;
 use std::alloc::Global;
 
-/// Runs a session by the plan's algorithm: the lines of the script that `start` has, and then
-/// `lines`. Returns the status.
 pub(crate) fn run_by_plan<L: Lines, O: Output, E: Output>(
     alloc: Global,
     start: &PlanAndText,

@@ -1,7 +1,6 @@
 //! What `show` prints of the nodes.
 
 ghost use Rattle.std.specs.Prelude.{◌≡◌, ◌+◌, ◌<◌, ◌++◌, drop, length, string_bytes, OnOk, Some, None};
-ghost use Rattle.mx_format.specs.FactTexts.{facts_line};
 ghost use Rattle.mx_format.specs.Lines.{texts_from};
 ghost use Rattle.mx_play.specs.Views.{node_shown, standing_lines};
 
@@ -14,7 +13,6 @@ use mx_nodelaws::Exclusion;
 use mx_stamps::{MAX_NODES, NodeId};
 use std::alloc::AllocError;
 
-/// Appends the lines of the node `to`, or of all nodes if `to` is `None`.
 pub(crate) fn add_standing<C: Exclusion + Knowledge>(
     setting: &Setting<'_, C>,
     to: &Option<NodeId>,
@@ -31,7 +29,6 @@ pub(crate) fn add_standing<C: Exclusion + Knowledge>(
     }
 }
 
-/// Appends the lines of each node.
 fn add_each<C: Exclusion + Knowledge>(
     setting: &Setting<'_, C>,
     cluster: &Cluster<C>,
@@ -47,7 +44,6 @@ fn add_each<C: Exclusion + Knowledge>(
     Ok(())
 }
 
-/// Appends the lines of the node of this index.
 fn add_member<C: Exclusion + Knowledge>(
     setting: &Setting<'_, C>,
     cluster: &Cluster<C>,
@@ -70,7 +66,6 @@ fn add_member<C: Exclusion + Knowledge>(
     }
 }
 
-/// Appends the line of a node, and the line of what it knows.
 fn add_shown<C: Exclusion + Knowledge>(
     setting: &Setting<'_, C>,
     node: NodeId,
@@ -81,23 +76,10 @@ fn add_shown<C: Exclusion + Knowledge>(
         ++ node_shown C.core C.knows setting.now.plan.now node member.now) }
 {
     add_member_line(setting.plan, node, member, text)?;
-    add_known(setting, member, text)
-}
-
-/// Appends the line of what a node knows.
-fn add_known<C: Exclusion + Knowledge>(
-    setting: &Setting<'_, C>,
-    member: &Member<C>,
-    text: &mut String,
-) -> Result<(), AllocError>
-    ensures { OnOk result (string_bytes text.new ≡ string_bytes text.old
-        ++ facts_line setting.now.plan.now (C.knows member.now.core)) }
-{
     let facts = member.core().facts(setting.alloc)?;
     add_facts_line(setting.plan, &facts, text)
 }
 
-/// Appends the lines of one node.
 fn add_one<C: Exclusion + Knowledge>(
     setting: &Setting<'_, C>,
     node: NodeId,

@@ -16,8 +16,6 @@ use mx_scripts::State;
 use mx_stamps::NodeId;
 use std::alloc::AllocError;
 
-/// Appends the lines of the parcels under way, the oldest first. If `to` names a node, only those
-/// of parcels to it are appended.
 pub(crate) fn add_waiting<C: Exclusion>(
     plan: &Plan,
     to: &Option<NodeId>,
@@ -35,8 +33,6 @@ where
     Ok(())
 }
 
-/// Appends the line of the parcel of this number, if it is under way to `to`, or to any node if
-/// `to` is `None`.
 fn add_if_waiting<C: Exclusion>(
     plan: &Plan,
     to: &Option<NodeId>,
@@ -60,8 +56,6 @@ where
     }
 }
 
-/// Appends the line of the parcel `sent`, if it is under way to `to`, or to any node if `to` is
-/// `None`.
 fn add_parcel<C: Exclusion>(
     plan: &Plan,
     to: &Option<NodeId>,
@@ -82,7 +76,6 @@ where
     Ok(())
 }
 
-/// Whether a parcel is under way, and its addressee is the node `to`, or `to` is `None`.
 fn is_waiting<C: Exclusion>(
     to: &Option<NodeId>,
     state: &State<C>,

@@ -1,5 +1,3 @@
-//! The lines that are typed, or come through a pipe.
-
 use crate::lines::{LineRead, Lines, MAX_LINE};
 use mx_io::{Counted, MAX_BYTES};
 use std::alloc::AllocError;
@@ -26,7 +24,6 @@ pub struct Typed<R: Read + Drop> {
     end: usize,
 }
 
-/// How a byte was read.
 #[derive(Clone, Copy)]
 enum ByteRead {
     Byte(u8),
@@ -49,7 +46,6 @@ impl<R: Read + Drop> Typed<R> {
         }
     }
 
-    /// Returns the next byte, and reads more first if all that was read is taken.
     fn byte(&mut self) -> ByteRead {
         if self.next < self.end {
             return self.take();
@@ -68,7 +64,6 @@ impl<R: Read + Drop> Typed<R> {
         }
     }
 
-    /// Takes the next byte of what was read, or fails if no more bytes may be taken.
     fn take(&mut self) -> ByteRead {
         let place = self.next;
         if place < MAX_AHEAD && self.left > 0 {
@@ -104,7 +99,6 @@ impl<R: Read + Drop> Lines for Typed<R> {
     }
 }
 
-/// Returns how a whole line was read. `is_long` says that it is too long.
 fn line_read(is_long: bool) -> LineRead {
     if is_long {
         LineRead::TooLong

@@ -1,13 +1,12 @@
 //! Undoes and redoes lines of a session.
 
 ghost use Rattle.std.specs.Prelude.{◌≡◌, ◌∷◌, ◌++◌, [], IfNone, IfOk, IfSome, OnOk, drop, length, slice_index_or, take};
-ghost use Rattle.mx_format.specs.LetterTexts.{letter_text};
 ghost use Rattle.mx_play.specs.Histories.{CanLead, Leads, first_state};
 ghost use Rattle.mx_play.specs.Sessions.{IsSession};
 ghost use Rattle.mx_play.specs.Turns.{HasRedone, HasUndone};
 
 use crate::faults::InputFault;
-use crate::session::{Session, Setting, first_state};
+use crate::session::{Session, Setting};
 use mx_format::Letter;
 use mx_knowledge::Knowledge;
 use mx_nodelaws::Exclusion;
@@ -23,8 +22,6 @@ pub(crate) struct Undone {
     pub(crate) marks: Vec<usize>,
 }
 
-/// Undoes the last `count` lines that were done. If there are fewer, changes nothing, and returns
-/// the fault.
 pub(crate) fn undo_lines<C: Exclusion>(
     setting: &Setting<'_, C>,
     count: u64,
@@ -48,7 +45,6 @@ pub(crate) fn undo_lines<C: Exclusion>(
     Ok(None)
 }
 
-/// Keeps the marks of the first `left` lines, and stores what was undone for `redo`.
 fn keep_undone<C: Exclusion>(
     left: usize,
     undone: Undone,
@@ -64,7 +60,6 @@ fn keep_undone<C: Exclusion>(
     Ok(())
 }
 
-/// Redoes what was undone last. If nothing was undone, changes nothing, and returns the fault.
 pub(crate) fn redo_lines<C: Exclusion>(
     setting: &Setting<'_, C>,
     session: &mut Session<C>,
@@ -83,7 +78,6 @@ pub(crate) fn redo_lines<C: Exclusion>(
     }
 }
 
-/// Removes and returns what was undone last.
 fn pop_undone<C: Exclusion>(session: &mut Session<C>) -> Option<Undone>
     ensures state { session.new.state ≡ session.old.state }
     ensures done { session.new.done ≡ session.old.done }
@@ -95,7 +89,6 @@ fn pop_undone<C: Exclusion>(session: &mut Session<C>) -> Option<Undone>
     session.undone.pop()
 }
 
-/// Does again what was undone.
 fn redo<C: Exclusion>(undone: &Undone, session: &mut Session<C>) -> Result<(), AllocError>
     requires leads { CanLead C.core session.old.state undone.now.done.items }
     ensures leads { OnOk result
@@ -110,7 +103,6 @@ fn redo<C: Exclusion>(undone: &Undone, session: &mut Session<C>) -> Result<(), A
     Ok(())
 }
 
-/// Drops all that happened after the first `count` events.
 pub(crate) fn truncate<C: Exclusion>(
     setting: &Setting<'_, C>,
     count: usize,
@@ -126,30 +118,11 @@ pub(crate) fn truncate<C: Exclusion>(
     ensures marks { session.new.marks ≡ session.old.marks }
     ensures undone { session.new.undone ≡ session.old.undone }
 {
-    go_back(setting, count, &mut session.state, &mut session.done)
+    session.done.truncate(count);
+    session.state = State::start(setting.alloc, setting.plan, setting.shape)?;
+    reapply_all(session.done.as_slice(), &mut session.state)
 }
 
-/// Drops all but the first `count` events, and applies these again from the start.
-fn go_back<C: Exclusion>(
-    setting: &Setting<'_, C>,
-    count: usize,
-    state: &mut State<C>,
-    done: &mut Vec<SessionEvent>,
-) -> Result<(), AllocError>
-    requires leads { CanLead C.core
-        (first_state C.core setting.now.plan.now setting.now.shape.now)
-        (take count done.old.items) }
-    ensures leads { OnOk result (Leads C.core
-        (first_state C.core setting.now.plan.now setting.now.shape.now)
-        (take count done.old.items) state.new) }
-    ensures done { done.new.items ≡ take count done.old.items }
-{
-    done.truncate(count);
-    *state = first_state(setting)?;
-    reapply_all(done.as_slice(), state)
-}
-
-/// Applies these events in order. All of them have happened before, from the same state.
 fn reapply_all<C: Exclusion>(
     events: &[SessionEvent],
     state: &mut State<C>,
@@ -167,8 +140,6 @@ fn reapply_all<C: Exclusion>(
     Ok(())
 }
 
-/// Copies what happened after the first `events` events, and the marks after the first `marks`
-/// ones.
 fn tail_of<C: Exclusion>(
     alloc: Global,
     session: &Session<C>,
@@ -183,7 +154,6 @@ fn tail_of<C: Exclusion>(
     Ok(Undone { done, marks })
 }
 
-/// Copies the items of a list from `place` on.
 fn items_from<T: Copy>(alloc: Global, items: &[T], place: usize) -> Result<Vec<T>, AllocError>
     ensures { IfOk result (λ tail. tail.items ≡ drop place items.now) }
 {
@@ -193,7 +163,6 @@ fn items_from<T: Copy>(alloc: Global, items: &[T], place: usize) -> Result<Vec<T
     }
 }
 
-/// How many lines were done.
 fn line_count<C: Exclusion>(session: &Session<C>) -> usize
     ensures { result ≡ length session.now.marks }
 {
@@ -207,18 +176,13 @@ pub(crate) fn event_count<C: Exclusion>(session: &Session<C>) -> usize
     session.done.len()
 }
 
-/// Returns how many events came before this line, counted from 0; or how many there are, if there
-/// is no such line.
 fn events_before<C: Exclusion>(session: &Session<C>, line: usize) -> usize
     ensures { result
         ≡ slice_index_or session.now.marks line (length session.now.done) }
 {
-    mark_at(session.marks.as_slice(), line, event_count(session))
-}
-
-/// Returns the mark of this line, or `all` if there is none.
-fn mark_at(marks: &[usize], line: usize, all: usize) -> usize
-    ensures { result ≡ slice_index_or marks.now line all }
-{
-    if line < marks.len() { marks[line] } else { all }
+    if line < session.marks.len() {
+        session.marks[line]
+    } else {
+        session.done.len()
+    }
 }

@@ -15,8 +15,6 @@ use mx_scripts::State;
 use mx_stamps::NodeId;
 use std::alloc::AllocError;
 
-/// Appends the lines of nodes, of cut links, and of parcels under way. If `to` names a node, only
-/// its own lines, those of its links, and those of parcels to it are appended.
 pub(crate) fn show<C: Exclusion + Knowledge>(
     setting: &Setting<'_, C>,
     to: &Option<NodeId>,

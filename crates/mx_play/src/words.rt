@@ -18,7 +18,6 @@ pub(crate) struct Request<'a> {
 }
 
 impl<'a> Request<'a> {
-    /// Returns the names for reports of faults: of the plan, and of the script, or `-` without one.
     pub(crate) fn names(&self) -> Names<'a> {
         Names {
             plan: self.plan,
@@ -27,12 +26,6 @@ impl<'a> Request<'a> {
     }
 }
 
-/// Parses a command line that begins with `play`.
-///
-/// # Errors
-///
-/// Returns the error of `clap` for wrong arguments, and also, with the text to show, if help is
-/// requested.
 pub(crate) fn parse<'a>(alloc: Global, words: &'a [&'a str]) -> Result<Option<Request<'a>>, Error>
     ensures { Asks request_of play_line (texts_of words.entry.now)
         (request_asked (texts_of words.entry.now)) result }
@@ -50,7 +43,6 @@ fn from_matches<'a>(matches: &ArgMatches<'a>) -> Option<Request<'a>>
     }
 }
 
-/// Returns the request that the arguments of `play` make.
 fn play_in<'a>(matches: &ArgMatches<'a>) -> Option<Request<'a>>
     ensures { option_map request_of result ≡ play_in (rows_of (found_of matches.now)) }
 {

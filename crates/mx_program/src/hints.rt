@@ -38,7 +38,6 @@ pub(crate) fn tell_hint<E: Output>(alloc: Global, words: &[&str], err: &mut E) {
     }
 }
 
-/// Whether a command has a hint: `check`, `replay`, `explore` and `live` do, in all their forms.
 fn is_explained(id: CommandId) -> bool {
     match id {
         CommandId::Check
@@ -48,7 +47,6 @@ fn is_explained(id: CommandId) -> bool {
         | CommandId::Explore
         | CommandId::ExploreCount
         | CommandId::ExploreWalk
-        | CommandId::ExploreSeeds
         | CommandId::Live => true,
         CommandId::Draw
         | CommandId::Script

@@ -17,7 +17,7 @@ use mx_picture::picture;
 use mx_play::{Typed, play};
 use mx_scripts::event_file;
 use mx_views::{check_objects, replay_view};
-use mx_walks::{explore_seeds, explore_walk};
+use mx_walks::explore_walk;
 use std::alloc::AllocError;
 use std::io;
 use std::io::{BufWriter, IsTerminal, Write};
@@ -25,8 +25,6 @@ use std::process::ExitCode;
 use std::rt::{Clock, Env, Files};
 use std::thread::Threads;
 
-/// Runs a command line with the files and threads of the process and two outputs, and returns the
-/// exit status.
 fn carry_out<R: Files + Clock + Input + AllocGlobal + Threads, O: Output, E: Output>(
     rt: &R,
     words: &[&str],
@@ -47,7 +45,6 @@ where
             event_file(alloc, words, &mut source, out, err)
         }
         Some(CommandId::Explain) => explain(alloc, words, &mut source, out, err),
-        Some(CommandId::ExploreSeeds) => explore_seeds(alloc, words, &mut source, out, err),
         Some(CommandId::ExploreWalk) => explore_walk(alloc, words, &mut source, out, err),
         Some(CommandId::Judge) => judge_trace(alloc, words, &mut source, out, err),
         Some(CommandId::Live) => live(rt, alloc, words, &mut source, out, err),
@@ -60,7 +57,6 @@ where
     }
 }
 
-/// Returns the lines of standard input, as they are typed or come through a pipe.
 fn typed_lines<R: Input>(rt: &R) -> Typed<R::Reader>
 where
     R::Reader: IsTerminal,
@@ -72,10 +68,6 @@ where
 
 /// Runs the command line of the process. If its files have a fault, a hint on standard error names
 /// the command that explains it, for a reader at a terminal.
-///
-/// # Errors
-///
-/// Returns an error if memory runs out, or if an argument is not valid UTF-8.
 fn run_words<
     R: Files + Env + Clock + Input + AllocGlobal + Threads,
     O: Write + Drop,

@@ -1,16 +1,10 @@
 -- Rows of marks: rows without marks, and the effect of one more write.
-use Rattle.std.proofs.Common.{ℕ, zero, suc, ◌+◌, ◌<◌, ◌≡◌, ◌⊎◌, inl, inr, ◌↔◌, Bool, true, false, List, [], ◌∷◌, length, get_or, set, replicate, refl, sym, subst, arith, ◌≤◌, Option, Some, None, MatchOption, IsSome}
+use Rattle.std.proofs.Common.{ℕ, zero, suc, ◌+◌, ◌<◌, ◌≡◌, ◌⊎◌, inl, inr, ◌↔◌, Bool, true, false, List, [], length, get_or, set, replicate, refl, sym, subst, arith, ◌≤◌, Option, Some, None, MatchOption, IsSome}
 use Rattle.std.proofs.lemmas.List.{get_or-set_same, get_or-set_other, length-set}
 use Rattle.mx_stamps.proofs.Lists.{dec_eq, get_or_replicate}
 use Rattle.mx_quorums.specs.Rows.{IsMarked, IsMember, BothMark, MarksNodes}
 use Rattle.mx_quorums.specs.Rules.{IsLeast, AllOwn, AllMeet}
 use Rattle.mx_quorums.specs.Family.{IsMeeting}
-
--- a mark is within the row
-pub marked_within : (row : List Bool) (j : ℕ) → IsMarked row j → j < length row
-marked_within [] j h = let bad : ⊥ = cc in absurd bad
-marked_within (b ∷ row) zero h = omega arith
-marked_within (b ∷ row) (suc j) h = let k : j < length row = marked_within row j h in omega arith
 
 -- a fresh row marks nothing
 pub none_marked : (n j : ℕ) → IsMarked (replicate n false) j → ⊥

@@ -1,6 +1,5 @@
 -- Views: lists of registers, and how they take records.
 use Rattle.std.proofs.Common.{ℕ, suc, ◌<◌, ◌≡◌, zero, inl, inr, List, [], ◌∷◌, ◌++◌, Some, length, get_or, slice_get, take, refl, sym, ◌∙◌, ap, subst, arith}
-use Rattle.std.specs.Option.{option_map}
 use Rattle.std.proofs.lemmas.Option.{get_or_from_slice_get}
 use Rattle.std.specs.List.{refill}
 use Rattle.std.proofs.lemmas.List.{drop_all, ext_get_or, take_all}
@@ -11,7 +10,7 @@ use Rattle.mx_journal.specs.Agreement.{AgreesWith, IsConsistent, IsSubmap}
 use Rattle.mx_journal.specs.Records.{Ascending, with_record, with_records}
 use Rattle.mx_journal.proofs.Maps.{ascending_same, consistent_across, consistent_among, in_with_records, with_records_have, with_records_keep}
 use Rattle.mx_registers.specs.declared.contents.Content.{Content}
-use Rattle.mx_registers.specs.Registers.{IsHeld, after_record, after_records, blank, register_of, registers_of, value_in, with_taken}
+use Rattle.mx_registers.specs.Registers.{IsHeld, after_record, after_records, blank, register_of, registers_of, with_taken}
 use Rattle.mx_registers.proofs.Held.{held, same_register}
 
 -- functions that agree below n make one list
@@ -74,11 +73,6 @@ joined_registers count xs rs c =
 -- the registers of agreeing records are those of the map that they make
 pub map_registers : (count : ℕ) (xs : List Record) → IsConsistent xs → registers_of count xs ≡ registers_of count (with_records xs [])
 map_registers count xs c = joined_registers count [] xs c
-
--- the value of a register that is there
-pub value_there : (count : ℕ) (xs : List Record) (register : ℕ) → register < count → value_in register (registers_of count xs) ≡ Some (register_of register xs).value
-value_there count xs register l =
-    ap (λ o. option_map (λ (content : Content). content.value) o) (has_each_below (λ i. register_of i xs) count register l)
 
 -- a list that is written whole
 pub rewritten : (xs ws : List Content) → length ws ≡ length xs → refill (length xs) xs ws ≡ ws

@@ -25,10 +25,10 @@ use Rattle.mx_explorer.specs.Weather.{generator_of}
 use Rattle.mx_explorer.proofs.DrawnEvents.{all_drawn}
 use Rattle.mx_commands.specs.Explored.{after_drawn, after_placed, or_stay, schedule_of}
 use Rattle.mx_commands.specs.Runs.{at_rest}
+use Rattle.mx_commands.proofs.RunLemmas.{grows}
 use Rattle.mx_scripts.specs.Drawn.{drawn_file, parcels_in, placed_in, placed_schedule}
-use Rattle.mx_scripts.specs.Played.{events_of}
-use Rattle.mx_scripts.specs.Readable.{AreReadable, IsNumbered}
-use Rattle.mx_scripts.proofs.PlayedLemmas.{more_sent, noted}
+use Rattle.mx_scripts.specs.Played.{events_of, AreReadable, IsNumbered}
+use Rattle.mx_scripts.proofs.PlayedLemmas.{noted}
 use Rattle.mx_scripts.proofs.ReadLemmas.{read_back}
 
 -- ---- the numbers that are drawn
@@ -113,7 +113,7 @@ module _ {H S M : Type 0} (core : Core H S M) (nodes registers : ℕ) where
     stay_more e (Err fault) is = (omega arith, omega arith)
     stay_more e (Ok new) is =
         let one = ap (λ (es : List Event). length es) (noted core g new e is) ∙ length-append (events_of g.trace) (e ∷ []) in
-        (more_sent core g new e is, omega (arith, one))
+        ((grows core g new e is).1, omega (arith, one))
 
     placed_more : (o : Option Event)
         → (length g.sent ≤ length (after_placed core g o).sent) × (length (events_of (after_placed core g o).trace) ≤ suc (length (events_of g.trace)))

@@ -20,8 +20,7 @@ use Rattle.mx_scripts.specs.Ended.{ClosesScript, EndsScript, IsFileOfNames, IsSc
 use Rattle.mx_plan.specs.declared.shape.Shape.{Shape}
 use Rattle.mx_plan.specs.declared.shape.Shape.TheVariants.{Ricart, Maekawa, Raymond}
 use Rattle.mx_scripts.specs.ScriptFiles.{IsScriptFile, IsShort, StopsInPlan}
-use Rattle.mx_scripts.specs.Printed.{HasDone, Scripts}
-use Rattle.mx_scripts.specs.Requests.{Request, draw, walk, script}
+use Rattle.mx_scripts.specs.Printed.{HasDone, Scripts, Request, draw, walk, script}
 
 -- ---- lines that are not done
 

@@ -5,8 +5,7 @@ use Rattle.std.specs.Prelude.{◌&&◌, IsTrue}
 use Rattle.mx_events.specs.declared.event.Event.{Event}
 use Rattle.mx_events.specs.declared.event.Event.TheVariants as event
 use Rattle.mx_lines.specs.declared.orders.Scope.{Scope}
-use Rattle.mx_scripts.specs.Fates.{Fates, delivered, is_held, is_in, is_under_way, is_waiting, is_wanted}
-use Rattle.mx_scripts.specs.UnderWay.{AreGone, AreGoneBetween}
+use Rattle.mx_scripts.specs.Fates.{Fates, delivered, is_held, is_in, is_under_way, is_waiting, is_wanted, AreGone, AreGoneBetween}
 use Rattle.mx_scripts.specs.declared.in_flight.Wanted.{Wanted}
 use Rattle.mx_scripts.specs.declared.in_flight.Wanted.TheVariants.{Waiting, Arriving}
 

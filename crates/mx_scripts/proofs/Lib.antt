@@ -6,7 +6,6 @@ pub mod ItemLemmas
 pub mod ReadLemmas
 pub mod DrawnLemmas
 pub mod PrintedLemmas
-pub mod RefusedLemmas
 pub mod EndedLemmas
 pub mod OverLemmas
 pub mod LineLemmas

@@ -31,8 +31,8 @@ use Rattle.mx_scripts.specs.States.{Admits, Brings, IsAllowed, IsDrawnOf, IsNotA
 use Rattle.mx_scripts.specs.declared.script_error.LineFailure.{LineFailure}
 use Rattle.mx_scripts.specs.declared.script_error.LineFailure.TheVariants as failure
 use Rattle.mx_scripts.specs.declared.script_error.ScriptError.{ScriptError}
-use Rattle.mx_scripts.specs.declared.session_event.SessionEvent.{SessionEvent}
-use Rattle.mx_scripts.specs.declared.session_event.SessionEvent.TheVariants.{Happens, IsLost, LinksChange}
+use Rattle.mx_scripts.specs.declared.state.SessionEvent.{SessionEvent}
+use Rattle.mx_scripts.specs.declared.state.SessionEvent.TheVariants.{Happens, IsLost, LinksChange}
 use Rattle.mx_scripts.proofs.FateLemmas.{waiting_under_way}
 
 not_none : {A : Type 0} (x : A) → ◌≡◌ {A = Option A} (Some x) None → ⊥

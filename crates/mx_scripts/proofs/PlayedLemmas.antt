@@ -1,17 +1,16 @@
 -- Events that happened, one after another.
-use Rattle.std.proofs.Common.{◌≡◌, ◌≤◌, ◌<◌, ◌∙◌, ◌⊎◌, ℕ, zero, suc, arith, List, [], ◌∷◌, ◌++◌, Option, Some, None, Result, Ok, Err, length, slice_get, ap, subst, sym, refl, inl, inr, IfSome}
+use Rattle.std.proofs.Common.{◌≡◌, ◌<◌, ◌∙◌, ◌⊎◌, ℕ, zero, suc, List, [], ◌∷◌, ◌++◌, Option, Some, None, Result, Ok, Err, length, ap, subst, sym, refl, inl, inr, IfSome}
 use Rattle.std.specs.Prelude.{IfOk, OnOk}
 use Rattle.std.specs.Bool.{⊤}
-use Rattle.std.proofs.lemmas.List.{length-append, map-append}
+use Rattle.std.proofs.lemmas.List.{map-append}
 use Rattle.mx_stamps.specs.Lists.{IsIn}
 use Rattle.mx_stamps.proofs.Lists.{in_append}
 use Rattle.mx_nodelaws.specs.Core.{Core}
 use Rattle.mx_ricart.specs.Step.{ricart_core}
 use Rattle.mx_maekawa.specs.Step.{maekawa_core}
 use Rattle.mx_raymond.specs.Step.{raymond_core}
-use Rattle.mx_member.specs.declared.acts.Act.{Act}
-use Rattle.mx_member.specs.Member.{MemberState}
-use Rattle.mx_network.specs.Step.{ClusterState, RunsTo, step_of, at_part, at_member, part_of, grown, answer_of}
+use Rattle.mx_network.specs.Step.{ClusterState, RunsTo, step_of}
+use Rattle.mx_network.proofs.Happening.{noted as in_trace}
 use Rattle.mx_events.specs.declared.event.Event.{Event}
 use Rattle.mx_network.specs.declared.faults.StepFault.{StepFault}
 use Rattle.mx_trace.specs.declared.outcome.Entry.{Entry}
@@ -31,12 +30,6 @@ use Rattle.mx_scripts.specs.Files.{file_text}
 use Rattle.mx_scripts.specs.Played.{AreOver, IsFileOf, IsPlayed, Plays, events_of}
 use Rattle.mx_scripts.specs.Drawn.{LeadsAs, placed_in}
 
-same_Ok : {A E : Type 0} (x y : A) → ◌≡◌ {A = Result A E} (Ok x) (Ok y) → x ≡ y
-same_Ok x y e = cc
-
-not_Ok : {A : Type 0} (f : StepFault) (x : A) → ◌≡◌ {A = Result A StepFault} (Err f) (Ok x) → ⊥
-not_Ok f x e = cc
-
 -- the last of a list, or one before
 one_more : (nodes registers : ℕ) (e x : Event) (es : List Event) → AreOver nodes registers es → IsDrawn nodes registers e
     → IsIn x es ⊎ IsIn x (e ∷ []) → IsDrawn nodes registers x
@@ -45,35 +38,11 @@ one_more nodes registers e x es over last (inr (inl is)) = subst (λ (y : Event)
 one_more nodes registers e x es over last (inr (inr h)) = absurd h
 
 module _ {H S M : Type 0} (core : Core H S M) where
-  module _ (g new : ClusterState S M) (e : Event) where
-    at_member_noted : (i : ℕ) (a : Act M) (o : Option (MemberState S)) → at_member core g e i a o ≡ Ok new → events_of new.trace ≡ events_of g.trace ++ e ∷ []
-    at_member_noted i a None h = absurd (not_Ok _ _ h)
-    at_member_noted i a (Some m) h =
-        let is : grown g e i (answer_of core a m) ≡ new = same_Ok _ _ h in
-        ap (λ (q : ClusterState S M). events_of q.trace) (sym is) ∙ map-append (λ (entry : Entry). entry.event) g.trace _
-
-    at_part_noted : (o : Result (ℕ × Act M) StepFault) → at_part core g e o ≡ Ok new → events_of new.trace ≡ events_of g.trace ++ e ∷ []
-    at_part_noted (Err f) h = absurd (not_Ok _ _ h)
-    at_part_noted (Ok p) h = at_member_noted p.0 p.1 (slice_get g.members p.0) h
-
-    -- an event joins the trace
-    pub noted : step_of core g e ≡ Ok new → events_of new.trace ≡ events_of g.trace ++ e ∷ []
-    noted h = at_part_noted (part_of (length g.members) g.sent e) h
-
-    at_member_more : (i : ℕ) (a : Act M) (o : Option (MemberState S)) → at_member core g e i a o ≡ Ok new → length g.sent ≤ length new.sent
-    at_member_more i a None h = absurd (not_Ok _ _ h)
-    at_member_more i a (Some m) h =
-        let is : grown g e i (answer_of core a m) ≡ new = same_Ok _ _ h in
-        let sent = ap (λ (q : ClusterState S M). length q.sent) (sym is) ∙ length-append g.sent _ in
-        omega (arith, sent)
-
-    at_part_more : (o : Result (ℕ × Act M) StepFault) → at_part core g e o ≡ Ok new → length g.sent ≤ length new.sent
-    at_part_more (Err f) h = absurd (not_Ok _ _ h)
-    at_part_more (Ok p) h = at_member_more p.0 p.1 (slice_get g.members p.0) h
-
-    -- no parcel is taken back
-    pub more_sent : step_of core g e ≡ Ok new → length g.sent ≤ length new.sent
-    more_sent h = at_part_more (part_of (length g.members) g.sent e) h
+  -- an event joins the trace
+  pub noted : (g new : ClusterState S M) (e : Event) → step_of core g e ≡ Ok new → events_of new.trace ≡ events_of g.trace ++ e ∷ []
+  noted g new e step =
+      let entry = in_trace core g e new step in
+      ap (λ (trace : List Entry). events_of trace) entry.1 ∙ map-append (λ (x : Entry). x.event) g.trace (record { event = e; outcome = entry.0 } ∷ [])
 
   -- a run, and one event more
   run_on : (start mid new : ClusterState S M) (es : List Event) (e : Event) → RunsTo core start es mid → step_of core mid e ≡ Ok new → RunsTo core start (es ++ e ∷ []) new
@@ -134,17 +103,6 @@ module _ {H S M : Type 0} (core : Core H S M) where
   plays_walked conditions nodes registers (suc steps) w g n r = λ start played.
       plays_walked conditions nodes registers steps (walk_after core conditions nodes registers w g) (after_step core conditions nodes registers w g) n r start
       (plays_after nodes registers g (next_step core conditions g nodes registers w).event (next_named nodes registers n r core conditions g w) start played)
-
-  -- an event more, where it may have failed
-  pub plays_on_ok : {E : Type 0} (nodes registers : ℕ) (g new : ClusterState S M) (e : Event) (w : Result ⊤ E) → OnOk w (step_of core g e ≡ Ok new) → IsDrawn nodes registers e
-      → OnOk w (Plays core nodes registers g new)
-  plays_on_ok nodes registers g new e (Ok done) step over = plays_step nodes registers g new e step over
-  plays_on_ok nodes registers g new e (Err fault) step over = tt
-
-  -- nothing happened
-  pub plays_nothing : {E : Type 0} (nodes registers : ℕ) (g : ClusterState S M) (w : Result ⊤ E) → OnOk w (Plays core nodes registers g g)
-  plays_nothing nodes registers g (Ok done) = λ start played. played
-  plays_nothing nodes registers g (Err fault) = tt
 
   pub file_of_played : (p : Fields) (start g : ClusterState S M) (trace : List Entry) (text : Text) → start.trace ≡ [] → Plays core (length p.nodes) (length p.registers) start g
       → trace ≡ g.trace → text ≡ file_text p (events_of trace) → IsFileOf core p start text

@@ -1,10 +1,12 @@
 -- What comes of `draw` and `script`.
-use Rattle.std.proofs.Common.{◌≡◌, ◌∙◌, ℕ, Bool, Option, Result, Ok, Err, IfOk, IfSome, subst}
+use Rattle.std.proofs.Common.{◌≡◌, ◌∙◌, ℕ, Bool, Option, Result, Ok, Err, IfOk, IfSome, subst, inl, Some, None}
 use Rattle.std.specs.Io.KnownBytes.{Appends, Keeps}
 use Rattle.mx_stamps.proofs.Lists.{append_nil}
 use Rattle.mx_plan.specs.Text.{Text}
 use Rattle.mx_plan.specs.Fields.{Fields}
 use Rattle.mx_cli.specs.declared.faults.CommandError.{CommandError}
+use Rattle.mx_cli.specs.declared.faults.CommandError.TheVariants as command_error
+use Rattle.mx_cli.specs.Reports.{RunsOut, Seen}
 use Rattle.mx_commands.specs.Jobs.{Job}
 use Rattle.mx_cli.specs.Reading.{IsPlanOf}
 use Rattle.mx_io.specs.Outputs.{Held}
@@ -16,9 +18,8 @@ use Rattle.mx_commands.proofs.CommandLemmas.{ran_keeps}
 use Rattle.mx_cli.proofs.OutputLemmas.{Appends-keeps, keeps_on}
 use Rattle.mx_walks.specs.declared.conditions.Conditions.{Conditions}
 use Rattle.mx_scripts.specs.Drawn.{walked_file}
-use Rattle.mx_scripts.specs.Printed.{HasDone, Prints, PrintsWalk, told_of_plan}
+use Rattle.mx_scripts.specs.Printed.{HasDone, Prints, PrintsWalk, told_of_plan, Draws, draw_job, Request, draw, walk, script}
 use Rattle.mx_scripts.specs.Played.{IsEventFile}
-use Rattle.mx_scripts.specs.Requests.{Request, draw, walk, script}
 
 -- ---- what was kept back is passed on
 
@@ -59,3 +60,16 @@ pub walk_done : {E : Type 0} (told : Text → Option Telling) (name : Text) (see
     → IfOk r (λ _. PrintsWalk p seed steps conditions a b) → IfOk r (λ _. HasDone told (walk name seed steps conditions) a b)
 walk_done told name seed steps conditions p a b (Ok status) read prints = (p, read, prints)
 walk_done told name seed steps conditions p a b (Err end) read prints = tt
+
+-- ---- words that were refused
+
+-- memory ran out before there was a report
+at_once : (t : Bool) (a b : Held) (o : Option Job) → Keeps a b → IfSome o (λ job. RanOn t a b job (Err command_error.Memory))
+at_once t a b None same = tt
+at_once t a b (Some job) same = inl (tt, same)
+
+pub short_draws : (t u : Bool) (told : Text → Option Telling) (request : Request) (old new : Seen) (status : ℕ)
+    → RunsOut old new status → Draws t u told request old.out new.out old.err new.err status
+short_draws t u told (draw name seed steps) old new status m = (Err command_error.Memory, at_once t old.out new.out (draw_job told name seed steps) m.1, inl (m.0, m.2))
+short_draws t u told (walk name seed steps conditions) old new status m = tt
+short_draws t u told (script names) old new status m = tt

@@ -27,7 +27,7 @@ use Rattle.mx_explorer.specs.Drawn.{IsDrawn}
 use Rattle.mx_format.specs.EventTexts.{name_of, register_name_of}
 use Rattle.mx_format.specs.Lines.{each_text}
 use Rattle.mx_scripts.specs.Files.{item_text, next_text, file_text}
-use Rattle.mx_scripts.specs.Readable.{AreReadable, IsNumbered}
+use Rattle.mx_scripts.specs.Played.{AreReadable, IsNumbered}
 use Rattle.mx_scripts.proofs.ItemLemmas.{AreParts, IsPart, IsWord, Part, ascii_then, count, event_json, event_tokens, event_word, item_utf8, name, part_json, parts_json, parts_of}
 
 -- ---- the tokens of a file

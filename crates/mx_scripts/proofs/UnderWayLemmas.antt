@@ -2,8 +2,7 @@
 use Rattle.std.proofs.Common.{◌≡◌, ◌<◌, ◌+◌, ◌-◌, ◌∙◌, ◌⊎◌, ℕ, zero, suc, Bool, false, List, [], ◌∷◌, ◌++◌, get_or, length, replicate, ap, sym, subst, refl, append_assoc, arith, inl, inr}
 use Rattle.std.proofs.lemmas.List.{length-append}
 use Rattle.std.specs.Prelude.{IsTrue}
-use Rattle.mx_scripts.specs.Fates.{grown}
-use Rattle.mx_scripts.specs.UnderWay.{AreGone, AreSkipped}
+use Rattle.mx_scripts.specs.Fates.{grown, AreGone, AreSkipped}
 
 -- one more was sent
 pub grown_more : (sent : ℕ) (gone : List Bool) → length gone < sent → grown sent (gone ++ false ∷ []) ≡ grown sent gone

@@ -24,7 +24,6 @@ at_first = record { gone = []; last = replicate 441 None; links = uncut }
 abbrev pub grown : ℕ → List Bool → List Bool
 grown sent gone = gone ++ replicate (sent - length gone) false
 
--- a parcel was lost: it is no longer under way
 abbrev pub lost : ℕ → Fates → Fates
 lost k f = record { gone = slice_set f.gone k true; last = f.last; links = f.links }
 
@@ -49,11 +48,9 @@ noted sent event f =
     delivered sent event
     (record { gone = grown (length sent) f.gone; last = f.last; links = f.links })
 
--- links were cut, or healed
 abbrev pub relinked : LinkChange → Fates → Fates
 relinked change f = record { gone = f.gone; last = f.last; links = changed change f.links }
 
--- the parcel is under way
 abbrev pub is_under_way : Fates → ℕ → Bool
 is_under_way f k = not (slice_index_or f.gone k true)
 
@@ -76,13 +73,11 @@ abbrev pub is_within : Scope → ℕ → ℕ → Bool
 is_within All from to = true
 is_within (Link first second) from to = (from == first) && (to == second)
 
--- the parcel was sent, and is in the scope
 abbrev pub is_in : {P : Type 0} → Scope → Option (ℕ × ℕ × P) → Bool
 is_in scope None = false
 is_in scope (Some p) = is_within scope p.0 p.1
 
 module _ {P : Type 0} (f : Fates) (sent : List (ℕ × ℕ × P)) (scope : Scope) where
-  -- the parcel is under way, and in the scope
   abbrev pub is_waiting : ℕ → Bool
   is_waiting k = is_under_way f k && is_in scope (slice_get sent k)
 
@@ -98,3 +93,18 @@ module _ {P : Type 0} (f : Fates) (sent : List (ℕ × ℕ × P)) (scope : Scope
   -- no parcel in the scope is under way
   abbrev pub NoneWaits : Type 0
   NoneWaits = (k : ℕ) → is_waiting k ≡ false
+
+-- ---- the list of the parcels under way
+
+-- no parcel below this number is under way
+abbrev pub AreGone : ℕ → List Bool → Type 0
+AreGone first gone = (k : ℕ) → k < first → IsTrue (slice_index_or gone k false)
+
+-- no parcel between these two numbers is under way
+abbrev pub AreGoneBetween : ℕ → ℕ → List Bool → Type 0
+AreGoneBetween from to gone =
+    (k : ℕ) → from < k → k < to → IsTrue (slice_index_or gone k false)
+
+-- no parcel between a parcel and its entry in `next` is under way
+abbrev pub AreSkipped : List ℕ → List Bool → Type 0
+AreSkipped next gone = (k : ℕ) → AreGoneBetween k (slice_index_or next k 0) gone

@@ -23,10 +23,9 @@ use Rattle.mx_scripts.specs.States.{Bars, Brings, IsAllowed, IsNotApplied, RunSt
 use Rattle.mx_scripts.specs.declared.script_error.LineFailure.{LineFailure}
 use Rattle.mx_scripts.specs.declared.script_error.LineFailure.TheVariants as failure
 use Rattle.mx_scripts.specs.declared.script_error.ScriptError.{ScriptError}
-use Rattle.mx_scripts.specs.declared.session_event.SessionEvent.{SessionEvent}
-use Rattle.mx_scripts.specs.declared.session_event.SessionEvent.TheVariants.{Happens, IsLost, LinksChange}
+use Rattle.mx_scripts.specs.declared.state.SessionEvent.{SessionEvent}
+use Rattle.mx_scripts.specs.declared.state.SessionEvent.TheVariants.{Happens, IsLost, LinksChange}
 
--- the delivery of a parcel
 abbrev pub arrival : ℕ → SessionEvent
 arrival k = Happens (Deliver k)
 
@@ -145,7 +144,6 @@ module _ {H S M : Type 0} (core : Core H S M) where
   DoesIfSome (Some line) old new = Does line old new
 
   module _ (p : Fields) where
-    -- what the words of a line ask for was done
     abbrev pub DoesText : Text → RunState S M → RunState S M → Type 0
     DoesText text old new = (read : Option Line) × Reads p text read × DoesIfSome read old new
 

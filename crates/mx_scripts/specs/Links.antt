@@ -12,7 +12,6 @@ pub record LinkState : Type 0 where
 abbrev pub link_of : ℕ → ℕ → ℕ
 link_of from to = from * 21 + to
 
--- no link is cut
 abbrev pub uncut : LinkState
 uncut = record { cut = replicate 441 false; apart = replicate 21 false }
 
@@ -25,7 +24,6 @@ changed (Cut one other) l = record {
 changed (CutAll node) l = record { cut = l.cut; apart = slice_set l.apart node true }
 changed Heal l = uncut
 
--- the link from one node to another is cut
 abbrev pub is_cut : LinkState → ℕ → ℕ → Bool
 is_cut l from to =
     slice_index_or l.cut (link_of from to) false

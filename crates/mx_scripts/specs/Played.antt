@@ -1,5 +1,6 @@
 -- Events that happened in a cluster, one after another.
-use Rattle.std.specs.Prelude.{ℕ, ◌≡◌, List, map, length}
+use Rattle.std.specs.Prelude.{ℕ, ◌≡◌, List, map, length, ◌≤◌, ◌<◌, ◌^◌, ⊤}
+use Rattle.mx_stamps.specs.declared.limits.TheConstants.{MAX_EVENTS}
 use Rattle.mx_stamps.specs.Lists.{IsIn}
 use Rattle.mx_nodelaws.specs.Core.{Core}
 use Rattle.mx_ricart.specs.Step.{ricart_core}
@@ -7,6 +8,7 @@ use Rattle.mx_maekawa.specs.Step.{maekawa_core}
 use Rattle.mx_raymond.specs.Step.{raymond_core}
 use Rattle.mx_network.specs.Step.{ClusterState, RunsTo}
 use Rattle.mx_events.specs.declared.event.Event.{Event}
+use Rattle.mx_events.specs.declared.event.Event.TheVariants.{Write, Settle, Deliver}
 use Rattle.mx_trace.specs.declared.outcome.Entry.{Entry}
 use Rattle.mx_plan.specs.Text.{Text}
 use Rattle.mx_plan.specs.Fields.{Fields}
@@ -16,7 +18,6 @@ use Rattle.mx_explorer.specs.Drawn.{IsDrawn}
 use Rattle.mx_commands.specs.Runs.{at_rest}
 use Rattle.mx_scripts.specs.Files.{file_text}
 
--- the events of a trace, without their outcomes
 abbrev pub events_of : List Entry → List Event
 events_of = map (λ entry. entry.event)
 
@@ -55,3 +56,19 @@ abbrev pub IsEventFile : Fields → Text → Shape → Type 0
 IsEventFile p text (Ricart count) = IsFileOf ricart_core p (at_rest ricart_core p count) text
 IsEventFile p text (Maekawa family) = IsFileOf maekawa_core p (at_rest maekawa_core p family) text
 IsEventFile p text (Raymond tree) = IsFileOf raymond_core p (at_rest raymond_core p tree) text
+
+-- ---- events that can be read back from their file
+
+-- the number in the event, if it has one, fits in 64 bits
+abbrev pub IsNumbered : Event → Type 0
+IsNumbered (Write node register value) = value < 2 ^ 64
+IsNumbered (Settle node upto) = upto < 2 ^ 64
+IsNumbered (Deliver k) = k < 2 ^ 64
+IsNumbered _ = ⊤
+
+-- at most a million events, which name only nodes and registers of the plan; their numbers fit in
+-- 64 bits
+pub record AreReadable (p : Fields) (es : List Event) : Type 0 where
+  pub over : AreOver (length p.nodes) (length p.registers) es
+  pub numbered : (e : Event) → IsIn e es → IsNumbered e
+  pub few : length es ≤ MAX_EVENTS

@@ -15,7 +15,13 @@ use Rattle.mx_scripts.specs.Drawn.{drawn_file, walked_file}
 use Rattle.mx_scripts.specs.Played.{IsEventFile}
 use Rattle.mx_scripts.specs.Ended.{IsScriptOf, ScriptsOf}
 use Rattle.mx_scripts.specs.ScriptFiles.{IsScriptFile}
-use Rattle.mx_scripts.specs.Requests.{Request, draw, walk, script}
+
+-- by the name of a plan, a seed and a number of steps: the events of `explore`, or those of a walk
+-- under some conditions; or, by the names of a plan and a script, what the script's lines do
+pub data Request : Type 0 where
+  draw : Text → ℕ → ℕ → Request
+  walk : Text → ℕ → ℕ → Conditions → Request
+  script : Text × Text → Request
 
 -- what the source states about the plan of a request
 abbrev pub told_of_plan : (Text → Option Telling) → Request → Option Telling

@@ -38,7 +38,6 @@ fault_of (failure.WrongWord error) = Some error.fault
 fault_of (failure.Refused fault) = Some fault
 fault_of failure.Memory = None
 
--- the refused line has this number, and the fault of this failure
 abbrev pub IsRefused : ℕ → LineFailure → RefusedLine → Type 0
 IsRefused number failure line =
     (line.number ≡ number) × (fault_of failure ≡ Some line.fault)

@@ -12,8 +12,8 @@ use Rattle.mx_scripts.specs.Fates.{Fates, at_first, can_pass, is_under_way, lost
 use Rattle.mx_scripts.specs.Scripts.{failure_of_step}
 use Rattle.mx_scripts.specs.declared.script_error.LineFailure.{LineFailure}
 use Rattle.mx_scripts.specs.declared.script_error.LineFailure.TheVariants as failure
-use Rattle.mx_scripts.specs.declared.session_event.SessionEvent.{SessionEvent}
-use Rattle.mx_scripts.specs.declared.session_event.SessionEvent.TheVariants.{Happens, IsLost, LinksChange}
+use Rattle.mx_scripts.specs.declared.state.SessionEvent.{SessionEvent}
+use Rattle.mx_scripts.specs.declared.state.SessionEvent.TheVariants.{Happens, IsLost, LinksChange}
 
 pub record RunState (S M : Type 0) : Type 0 where
   pub cluster : ClusterState S M

@@ -7,7 +7,7 @@ use Rattle.mx_cli.specs.Table.{line_of}
 use Rattle.mx_cli.specs.Words.{asked_of, exploration_at, is_given, names_of}
 use Rattle.mx_cli.specs.declared.table.CommandId.TheVariants as id
 use Rattle.mx_walks.specs.WalkWords.{conditions_in}
-use Rattle.mx_scripts.specs.Requests.{Request, draw, walk, script}
+use Rattle.mx_scripts.specs.Printed.{Request, draw, walk, script}
 use Rattle.mx_scripts.specs.declared.words.Request.{Request as Told}
 use Rattle.mx_scripts.specs.declared.words.Request.TheVariants as asked
 

@@ -7,20 +7,23 @@ ghost use Rattle.mx_cli.specs.Closed.{IsRunStatus, PassesOn};
 ghost use Rattle.mx_scripts.specs.Printed.{Draws, HasDone, Scripts};
 ghost use Rattle.mx_scripts.specs.Words.{request_asked, request_of, file_line};
 
-use crate::help;
 use crate::printer::{run_draw, run_script, run_walk};
 use crate::words::{Request, parse};
 use mx_cli::refuse;
 use mx_io::{Output, Source};
 use std::alloc::Global;
 
+/// The error text for `--loss`, `--repeat` or `--in-order` without `--walk`.
+const NEEDS_WALK: &str = "error: the following required arguments were not provided:
+  --walk
+
+Usage: mx draw --seed <seed> --steps <steps> --walk <PLAN>
+
+For more information, try '--help'.
+";
+
 /// Runs a command line whose first argument is `draw` or `script`, without the program's name, and
-/// prints a file of events. Returns the exit status:
-///
-/// - 0 on success, or if help was requested;
-/// - 1 for an error in a plan, a script, a file or an output;
-/// - 2 for wrong arguments;
-/// - 5 if memory ran out.
+/// prints a file of events. Returns the exit status.
 pub fn event_file<S: Source, O: Output, E: Output>(
     alloc: Global,
     words: &[&str],
@@ -49,15 +52,13 @@ pub fn event_file<S: Source, O: Output, E: Output>(
     }
 }
 
-/// Reports that an option of `draw` needs `--walk`. Returns the status.
 fn need_walk<E: Output>(err: &mut E) -> u8
     ensures { result ≡ 2 }
 {
-    let _ = err.put(help::NEEDS_WALK.as_bytes());
+    let _ = err.put(NEEDS_WALK.as_bytes());
     2
 }
 
-/// Prints the file of events that is asked for, or reports why there is none. Returns the status.
 fn run_request<S: Source, O: Output, E: Output>(
     alloc: Global,
     request: &Request<'_>,

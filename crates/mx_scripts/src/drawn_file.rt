@@ -56,7 +56,6 @@ pub fn replays_as_explored(plan: &Plan, seed: u64, steps: u64)
         (placed_schedule plan.now seed steps) plan.now.shape }
 {}
 
-/// Runs the drawn events by the plan's algorithm, then appends the file of what happened.
 fn add_placed(
     alloc: Global,
     plan: &Plan,
@@ -74,7 +73,6 @@ fn add_placed(
     )
 }
 
-/// Runs the drawn events in a cluster, then appends the file of what happened.
 fn add_happened<C: Exclusion>(
     plan: &Plan,
     mut cluster: Cluster<C>,

@@ -1,6 +1,4 @@
-//! Which parcels are under way, and which links are cut.
-
-ghost use Rattle.std.specs.Prelude.{◌≡◌, ◌≤◌, ℕ, false, IfNone, IfSome, None, OnOk, slice_get, slice_index_or};
+ghost use Rattle.std.specs.Prelude.{◌≡◌, ℕ, false, IfNone, IfSome, None, OnOk, slice_get, slice_index_or};
 ghost use Rattle.mx_scripts.specs.Fates.{IsOldest, arrived, at_first, can_arrive, can_pass, delivered, is_held, is_in, is_under_way, is_waiting, is_wanted, is_within, lost, noted, relinked};
 ghost use Rattle.mx_scripts.specs.Links.{is_cut, link_of};
 
@@ -25,7 +23,6 @@ pub struct InFlight {
 /// Which of the parcels under way `oldest` looks for.
 #[derive(Clone, Copy)]
 pub(crate) enum Wanted {
-    /// All.
     Waiting,
     /// Those over a link that is not cut.
     Arriving,
@@ -39,8 +36,6 @@ impl Model for InFlight {
     ghost view = { λ m. record { gone = m.under_way; last = m.last; links = m.links } };
 }
 
-/// Whether a parcel was sent and is in this scope, which is all parcels or those from one node to
-/// another.
 fn is_in<C: Exclusion>(cluster: &Cluster<C>, scope: &Scope, number: u64) -> bool
     ensures { result ≡ is_in scope.now (slice_get cluster.now.sent number) }
 {
@@ -50,7 +45,6 @@ fn is_in<C: Exclusion>(cluster: &Cluster<C>, scope: &Scope, number: u64) -> bool
     }
 }
 
-/// Whether a parcel from `from` to `to` is in this scope.
 fn is_within(scope: &Scope, from: NodeId, to: NodeId) -> bool
     ensures { result ≡ is_within scope.now from to }
 {
@@ -61,8 +55,7 @@ fn is_within(scope: &Scope, from: NodeId, to: NodeId) -> bool
 }
 
 impl InFlight {
-    /// Creates an `InFlight` before any parcel was sent. No link is cut.
-    pub fn new(alloc: Global) -> InFlight
+    pub(crate) fn new(alloc: Global) -> InFlight
         ensures { result ≡ at_first }
     {
         InFlight {
@@ -73,7 +66,7 @@ impl InFlight {
     }
 
     /// Notes which parcels an event sent and delivered. `cluster` is the cluster after the event.
-    pub fn note<C: Exclusion>(
+    pub(crate) fn note<C: Exclusion>(
         &mut self,
         event: &Event,
         cluster: &Cluster<C>,
@@ -85,7 +78,6 @@ impl InFlight {
         Ok(())
     }
 
-    /// Notes the parcel that an event delivered, if it is a delivery.
     fn take_in<C: Exclusion>(&mut self, event: &Event, cluster: &Cluster<C>)
         ensures { self.new ≡ delivered cluster.now.sent event.now self.old }
     {
@@ -94,7 +86,6 @@ impl InFlight {
         }
     }
 
-    /// Notes that a parcel was delivered: it is under way no more, and is the last of its link.
     fn arrive<C: Exclusion>(&mut self, number: u64, cluster: &Cluster<C>)
         ensures { self.new ≡ arrived number (slice_get cluster.now.sent number) self.old }
     {
@@ -104,22 +95,19 @@ impl InFlight {
         }
     }
 
-    /// Notes that the parcel of this number is under way no more.
-    pub fn lose(&mut self, number: u64)
+    pub(crate) fn lose(&mut self, number: u64)
         ensures { self.new ≡ lost number self.old }
     {
         self.under_way.lose(number);
     }
 
-    /// Whether the parcel of this number was sent, and neither delivered nor lost.
-    pub fn is_under_way(&self, number: u64) -> bool
+    pub(crate) fn is_under_way(&self, number: u64) -> bool
         ensures { result ≡ is_under_way self.now number }
     {
         self.under_way.is_under_way(number)
     }
 
-    /// Cuts the links that `change` names, or heals all.
-    pub fn change(&mut self, change: &LinkChange)
+    pub(crate) fn change(&mut self, change: &LinkChange)
         ensures { self.new ≡ relinked change.now self.old }
     {
         self.links.change(change);
@@ -132,8 +120,7 @@ impl InFlight {
         self.links.is_cut(from, to)
     }
 
-    /// Returns `false` only for the delivery of a parcel over a cut link.
-    pub fn can_pass<C: Exclusion>(&self, event: &Event, cluster: &Cluster<C>) -> bool
+    pub(crate) fn can_pass<C: Exclusion>(&self, event: &Event, cluster: &Cluster<C>) -> bool
         ensures { result ≡ can_pass self.now cluster.now.sent event.now }
     {
         match event {
@@ -142,7 +129,6 @@ impl InFlight {
         }
     }
 
-    /// Whether the parcel of this number was sent over a link that is cut.
     fn is_held<C: Exclusion>(&self, cluster: &Cluster<C>, number: u64) -> bool
         ensures { result ≡ is_held self.now (slice_get cluster.now.sent number) }
     {
@@ -152,22 +138,18 @@ impl InFlight {
         }
     }
 
-    /// Whether a parcel is under way, and in this scope.
-    pub fn is_waiting<C: Exclusion>(&self, cluster: &Cluster<C>, scope: &Scope, number: u64) -> bool
+    fn is_waiting<C: Exclusion>(&self, cluster: &Cluster<C>, scope: &Scope, number: u64) -> bool
         ensures { result ≡ is_waiting self.now cluster.now.sent scope.now number }
     {
         self.is_under_way(number) && is_in(cluster, scope, number)
     }
 
-    /// Whether a parcel is under way over a link that is not cut, and in this scope.
     fn can_arrive<C: Exclusion>(&self, cluster: &Cluster<C>, scope: &Scope, number: u64) -> bool
         ensures { result ≡ can_arrive self.now cluster.now.sent scope.now number }
     {
         self.is_waiting(cluster, scope, number) && !self.is_held(cluster, number)
     }
 
-    /// Whether a parcel is under way, in this scope, and, if `wanted` is `Arriving`, over a link
-    /// that is not cut.
     fn is_wanted<C: Exclusion>(
         &self,
         cluster: &Cluster<C>,
@@ -183,8 +165,6 @@ impl InFlight {
         }
     }
 
-    /// Returns the oldest parcel under way that is in this scope and, if `wanted` is `Arriving`,
-    /// over a link that is not cut.
     pub(crate) fn oldest<C: Exclusion>(
         &self,
         cluster: &Cluster<C>,
@@ -206,8 +186,7 @@ impl InFlight {
         None
     }
 
-    /// Returns the parcel that was delivered last from one node to another, if one was.
-    pub fn last_between(&self, from: NodeId, to: NodeId) -> Option<u64>
+    pub(crate) fn last_between(&self, from: NodeId, to: NodeId) -> Option<u64>
         ensures { result ≡ slice_index_or self.now.last (link_of from to) None }
     {
         self.last[link(from, to)]

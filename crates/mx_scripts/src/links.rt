@@ -10,10 +10,8 @@ use std::marker::Model;
 /// How many links the greatest cluster has: one from each node to each, itself included.
 pub(crate) const LINKS: usize = 441;
 
-/// How many nodes the greatest cluster has.
 const NODES: usize = 21;
 
-/// Which links are cut.
 #[derive(Drop)]
 pub(crate) struct Links {
     /// For each link, whether it was cut on its own. Both directions always agree.
@@ -30,7 +28,6 @@ impl Model for Links {
     ghost view = { λ l. record { cut = l.cut; apart = l.apart } };
 }
 
-/// Returns the place of the link from one node to another in an array of all links.
 pub(crate) fn link(from: NodeId, to: NodeId) -> usize
     ensures value { result ≡ link_of from to }
     ensures below { result < 441 }
@@ -39,7 +36,6 @@ pub(crate) fn link(from: NodeId, to: NodeId) -> usize
 }
 
 impl Links {
-    /// Creates the links of a cluster, none of them cut.
     pub(crate) fn uncut() -> Links
         ensures { result ≡ uncut }
     {
@@ -49,7 +45,6 @@ impl Links {
         }
     }
 
-    /// Cuts the links that `change` names, or heals all.
     pub(crate) fn change(&mut self, change: &LinkChange)
         ensures { self.new ≡ changed change.now self.old }
     {
@@ -63,7 +58,6 @@ impl Links {
         }
     }
 
-    /// Whether the link from one node to another is cut.
     pub(crate) fn is_cut(&self, from: NodeId, to: NodeId) -> bool
         ensures { result ≡ is_cut self.now from to }
     {

@@ -7,22 +7,18 @@ ghost use Rattle.mx_scripts.specs.Links.{link_of};
 ghost use Rattle.mx_scripts.specs.States.{Admits, Bars, IsAllowed};
 
 use crate::in_flight::Wanted;
-use crate::session_event::SessionEvent;
-use crate::state::State;
+use crate::state::{SessionEvent, State};
 use mx_lines::{LineFault, Order, Scope};
 use mx_network::Event;
 use mx_nodelaws::Exclusion;
 use mx_stamps::{MAX_EVENTS, NodeId};
 
-/// The delivery of a parcel.
 fn arrival(number: u64) -> SessionEvent
     ensures { result ≡ arrival number }
 {
     SessionEvent::Happens(Event::Deliver(number))
 }
 
-/// Returns the event of an order that has only one, or `None` if `done`, the number of events done,
-/// is not 0.
 fn once(done: u64, event: SessionEvent) -> Option<SessionEvent>
     ensures { Once done (λ e. e ≡ event) result }
 {
@@ -67,8 +63,6 @@ impl<C: Exclusion> State<C> {
         }
     }
 
-    /// Returns the delivery of the oldest parcel in this scope that is under way over a link that
-    /// is not cut.
     fn next_arrival(&self, scope: &Scope) -> Option<SessionEvent>
         ensures { Finds (can_arrive self.now.fates self.now.cluster.sent scope.now)
             arrival result }
@@ -82,7 +76,6 @@ impl<C: Exclusion> State<C> {
         }
     }
 
-    /// Returns the loss of the oldest parcel in this scope that is under way.
     fn next_loss(&self, scope: &Scope) -> Option<SessionEvent>
         ensures { Finds (is_waiting self.now.fates self.now.cluster.sent scope.now)
             SessionEvent.IsLost result }
@@ -93,8 +86,6 @@ impl<C: Exclusion> State<C> {
         }
     }
 
-    /// Returns the delivery of the oldest parcel under way from one node to another; `None` if
-    /// `done` is not 0.
     fn arrival_between(
         &self,
         from: NodeId,
@@ -114,8 +105,6 @@ impl<C: Exclusion> State<C> {
         Ok(Some(arrival(number)))
     }
 
-    /// Returns the loss of the oldest parcel under way from one node to another; `None` if `done`
-    /// is not 0.
     fn loss_between(
         &self,
         from: NodeId,
@@ -135,8 +124,6 @@ impl<C: Exclusion> State<C> {
         Ok(Some(SessionEvent::IsLost(number)))
     }
 
-    /// Returns one more delivery of the parcel that was delivered last from one node to another;
-    /// `None` if `done` is not 0.
     fn arrival_again(
         &self,
         from: NodeId,
@@ -154,7 +141,6 @@ impl<C: Exclusion> State<C> {
         Ok(Some(arrival(number)))
     }
 
-    /// The oldest parcel under way from one node to another.
     fn oldest_between(&self, from: NodeId, to: NodeId) -> Result<u64, LineFault>
         ensures found { IfOk result
             (IsOldest (is_waiting self.now.fates self.now.cluster.sent (Scope.Link from to))) }
@@ -171,7 +157,6 @@ impl<C: Exclusion> State<C> {
         }
     }
 
-    /// Returns the parcel that was delivered last from one node to another.
     fn last_between(&self, from: NodeId, to: NodeId) -> Result<u64, LineFault>
         ensures found { IfOk result (λ k.
             slice_index_or self.now.fates.last (link_of from to) None ≡ Some k) }
@@ -184,8 +169,6 @@ impl<C: Exclusion> State<C> {
         }
     }
 
-    /// Returns an error if the next event is one of the cluster that can't happen: the cluster has
-    /// had 1,000,000 events, or the event delivers a parcel over a cut link.
     fn admit(&self, next: &Option<SessionEvent>) -> Result<(), LineFault>
         ensures ok { OnOk result (Admits self.now next.now) }
         ensures err { IfErr result (Bars self.now next.now) }
@@ -196,7 +179,6 @@ impl<C: Exclusion> State<C> {
         }
     }
 
-    /// Returns an error if this event of the cluster can't happen, as `admit` does.
     fn admit_event(&self, event: &Event) -> Result<(), LineFault>
         ensures ok { OnOk result (IsAllowed self.now (SessionEvent.Happens event.now)) }
         ensures err { IfErr result (Bars self.now (Some (SessionEvent.Happens event.now))) }
@@ -204,7 +186,7 @@ impl<C: Exclusion> State<C> {
         if self.cluster.trace().len() >= MAX_EVENTS {
             return Err(LineFault::TooMany);
         }
-        if !self.can_pass(event) {
+        if !self.in_flight.can_pass(event, &self.cluster) {
             return Err(LineFault::LinkCut);
         }
         Ok(())

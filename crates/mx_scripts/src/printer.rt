@@ -5,9 +5,9 @@ ghost use Rattle.std.specs.Io.KnownBytes.{Appends};
 ghost use Rattle.mx_cli.specs.Words.{names_of};
 ghost use Rattle.mx_cli.specs.Closed.{IsRunStatus, PassesOn};
 ghost use Rattle.mx_commands.specs.Ran.{RanOn};
-ghost use Rattle.mx_scripts.specs.Printed.{DrawsPlan, HasDone, PrintsWalk, draw_job};
+ghost use Rattle.mx_scripts.specs.Printed.{DrawsPlan, HasDone, draw_job};
 ghost use Rattle.mx_scripts.specs.Ended.{EndsScript, IsPrintError, ScriptsOf};
-ghost use Rattle.mx_scripts.specs.Requests as wants;
+ghost use Rattle.mx_scripts.specs.Printed as wants;
 
 use crate::drawn_file::draw_schedule;
 use crate::recorder::NoRecorder;
@@ -17,12 +17,10 @@ use crate::walked_file::walk_file;
 use mx_cli::{CommandError, Exploration, Names, close, fetch_plan};
 use mx_commands::print;
 use mx_io::{Output, Source};
-use mx_plan::Plan;
 use mx_walks::Conditions;
 use std::alloc::Global;
 
-/// Prints the events of `explore` as a file for `replay`, or reports why not. Returns the status.
-pub fn run_draw<S: Source, O: Output, E: Output>(
+pub(crate) fn run_draw<S: Source, O: Output, E: Output>(
     alloc: Global,
     exploration: &Exploration<'_>,
     source: &mut S,
@@ -45,8 +43,7 @@ pub fn run_draw<S: Source, O: Output, E: Output>(
     close(alloc, ended, &names, out, err)
 }
 
-/// Prints the events of a walk as a file for `replay`, or reports why not. Returns the status.
-pub fn run_walk<S: Source, O: Output, E: Output>(
+pub(crate) fn run_walk<S: Source, O: Output, E: Output>(
     alloc: Global,
     exploration: &Exploration<'_>,
     conditions: &Conditions,
@@ -67,8 +64,7 @@ pub fn run_walk<S: Source, O: Output, E: Output>(
     close(alloc, ended, &names, out, err)
 }
 
-/// Prints the events of a script as a file for `replay`, or reports why not. Returns the status.
-pub fn run_script<S: Source, O: Output, E: Output>(
+pub(crate) fn run_script<S: Source, O: Output, E: Output>(
     alloc: Global,
     names: &Names<'_>,
     source: &mut S,
@@ -97,7 +93,6 @@ fn plan_alone<'a>(exploration: &Exploration<'a>) -> Names<'a>
     }
 }
 
-/// Reads the plan, and prints the events of `explore` as a file. Returns the status.
 fn draw_file<S: Source, O: Output>(
     alloc: Global,
     exploration: &Exploration<'_>,
@@ -117,7 +112,6 @@ fn draw_file<S: Source, O: Output>(
     draw_schedule(alloc, &plan, exploration.seed, exploration.steps, out)
 }
 
-/// Reads the plan, and prints the events of a walk as a file. Returns the status.
 fn print_walk<S: Source, O: Output>(
     alloc: Global,
     exploration: &Exploration<'_>,
@@ -132,35 +126,16 @@ fn print_walk<S: Source, O: Output>(
     ensures zero { IfOk result (λ status. status ≡ 0) }
 {
     let plan = fetch_plan(alloc, source, exploration.plan)?;
-    print_walked(
+    let file = walk_file(
         alloc,
         &plan,
         conditions,
         exploration.seed,
         exploration.steps,
-        out,
-    )
-}
-
-/// Prints the events of a walk over this plan as a file. `conditions` are the options of the walk.
-/// Returns the status.
-fn print_walked<O: Output>(
-    alloc: Global,
-    plan: &Plan,
-    conditions: &Conditions,
-    seed: u64,
-    steps: u64,
-    out: &mut O,
-) -> Result<u8, CommandError>
-    ensures done { IfOk result (λ _. PrintsWalk plan.now seed steps conditions.now
-        (O.written out.old) (O.written out.new)) }
-    ensures zero { IfOk result (λ status. status ≡ 0) }
-{
-    let file = walk_file(alloc, plan, conditions, seed, steps)?;
+    )?;
     print(file.as_bytes(), out)
 }
 
-/// Reads a plan and a script, and prints the events of the script as a file. Returns the status.
 fn print_script<S: Source, O: Output>(
     alloc: Global,
     names: &Names<'_>,
@@ -180,7 +155,6 @@ fn print_script<S: Source, O: Output>(
     }
 }
 
-/// Prints a file. Returns the status.
 fn print_file<O: Output>(file: &String, out: &mut O) -> Result<u8, ScriptError>
     ensures done { IfOk result (λ _.
         Appends (O.written out.old) (O.written out.new) (string_bytes file.now)) }

@@ -1,8 +1,5 @@
-//! Recorders, which are told of each event of a script.
-
 use crate::script_error::RefusedLine;
-use crate::session_event::SessionEvent;
-use crate::state::State;
+use crate::state::{SessionEvent, State};
 use mx_nodelaws::Exclusion;
 use mx_plan::Plan;
 use std::alloc::AllocError;
@@ -32,9 +29,8 @@ pub trait Recorder<R> {
     fn refused(&mut self, plan: &Plan, line: &RefusedLine, state: &R) -> Result<(), AllocError>;
 }
 
-/// A recorder that notes nothing.
 #[derive(Clone, Copy)]
-pub struct NoRecorder;
+pub(crate) struct NoRecorder;
 
 impl<C: Exclusion> Recorder<State<C>> for NoRecorder {
     fn event(

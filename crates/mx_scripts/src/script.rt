@@ -2,20 +2,17 @@
 
 ghost use Rattle.std.specs.Prelude.{◌≡◌, ◌⊎◌, ℕ, List, [], string_bytes, IfErr, IfOk, OnOk};
 ghost use Rattle.std.specs.Str.Lines.{lines};
-ghost use Rattle.mx_scripts.specs.Files.{file_text};
 ghost use Rattle.mx_scripts.specs.Lines.{Does, DoesAll, DoesText, IsNotDone, Misreads, Performs, Reads, StopsAfter, StopsBy, StopsWithin};
-ghost use Rattle.mx_scripts.specs.Played.{events_of};
 ghost use Rattle.mx_scripts.specs.ScriptFiles.{IsFileOfScript, IsScriptFile, IsShort, StopsFrom, StopsInPlan};
 ghost use Rattle.mx_scripts.specs.Scripts.{IsErrorAt};
 ghost use Rattle.mx_scripts.specs.States.{Brings, IsAllowed, IsNotApplied, before_any};
 ghost use Rattle.mx_scripts.specs.declared.script_error.LineFailure.{LineFailure};
-ghost use Rattle.mx_scripts.specs.declared.session_event.SessionEvent.{SessionEvent};
+ghost use Rattle.mx_scripts.specs.declared.state.SessionEvent.{SessionEvent};
 
 use crate::files::file_of;
 use crate::recorder::Recorder;
 use crate::script_error::{LineFailure, ScriptError};
-use crate::session_event::SessionEvent;
-use crate::state::State;
+use crate::state::{SessionEvent, State};
 use mx_cli::CommandError;
 use mx_commands::by_shape;
 use mx_lines::{Line, LineFault, Order, read_line, words_in};
@@ -26,7 +23,6 @@ use mx_raymond::Raymond;
 use mx_ricart::Ricart;
 use std::alloc::Global;
 
-/// Runs a script by the plan's algorithm, and returns the file of its events.
 pub(crate) fn script_file<K>(
     alloc: Global,
     plan: &Plan,
@@ -46,7 +42,6 @@ where
     })
 }
 
-/// Runs a script in a state before any event, and returns the file of its events.
 fn file_of_script<C: Exclusion, K: Recorder<State<C>>>(
     alloc: Global,
     plan: &Plan,
@@ -61,29 +56,11 @@ fn file_of_script<C: Exclusion, K: Recorder<State<C>>>(
     ensures err { IfErr result (λ error. IsShort error
         ⊎ StopsFrom C.core plan.now state.old.cluster script.now error) }
 {
-    file_after(alloc, plan, script, state, recorder)
-}
-
-/// Does the lines of a script, and returns the file of all events so far.
-fn file_after<C: Exclusion, K: Recorder<State<C>>>(
-    alloc: Global,
-    plan: &Plan,
-    script: &str,
-    state: &mut State<C>,
-    recorder: &mut K,
-) -> Result<String, ScriptError>
-    ensures does { OnOk result (DoesAll C.core plan.now (lines script.now) state.old state.new) }
-    ensures file { IfOk result (λ text.
-        string_bytes text ≡ file_text plan.now (events_of state.new.cluster.trace)) }
-    ensures err { IfErr result (λ error. IsShort error
-        ⊎ StopsBy C.core plan.now (lines script.now) state.old error) }
-{
     do_script(alloc, plan, script, state, recorder)?;
-    let text = file_of(alloc, plan, state.trace())?;
+    let text = file_of(alloc, plan, state.cluster().trace())?;
     Ok(text)
 }
 
-/// Does what each line of a script asks for, in turn. A fault names its line, counted from 1.
 fn do_script<C: Exclusion, K: Recorder<State<C>>>(
     alloc: Global,
     plan: &Plan,
@@ -125,7 +102,6 @@ fn record_error<C: Exclusion, K: Recorder<State<C>>>(
     }
 }
 
-/// Does what the line of this number asks for.
 fn do_line<C: Exclusion, K: Recorder<State<C>>>(
     alloc: Global,
     plan: &Plan,
@@ -143,7 +119,6 @@ fn do_line<C: Exclusion, K: Recorder<State<C>>>(
     }
 }
 
-/// Returns what a line asks for; `None` if it has no words.
 fn line_in(alloc: Global, plan: &Plan, line: &str) -> Result<Option<Line>, LineFailure>
     ensures ok { IfOk result (Reads plan.now line.now) }
     ensures err { IfErr result (λ why.
@@ -156,7 +131,6 @@ fn line_in(alloc: Global, plan: &Plan, line: &str) -> Result<Option<Line>, LineF
     }
 }
 
-/// Does what the line of this number asks for, as often as it says.
 fn repeat<C: Exclusion, K: Recorder<State<C>>>(
     plan: &Plan,
     number: u64,
@@ -174,7 +148,6 @@ fn repeat<C: Exclusion, K: Recorder<State<C>>>(
     Ok(())
 }
 
-/// Does, once, all events that an order asks for. `number` is that of its line.
 fn perform<C: Exclusion, K: Recorder<State<C>>>(
     plan: &Plan,
     number: u64,
@@ -197,7 +170,6 @@ fn perform<C: Exclusion, K: Recorder<State<C>>>(
     Err(LineFailure::Refused(LineFault::TooMany))
 }
 
-/// Does an event that line `number` asks for, and tells the recorder of it.
 fn do_event<C: Exclusion, K: Recorder<State<C>>>(
     plan: &Plan,
     number: u64,

@@ -41,7 +41,6 @@ where
     }
 }
 
-/// Returns the file of the events that a script makes, or why there is none.
 fn file_of_bytes<K>(
     alloc: Global,
     plan: &Plan,

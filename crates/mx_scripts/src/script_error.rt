@@ -112,8 +112,6 @@ pub enum ScriptError {
 }
 
 impl ScriptError {
-    /// Returns the error that line `number` of a script, with the text `line`, is not done because
-    /// of `failure`; or that memory ran out.
     pub(crate) fn at_line(
         alloc: Global,
         plan: &Plan,

@@ -1,5 +1,3 @@
-//! A cluster, which of its parcels are under way, and which links are cut.
-
 ghost use Rattle.std.specs.Prelude.{◌≡◌, IfErr, IfOk, IsTrue, OnOk};
 ghost use Rattle.mx_commands.specs.Runs.{at_rest};
 ghost use Rattle.mx_scripts.specs.Fates.{can_pass, is_under_way};
@@ -7,14 +5,24 @@ ghost use Rattle.mx_scripts.specs.States.{Brings, IsAllowed, IsNotApplied, befor
 
 use crate::in_flight::InFlight;
 use crate::script_error::LineFailure;
-use crate::session_event::SessionEvent;
 use mx_commands::start;
 use mx_lines::LinkChange;
-use mx_network::{Cluster, Entry, Event};
+use mx_network::{Cluster, Event};
 use mx_nodelaws::Exclusion;
 use mx_plan::Plan;
 use std::alloc::{AllocError, Global};
 use std::marker::Model;
+
+/// One thing that a line does: an event of the cluster, the loss of a parcel, or a change of links.
+#[derive(Clone, Copy)]
+pub enum SessionEvent {
+    /// An event of the cluster.
+    Happens(Event),
+    /// The parcel of this number is lost.
+    IsLost(u64),
+    /// Links are cut, or all heal.
+    LinksChange(LinkChange),
+}
 
 /// A cluster, which of its parcels are under way, and which links are cut.
 #[derive(Drop)]
@@ -43,8 +51,7 @@ impl<C: Exclusion> State<C> {
         })
     }
 
-    /// Creates the state of a cluster before any parcel was sent.
-    pub fn of(alloc: Global, cluster: Cluster<C>) -> Self
+    pub(crate) fn of(alloc: Global, cluster: Cluster<C>) -> Self
         ensures { result ≡ before_any cluster }
     {
         State {
@@ -66,25 +73,11 @@ impl<C: Exclusion> State<C> {
         &self.in_flight
     }
 
-    /// The events so far, with their outcomes.
-    pub(crate) fn trace(&self) -> &[Entry]
-        ensures { result.now ≡ self.now.cluster.trace }
-    {
-        self.cluster.trace()
-    }
-
     /// Whether the parcel of this number was sent, and neither delivered nor lost.
     pub fn is_under_way(&self, number: u64) -> bool
         ensures { result ≡ is_under_way self.now.fates number }
     {
         self.in_flight.is_under_way(number)
-    }
-
-    /// Returns `false` only for the delivery of a parcel over a cut link.
-    pub(crate) fn can_pass(&self, event: &Event) -> bool
-        ensures { result ≡ can_pass self.now.fates self.now.cluster.sent event.now }
-    {
-        self.in_flight.can_pass(event, &self.cluster)
     }
 
     /// Applies an event to the cluster, to a parcel that is under way, or to the links.
@@ -101,32 +94,16 @@ impl<C: Exclusion> State<C> {
         match event {
             SessionEvent::Happens(event) => self.advance(event),
             SessionEvent::IsLost(number) => {
-                self.lose(*number);
+                self.in_flight.lose(*number);
                 Ok(())
             }
             SessionEvent::LinksChange(change) => {
-                self.change(change);
+                self.in_flight.change(change);
                 Ok(())
             }
         }
     }
 
-    /// Loses the parcel of this number, which is under way.
-    fn lose(&mut self, number: u64)
-        requires { IsTrue (is_under_way self.old.fates number) }
-        ensures { Brings C.core self.old (SessionEvent.IsLost number) self.new }
-    {
-        self.in_flight.lose(number);
-    }
-
-    /// Cuts the links that `change` names, or heals all.
-    fn change(&mut self, change: &LinkChange)
-        ensures { Brings C.core self.old (SessionEvent.LinksChange change.now) self.new }
-    {
-        self.in_flight.change(change);
-    }
-
-    /// Applies an event to the cluster, and notes which parcels it sent and delivered.
     fn advance(&mut self, event: &Event) -> Result<(), LineFailure>
         requires { IsTrue (can_pass self.old.fates self.old.cluster.sent event.now) }
         ensures ok { OnOk result

@@ -1,5 +1,3 @@
-//! The text of a script.
-
 ghost use Rattle.std.specs.Prelude.{◌≡◌, IfErr, IfOk};
 ghost use Rattle.mx_scripts.specs.Ended.{IsNotText};
 

@@ -1,8 +1,7 @@
 //! The parcels under way, as a list in the order in which they were sent.
 
 ghost use Rattle.std.specs.Prelude.{◌≡◌, ◌+◌, ◌<◌, ◌^◌, ◌-◌, ◌++◌, ◌∷◌, [], List, Bool, false, true, not, IsTrue, OnOk, slice_index_or, slice_set};
-ghost use Rattle.mx_scripts.specs.Fates.{grown};
-ghost use Rattle.mx_scripts.specs.UnderWay.{AreGone, AreGoneBetween, AreSkipped};
+ghost use Rattle.mx_scripts.specs.Fates.{grown, AreGone, AreGoneBetween, AreSkipped};
 
 use std::alloc::{AllocError, Global};
 use std::marker::Model;
@@ -25,7 +24,7 @@ pub(crate) struct UnderWay {
 
 impl Model for UnderWay {
     ghost use Rattle.std.specs.Prelude.{List, Bool};
-    ghost use Rattle.mx_scripts.specs.UnderWay.{AreGone, AreSkipped};
+    ghost use Rattle.mx_scripts.specs.Fates.{AreGone, AreSkipped};
 
     ghost Value = { List Bool };
 
@@ -34,7 +33,6 @@ impl Model for UnderWay {
     ghost invariant = { λ u. AreGone u.first u.gone.items × AreSkipped u.next.items u.gone.items };
 }
 
-/// Returns the number after this one in the list, which is always greater.
 fn after(next: &[u64], number: u64) -> u64
     requires { number < 2 ^ 64 - 1 }
     ensures ahead { number < result }
@@ -69,7 +67,6 @@ fn put(numbers: &mut Vec<u64>, place: u64, number: u64) {
 }
 
 impl UnderWay {
-    /// Creates the empty list, before any parcel was sent.
     pub(crate) fn new(alloc: Global) -> UnderWay
         ensures { result ≡ [] }
     {
@@ -82,7 +79,6 @@ impl UnderWay {
         }
     }
 
-    /// Notes how many parcels were sent so far. Those that are new are under way.
     pub(crate) fn grow(&mut self, sent: u64) -> Result<(), AllocError>
         ensures { OnOk result (self.new ≡ grown sent self.old) }
     {
@@ -92,7 +88,6 @@ impl UnderWay {
         Ok(())
     }
 
-    /// Adds the next parcel, which is under way.
     fn add(&mut self) -> Result<(), AllocError>
         ensures { OnOk result (self.new ≡ self.old ++ false ∷ []) }
     {
@@ -104,7 +99,6 @@ impl UnderWay {
         Ok(())
     }
 
-    /// Notes that the parcel of this number, if it was sent, is under way no more.
     pub(crate) fn lose(&mut self, number: u64)
         ensures { self.new ≡ slice_set self.old number true }
     {
@@ -134,7 +128,6 @@ impl UnderWay {
         }
     }
 
-    /// Returns the `previous` of a parcel, or 0 if it was not sent.
     fn before(&self, number: u64) -> u64 {
         match self.previous.get(number as usize) {
             Some(before) => *before,
@@ -142,7 +135,6 @@ impl UnderWay {
         }
     }
 
-    /// Whether a parcel was sent, and is under way.
     pub(crate) fn is_under_way(&self, number: u64) -> bool
         ensures { result ≡ not (slice_index_or self.now number true) }
     {
@@ -152,14 +144,12 @@ impl UnderWay {
         }
     }
 
-    /// Returns where the list begins: no parcel below this number is under way.
     pub(crate) fn first(&self) -> u64
         ensures { AreGone result self.now }
     {
         self.first
     }
 
-    /// Returns the number after this one in the list. No parcel between the two is under way.
     pub(crate) fn after(&self, number: u64) -> u64
         requires { number < 2 ^ 64 - 1 }
         ensures ahead { number < result }

@@ -14,8 +14,6 @@ use mx_plan::Plan;
 use mx_walks::{Conditions, walk_cluster};
 use std::alloc::{AllocError, Global};
 
-/// Returns the file of the events of a walk, from this seed and of this many steps, by the plan's
-/// algorithm.
 pub(crate) fn walk_file(
     alloc: Global,
     plan: &Plan,
@@ -34,7 +32,6 @@ pub(crate) fn walk_file(
     )
 }
 
-/// Runs a walk in a cluster without events, and returns the file of its events.
 fn file_of_walk<C: Exclusion>(
     alloc: Global,
     plan: &Plan,

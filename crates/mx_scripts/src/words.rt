@@ -11,23 +11,15 @@ use mx_walks::{Conditions, conditions_in};
 use std::alloc::Global;
 
 /// The file of events that a command line asks for.
-#[derive(Clone, Copy, Debug, PartialEq, Eq)]
-pub enum Request<'a> {
-    /// The events of `explore`.
+#[derive(Clone, Copy)]
+pub(crate) enum Request<'a> {
     Draw(Exploration<'a>),
-    /// The events of a walk, with how parcels are lost, repeated and kept in order.
     Walk(Exploration<'a>, Conditions),
     /// The events that a script makes. The names are those of the plan and of the script.
     Script(Names<'a>),
 }
 
-/// Parses a command line that begins with `draw` or `script`. Returns `None` for options of a walk
-/// without `--walk`.
-///
-/// # Errors
-///
-/// Returns the error of `clap` for wrong arguments, and also, with the text to show, if help is
-/// requested.
+/// Returns `None` for options of a walk without `--walk`.
 pub(crate) fn parse<'a>(alloc: Global, words: &'a [&'a str]) -> Result<Option<Request<'a>>, Error>
     ensures { Asks request_of file_line (texts_of words.entry.now)
         (request_asked (texts_of words.entry.now)) result }
@@ -46,7 +38,6 @@ fn from_matches<'a>(matches: &ArgMatches<'a>) -> Option<Request<'a>>
     }
 }
 
-/// Returns the request that the arguments of `draw` make.
 fn draw_in<'a>(matches: &ArgMatches<'a>) -> Option<Request<'a>>
     ensures { option_map request_of result ≡ draw_in (rows_of (found_of matches.now)) }
 {
@@ -56,8 +47,6 @@ fn draw_in<'a>(matches: &ArgMatches<'a>) -> Option<Request<'a>>
     }
 }
 
-/// Returns the request for a walk if `--walk` is given, else that for the events of `explore`;
-/// `None` for options of a walk without `--walk`.
 fn drawing<'a>(matches: &ArgMatches<'a>, exploration: Exploration<'a>) -> Option<Request<'a>>
     ensures { option_map request_of result
         ≡ drawing (rows_of (found_of matches.now)) (explored exploration.entry) }
@@ -71,7 +60,6 @@ fn drawing<'a>(matches: &ArgMatches<'a>, exploration: Exploration<'a>) -> Option
     }
 }
 
-/// Whether an option of a walk is given: `--loss`, `--repeat` or `--in-order`.
 fn has_conditions(matches: &ArgMatches<'_>) -> bool
     ensures { result ≡ has_conditions (rows_of (found_of matches.now)) }
 {
@@ -80,7 +68,6 @@ fn has_conditions(matches: &ArgMatches<'_>) -> bool
         || is_given(matches, "in-order")
 }
 
-/// Returns the request that the arguments of `script` make.
 fn script_in<'a>(matches: &ArgMatches<'a>) -> Option<Request<'a>>
     ensures { option_map request_of result ≡ script_in (rows_of (found_of matches.now)) }
 {

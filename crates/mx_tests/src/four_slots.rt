@@ -4,7 +4,7 @@ ghost use Rattle.std.specs.Prelude.{◌≡◌, IfOk, IfSome};
 ghost use Rattle.mx_stations.specs.Gathered.{KeepsTable, OfOneTable};
 
 use crate::given::node;
-use crate::station_calls::{Call, Calls, GOT, SENT, assert_calls, leaves};
+use crate::station_calls::{Call, Calls, GOT, SENT, assert_calls};
 use crate::stations::{last, last_two, two};
 use Call::{Ask, Enter, PutsOut, TakesIn, Tick};
 use mx_nodelaws::Phase;
@@ -13,7 +13,6 @@ use mx_stations::{GatherFault, Gathered, PutOut, Station, Taken, Ungathered, gat
 use std::alloc::{AllocError, Global};
 use std::test::Fail;
 
-/// Returns whether one section of node 0 was gathered, and nothing else.
 fn is_first(gathered: Result<Gathered, Ungathered<Ricart>>) -> bool {
     let Ok(all) = gathered else {
         return false;
@@ -29,7 +28,6 @@ fn is_first(gathered: Result<Gathered, Ungathered<Ricart>>) -> bool {
     }
 }
 
-/// Returns whether gathering both has that result.
 fn are_gathered(alloc: Global, both: (Station<Ricart>, Station<Ricart>)) -> Result<bool, AllocError>
     requires { KeepsTable both.0 both.1 }
 {
@@ -37,7 +35,6 @@ fn are_gathered(alloc: Global, both: (Station<Ricart>, Station<Ricart>)) -> Resu
     Ok(is_first(gather(alloc, stations)))
 }
 
-/// Returns the stations that are handed back, if it is for this fault.
 fn given_back(back: Ungathered<Ricart>, fault: GatherFault) -> Option<Vec<Station<Ricart>>>
     ensures { IfSome result (λ all. all.items ≡ back.stations.items) }
 {
@@ -48,7 +45,6 @@ fn given_back(back: Ungathered<Ricart>, fault: GatherFault) -> Option<Vec<Statio
     }
 }
 
-/// Returns the stations that come back, if they are not gathered for this fault.
 fn refused(
     alloc: Global,
     stations: Vec<Station<Ricart>>,
@@ -63,7 +59,6 @@ fn refused(
     }
 }
 
-/// Returns whether no station comes back if none is gathered, since that of node 0 is missing.
 fn none_comes_back(alloc: Global) -> bool {
     match refused(alloc, Vec::new(alloc), GatherFault::NotAll(node(0))) {
         Some(back) => back.is_empty(),
@@ -71,7 +66,6 @@ fn none_comes_back(alloc: Global) -> bool {
     }
 }
 
-/// Returns the station, if it comes back by itself since that of node 0 is missing.
 fn one_comes_back(
     alloc: Global,
     one: Station<Ricart>,
@@ -88,7 +82,6 @@ fn one_comes_back(
     }
 }
 
-/// Returns both stations, if they come back since node 0 is inside.
 fn both_come_back(
     alloc: Global,
     both: (Station<Ricart>, Station<Ricart>),
@@ -106,7 +99,6 @@ fn both_come_back(
     }
 }
 
-/// Returns both stations, if none of these is gathered: no station, only that of node 1, and both.
 fn all_come_back(
     alloc: Global,
     both: (Station<Ricart>, Station<Ricart>),
@@ -123,7 +115,6 @@ fn all_come_back(
     }
 }
 
-/// Returns whether these are the stations of nodes 0 and 1, and the first is inside section 1.
 fn are_as_they_were(zero: &Station<Ricart>, one: &Station<Ricart>) -> bool {
     zero.node().get() == 0
         && zero.phase() == Phase::Inside(1)
@@ -131,7 +122,15 @@ fn are_as_they_were(zero: &Station<Ricart>, one: &Station<Ricart>) -> bool {
         && one.phase() == Phase::Idle
 }
 
-/// Returns whether both, as they come back, are gathered once node 0 has left its section.
+fn leaves(station: &mut Station<Ricart>, number: u64) -> bool
+    ensures { KeepsTable station.old station.new }
+{
+    match station.leave() {
+        Ok(receipt) => receipt.number == number,
+        Err(_) => false,
+    }
+}
+
 fn are_gathered_later(
     alloc: Global,
     mut both: (Station<Ricart>, Station<Ricart>),

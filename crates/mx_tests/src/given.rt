@@ -8,7 +8,6 @@ use mx_stamps::NodeId;
 use std::alloc::{AllocError, Global};
 use std::test::Fail;
 
-/// Returns the node of this number.
 pub(crate) fn node(index: u8) -> NodeId
     requires { index < 21 }
     ensures { result ≡ index }
@@ -53,7 +52,6 @@ pub(crate) fn journal_of(alloc: Global, numbers: &[u64]) -> Result<Journal, Fail
     Ok(journal)
 }
 
-/// Returns vectors of these lists.
 pub(crate) fn lists(alloc: Global, sets: &[&[u8]]) -> Result<Vec<Vec<u8>>, AllocError> {
     let mut lists = Vec::new(alloc);
     for set in sets {

@@ -10,8 +10,6 @@ mod fates_asked;
 #[cfg(test)]
 mod four_slots;
 #[cfg(test)]
-mod getters;
-#[cfg(test)]
 mod given;
 #[cfg(test)]
 mod journals;
@@ -30,15 +28,11 @@ mod shapes;
 #[cfg(test)]
 mod sizes;
 #[cfg(test)]
-mod stamps;
-#[cfg(test)]
 mod station_calls;
 #[cfg(test)]
 mod station_rows;
 #[cfg(test)]
 mod stations;
-#[cfg(test)]
-mod steps;
 #[cfg(test)]
 mod texts;
 #[cfg(test)]

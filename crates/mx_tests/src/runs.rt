@@ -1,43 +1,115 @@
 //! Runs of small clusters, for what print does not show. The journals of all nodes merge after each
 //! event, a stamp has the node that asked, and a receipt has its reads and writes.
 
-use crate::given::{lists, node};
-use crate::steps::{MAEKAWA, RAYMOND, RICART, Reads, Run, Step, Writes};
-use Step::{Ask, AskInVain, Cancel, Deliver, Enter, Leave, LeaveInVain, Restart, Settle, Want};
+use crate::given::node;
 use mx_journal::Receipt;
 use mx_maekawa::Maekawa;
 use mx_network::{Cluster, Event, Outcome};
 use mx_nodelaws::Exclusion;
-use mx_quorums::Quorums;
+use mx_plan::{Plan, Shape, read_events, read_plan};
 use mx_raymond::Raymond;
-use mx_ricart::{Count, Ricart};
-use mx_stamps::NodeId;
-use mx_trees::Tree;
+use mx_ricart::Ricart;
 use std::alloc::Global;
 use std::test::Fail;
 
-/// Returns the node of this number.
-fn name(index: &u8) -> NodeId {
-    node(*index % 21)
+/// The reads of a receipt: the register, the value, and the number of writes before.
+type Reads = &'static [(u8, u64, u8)];
+
+/// The writes of a receipt: the register and the value.
+type Writes = &'static [(u8, u64)];
+
+#[derive(Clone, Copy)]
+pub(crate) struct Run {
+    /// The example that prints it.
+    name: &'static str,
+    pub(crate) plan: &'static str,
+    pub(crate) events: &'static str,
+    /// The number and the node of each stamp.
+    asked: &'static [(u64, u8)],
+    /// The number, the node, the reads and the writes of each section that was left.
+    left: &'static [(u64, u8, Reads, Writes)],
 }
 
-/// Returns the event of a step.
-pub(crate) fn event_of(step: &Step) -> Event {
-    match step {
-        Ask(i, _) | AskInVain(i) => Event::Ask(name(i)),
-        Enter(i) => Event::Enter(name(i)),
-        Step::Read(i, register) => Event::Read(name(i), *register),
-        Step::Write(i, register, value) => Event::Write(name(i), *register, *value),
-        Leave(i, _, _, _) | LeaveInVain(i) => Event::Leave(name(i)),
-        Cancel(i) => Event::Cancel(name(i)),
-        Settle(i, upto) => Event::Settle(name(i), *upto),
-        Want(i, j) => Event::Want(name(i), name(j)),
-        Deliver(number) => Event::Deliver(*number),
-        Restart(i) => Event::Restart(name(i)),
-    }
-}
+/// Node 0 reads the value that node 1 wrote, once node 1 has sent it the missing record, and then
+/// the one that it has written itself.
+pub(crate) const READ_WAITS: Run = Run {
+    name: "read_waits_for_the_gap",
+    plan: r#"{"algorithm":"ricart","nodes":["a","b"],"registers":["x","y"],"sections":1000}"#,
+    events: r#"[["ask","a"],["deliver",0],["deliver",1],["enter","a"],["write","a","x",10],["leave","a"],["ask","b"],["deliver",2],["deliver",3],["enter","b"],["write","b","x",20],["leave","b"],["ask","a"],["deliver",4],["deliver",5],["enter","a"],["write","a","y",5],["leave","a"],["ask","a"],["deliver",6],["deliver",7],["enter","a"],["read","a","x"],["want","a","b"],["deliver",8],["deliver",9],["read","a","x"],["write","a","x",21],["read","a","x"],["leave","a"]]"#,
+    asked: &[(1, 0), (2, 1), (3, 0), (4, 0)],
+    left: &[
+        (1, 0, &[], &[(0, 10)]),
+        (2, 1, &[], &[(0, 20)]),
+        (3, 0, &[], &[(1, 5)]),
+        (4, 0, &[(0, 20, 0), (0, 21, 1)], &[(0, 21)]),
+    ],
+};
 
-/// Returns whether a receipt has these reads.
+const ALONE: Run = Run {
+    name: "single_node",
+    plan: r#"{"algorithm":"ricart","nodes":["a"],"registers":["count"],"sections":1000}"#,
+    events: r#"[["ask","a"],["enter","a"],["leave","a"]]"#,
+    asked: &[(1, 0)],
+    left: &[(1, 0, &[], &[])],
+};
+
+const RUNS: [Run; 10] = [
+    READ_WAITS,
+    ALONE,
+    Run {
+        name: "last_stamp_drawn",
+        plan: r#"{"algorithm":"ricart","nodes":["a"],"registers":["count"],"sections":1000,"origin":18446744073709551614}"#,
+        events: r#"[["ask","a"],["enter","a"],["leave","a"],["ask","a"]]"#,
+        asked: &[(18446744073709551615, 0)],
+        ..ALONE
+    },
+    Run {
+        name: "restart_empties_draft",
+        events: r#"[["ask","a"],["enter","a"],["write","a","count",5],["write","a","count",6],["read","a","count"],["restart","a"],["read","a","count"],["leave","a"]]"#,
+        left: &[(1, 0, &[(0, 0, 0)], &[])],
+        ..ALONE
+    },
+    Run {
+        name: "cancel_after_numbers_spent",
+        plan: r#"{"algorithm":"ricart","nodes":["a"],"registers":["count"],"sections":2}"#,
+        events: r#"[["ask","a"],["enter","a"],["leave","a"],["ask","a"],["enter","a"],["leave","a"],["ask","a"],["enter","a"],["enter","a"],["ask","a"],["leave","a"],["cancel","a"],["ask","a"]]"#,
+        asked: &[(1, 0), (2, 0), (3, 0), (4, 0)],
+        left: &[(1, 0, &[], &[]), (2, 0, &[], &[])],
+    },
+    Run {
+        name: "base_answers_want",
+        plan: r#"{"algorithm":"ricart","nodes":["a","b"],"registers":["count"],"sections":1000}"#,
+        events: r#"[["ask","a"],["deliver",0],["deliver",1],["enter","a"],["write","a","count",5],["leave","a"],["settle","a",1],["ask","b"],["deliver",2],["deliver",3],["enter","b"],["read","b","count"],["want","b","a"],["deliver",4],["deliver",5],["read","b","count"],["settle","b",0],["settle","a",2]]"#,
+        asked: &[(1, 0), (2, 1)],
+        left: &[(1, 0, &[], &[(0, 5)])],
+    },
+    Run {
+        name: "lost_release_answered",
+        plan: r#"{"algorithm":"maekawa","nodes":["a","b","c"],"registers":["count"],"sections":1000,"quorums":{"kind":"listed","sets":[["a","b"],["b","c"],["c","a"]]}}"#,
+        events: r#"[["ask","a"],["deliver",0],["deliver",1],["deliver",2],["deliver",3],["enter","a"],["leave","a"],["deliver",4],["ask","a"],["deliver",6],["deliver",7],["deliver",9],["deliver",10],["deliver",8],["deliver",11],["enter","a"]]"#,
+        asked: &[(1, 0), (2, 0)],
+        ..ALONE
+    },
+    Run {
+        name: "single_node_maekawa",
+        plan: r#"{"algorithm":"maekawa","nodes":["a"],"registers":["count"],"sections":1000,"quorums":{"kind":"listed","sets":[["a"]]}}"#,
+        events: r#"[["ask","a"],["enter","a"],["deliver",0],["deliver",1],["enter","a"],["leave","a"]]"#,
+        ..ALONE
+    },
+    Run {
+        name: "repeated_privilege_acknowledged",
+        plan: r#"{"algorithm":"raymond","nodes":["a","b","c"],"registers":["count"],"sections":1000,"edges":[["a","b"],["b","c"]],"holder":"a"}"#,
+        events: r#"[["ask","c"],["deliver",0],["deliver",1],["deliver",2],["deliver",4],["enter","c"],["ask","b"],["deliver",2],["enter","b"]]"#,
+        asked: &[(1, 2), (1, 1)],
+        left: &[],
+    },
+    Run {
+        name: "single_node_raymond",
+        plan: r#"{"algorithm":"raymond","nodes":["a"],"registers":["count"],"sections":1000,"edges":[],"holder":"a"}"#,
+        ..ALONE
+    },
+];
+
 fn has_read(receipt: &Receipt, reads: Reads) -> bool {
     for (read, (register, value, after)) in receipt.reads.iter().zip(reads) {
         if read.register != *register || read.value != *value || read.after != *after {
@@ -47,7 +119,6 @@ fn has_read(receipt: &Receipt, reads: Reads) -> bool {
     receipt.reads.len() == reads.len()
 }
 
-/// Returns whether a receipt has these writes.
 fn has_written(receipt: &Receipt, writes: Writes) -> bool {
     for (write, (register, value)) in receipt.writes.iter().zip(writes) {
         if write.register != *register || write.value != *value {
@@ -57,126 +128,95 @@ fn has_written(receipt: &Receipt, writes: Writes) -> bool {
     receipt.writes.len() == writes.len()
 }
 
-/// Returns whether this is the receipt of a section of a node.
-fn is_receipt(receipt: &Receipt, of: (&u8, &u64), reads: Reads, writes: Writes) -> bool {
-    receipt.node == name(of.0)
-        && receipt.number == *of.1
-        && has_read(receipt, reads)
-        && has_written(receipt, writes)
+fn is_receipt(receipt: &Receipt, of: (u64, u8, Reads, Writes)) -> bool {
+    receipt.number == of.0
+        && receipt.node.get() == of.1
+        && has_read(receipt, of.2)
+        && has_written(receipt, of.3)
 }
 
-/// Returns whether an outcome has the stamp or the receipt of a step.
-fn has_outcome(step: &Step, outcome: &Outcome) -> bool {
-    match (step, outcome) {
-        (Ask(i, number), Outcome::Asked(stamp)) => {
-            stamp.number == *number && stamp.node == name(i)
+/// Returns how many stamps and receipts there are after an outcome, if it has the next of a run.
+fn next(outcome: &Outcome, run: &Run, asked: usize, left: usize) -> Option<(usize, usize)> {
+    match outcome {
+        Outcome::Asked(stamp) if run.asked.get(asked)? == &(stamp.number, stamp.node.get()) => {
+            Some((asked.saturating_add(1), left))
         }
-        (Leave(i, number, reads, writes), Outcome::Left(receipt)) => {
-            is_receipt(receipt, (i, number), *reads, *writes)
+        Outcome::Left(receipt) if is_receipt(receipt, *run.left.get(left)?) => {
+            Some((asked, left.saturating_add(1)))
         }
-        (Ask(..) | Leave(..), _) => false,
-        (AskInVain(_) | LeaveInVain(_), _) => matches!(outcome, Outcome::Refused(_)),
-        _ => true,
+        Outcome::Asked(_) | Outcome::Left(_) => None,
+        _ => Some((asked, left)),
     }
 }
 
-/// Returns how many sections have been left after this step; there were `left` before it.
-fn left_after(step: &Step, left: u64) -> u64 {
-    match step {
-        Leave(_, number, _, _) => *number,
-        _ => left,
-    }
-}
-
-/// Returns whether the journals of all nodes merge into one that covers `left` sections, and no
-/// more.
-fn merge<C: Exclusion>(alloc: Global, cluster: &Cluster<C>, left: u64) -> Result<bool, Fail> {
-    let all = cluster.merged(alloc, &[node(0), node(1), node(2)])?;
-    Ok(all.top() == left && all.gapless_to() == left)
-}
-
-/// Returns whether each step has its outcome, and all journals merge after each.
+/// Returns whether a run has its stamps and receipts, and after each event all journals merge into
+/// one that covers the sections left so far, and no more.
 fn goes_so<C: Exclusion>(
     alloc: Global,
     cluster: &mut Cluster<C>,
-    steps: &[Step],
+    events: &[Event],
+    run: &Run,
 ) -> Result<bool, Fail> {
-    let mut left = 0;
-    for step in steps {
-        let outcome = cluster.step(event_of(step))?;
-        left = left_after(step, left);
-        if !has_outcome(step, &outcome) || !merge(alloc, cluster, left)? {
+    let (mut asked, mut left) = (0, 0);
+    for event in events {
+        let outcome = cluster.step(*event)?;
+        let Some(after) = next(&outcome, run, asked, left) else {
+            return Ok(false);
+        };
+        (asked, left) = after;
+        let all = cluster.merged(alloc, &[node(0), node(1), node(2)])?;
+        if all.top() != left as u64 || all.gapless_to() != left as u64 {
             return Ok(false);
         }
     }
-    Ok(true)
+    Ok((asked, left) == (run.asked.len(), run.left.len()))
 }
 
-/// Returns a cluster for a run.
 pub(crate) fn started<C: Exclusion>(
     alloc: Global,
     shape: &C::Shape,
-    run: &Run,
+    plan: &Plan,
 ) -> Result<Cluster<C>, Fail> {
-    if run.limit == 0 || run.limit > 1000 || run.registers == 0 || run.registers > 32 {
-        return Err("no such run")?;
+    let (origin, limit, registers) = (plan.origin(), plan.sections(), plan.registers());
+    Ok(Cluster::start(alloc, shape, origin, limit, registers)?)
+}
+
+fn is_so(alloc: Global, run: &Run) -> Result<bool, Fail> {
+    let plan = read_plan(alloc, run.plan.as_bytes())?;
+    let events = read_events(alloc, run.events.as_bytes(), &plan)?;
+    match plan.shape() {
+        Shape::Ricart(shape) => {
+            goes_so(
+                alloc,
+                &mut started::<Ricart>(alloc, shape, &plan)?,
+                &events,
+                run,
+            )
+        }
+        Shape::Maekawa(shape) => {
+            goes_so(
+                alloc,
+                &mut started::<Maekawa>(alloc, shape, &plan)?,
+                &events,
+                run,
+            )
+        }
+        Shape::Raymond(shape) => {
+            goes_so(
+                alloc,
+                &mut started::<Raymond>(alloc, shape, &plan)?,
+                &events,
+                run,
+            )
+        }
     }
-    Ok(Cluster::start(alloc, shape, run.origin, run.limit, run.registers)?)
-}
-
-/// Returns whether all steps of a run have their outcomes by Ricart and Agrawala's algorithm.
-fn is_so_by_ricart(alloc: Global, run: &Run) -> Result<bool, Fail> {
-    let shape = Count::of(run.nodes).ok_or("count")?;
-    goes_so(
-        alloc,
-        &mut started::<Ricart>(alloc, &shape, run)?,
-        run.steps,
-    )
-}
-
-/// Returns whether they do by Maekawa's algorithm.
-fn is_so_by_maekawa(alloc: Global, sets: &[&[u8]], run: &Run) -> Result<bool, Fail> {
-    let shape = Quorums::listed(&lists(alloc, sets)?)?;
-    goes_so(
-        alloc,
-        &mut started::<Maekawa>(alloc, &shape, run)?,
-        run.steps,
-    )
-}
-
-/// Returns whether they do by Raymond's algorithm.
-fn is_so_by_raymond(alloc: Global, edges: &[(u8, u8)], run: &Run) -> Result<bool, Fail> {
-    let shape = Tree::of(run.nodes, edges, 0)?;
-    goes_so(
-        alloc,
-        &mut started::<Raymond>(alloc, &shape, run)?,
-        run.steps,
-    )
 }
 
 #[test]
-fn journals_merge_by_ricart(rt: HostRuntime) -> Result<(), Fail> {
-    for run in &RICART {
+fn journals_merge_after_each_event(rt: HostRuntime) -> Result<(), Fail> {
+    for run in &RUNS {
         let name = run.name;
-        assert!(rt; is_so_by_ricart(rt.alloc(), run)?, "{name}");
-    }
-    Ok(())
-}
-
-#[test]
-fn journals_merge_by_maekawa(rt: HostRuntime) -> Result<(), Fail> {
-    for (sets, run) in &MAEKAWA {
-        let name = run.name;
-        assert!(rt; is_so_by_maekawa(rt.alloc(), *sets, run)?, "{name}");
-    }
-    Ok(())
-}
-
-#[test]
-fn journals_merge_by_raymond(rt: HostRuntime) -> Result<(), Fail> {
-    for (edges, run) in &RAYMOND {
-        let name = run.name;
-        assert!(rt; is_so_by_raymond(rt.alloc(), *edges, run)?, "{name}");
+        assert!(rt; is_so(rt.alloc(), run)?, "{name}");
     }
     Ok(())
 }

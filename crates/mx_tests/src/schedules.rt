@@ -13,7 +13,6 @@ use rand_pcg::Pcg32;
 use std::alloc::{AllocError, Global};
 use std::test::Fail;
 
-/// Returns whether the fates of this seed are those of its words.
 fn is_of_its_seed(seed: u64) -> bool {
     let mut weather = Weather::of(seed, 16, 16);
     let mut words = Pcg32::seed_from_u64(seed);
@@ -37,7 +36,6 @@ fn weather_is_that_of_its_seed(rt: HostRuntime) {
     }
 }
 
-/// Returns whether a weather has this fate for each parcel.
 fn is_always(weather: &mut Weather, fate: Fate) -> bool {
     for _ in 0..1000 {
         if weather.fate() != fate {
@@ -54,11 +52,9 @@ fn weather_of_one_kind(rt: HostRuntime) {
     assert!(rt; is_always(&mut Weather::of(1, 0, 256), Fate::Twice));
 }
 
-/// A plan of five nodes and three registers.
 const PLAN: &str =
     "{\"algorithm\":\"ricart\",\"nodes\":[\"a\",\"b\",\"c\",\"d\",\"e\"],\"registers\":[\"x\",\"y\",\"z\"],\"sections\":100}";
 
-/// Returns the next word, modulo this.
 fn below(words: &mut Pcg32, count: u32) -> u32
     requires { 0 < count }
     ensures { result < count }
@@ -66,17 +62,14 @@ fn below(words: &mut Pcg32, count: u32) -> u32
     words.next_u32() % count
 }
 
-/// Draws one of the five nodes.
 fn drawn_node(words: &mut Pcg32) -> NodeId {
     node(below(words, 5) as u8)
 }
 
-/// Draws one of the three registers.
 fn drawn_register(words: &mut Pcg32) -> u8 {
     below(words, 3) as u8
 }
 
-/// Draws an event of two arguments. The first is a node.
 fn drawn_pair(words: &mut Pcg32, kind: u32) -> Event {
     let first = drawn_node(words);
     match kind {
@@ -86,14 +79,12 @@ fn drawn_pair(words: &mut Pcg32, kind: u32) -> Event {
     }
 }
 
-/// Draws a write of a word to a register.
 fn drawn_write(words: &mut Pcg32) -> Event {
     let first = drawn_node(words);
     let register = drawn_register(words);
     Event::Write(first, register, u64::from(words.next_u32()))
 }
 
-/// Returns the event that the next words encode.
 fn drawn_event(words: &mut Pcg32) -> Event {
     match below(words, 16) {
         0 | 1 => Event::Ask(drawn_node(words)),
@@ -108,7 +99,6 @@ fn drawn_event(words: &mut Pcg32) -> Event {
     }
 }
 
-/// Returns whether these are the events of the words of a seed.
 fn are_of_seed(events: &[Event], seed: u64) -> bool {
     let mut words = Pcg32::seed_from_u64(seed);
     for event in events {
@@ -119,13 +109,11 @@ fn are_of_seed(events: &[Event], seed: u64) -> bool {
     events.len() == 1000
 }
 
-/// Returns whether a schedule of this seed has the events of its words.
 fn is_drawn(alloc: Global, seed: u64, plan: &Plan) -> Result<bool, AllocError> {
     let events = schedule(alloc, seed, 1000, plan)?;
     Ok(are_of_seed(events.as_slice(), seed))
 }
 
-/// Returns whether this holds for the schedules of ten seeds.
 fn are_drawn(alloc: Global, plan: &Plan) -> Result<bool, AllocError> {
     for seed in 0..10 {
         if !is_drawn(alloc, seed, plan)? {

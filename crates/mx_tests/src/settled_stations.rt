@@ -29,12 +29,10 @@ use std::thread::{Threads, yield_now};
 /// The number of sections of each node.
 const SECTIONS: usize = 20;
 
-/// Returns whether a station has all its sections.
 fn has_all<C: Exclusion>(station: &Station<C>) -> bool {
     station.receipts().len() == SECTIONS
 }
 
-/// Asks if sections are lacking.
 fn ask_if_due<C: Exclusion>(station: &mut Station<C>)
     ensures { KeepsTable station.old station.new }
 {
@@ -54,7 +52,6 @@ fn want_next<C: Exclusion>(station: &mut Station<C>, wanted: &mut u8)
     }
 }
 
-/// Writes a value and leaves, and returns whether it has left.
 fn leave<C: Exclusion>(station: &mut Station<C>, value: u64) -> bool
     ensures { KeepsTable station.old station.new }
 {
@@ -62,12 +59,10 @@ fn leave<C: Exclusion>(station: &mut Station<C>, value: u64) -> bool
     station.leave().is_ok()
 }
 
-/// Returns whether a section was left, and was a tenth of the station's.
 fn is_due<C: Exclusion>(station: &Station<C>, has_left: bool) -> bool {
     has_left && station.receipts().len() % 10 == 0
 }
 
-/// Settles all sections that the journal has without gaps.
 fn settle<C: Exclusion>(station: &mut Station<C>)
     ensures { KeepsTable station.old station.new }
 {
@@ -75,7 +70,6 @@ fn settle<C: Exclusion>(station: &mut Station<C>)
     let _ = station.settle(upto);
 }
 
-/// Writes a value and leaves, and settles if it is time.
 fn end<C: Exclusion>(station: &mut Station<C>, value: u64)
     ensures { KeepsTable station.old station.new }
 {
@@ -96,7 +90,6 @@ fn count<C: Exclusion>(station: &mut Station<C>, wanted: &mut u8)
     }
 }
 
-/// Lets other threads run if nothing came.
 fn give_way(report: &Result<TurnReport, TakeFault>) {
     if let Ok(TurnReport { taken: 0, .. }) = report {
         yield_now();
@@ -115,17 +108,14 @@ fn take_turn<C: Exclusion, F: Fates>(station: &mut Station<C>, wanted: &mut u8, 
     give_way(&report);
 }
 
-/// Returns whether a station has all its sections, and all others have theirs too.
 fn may_stop<C: Exclusion>(station: &Station<C>, gate: &Assembly) -> bool {
     has_all(station) && gate.done(station.node())
 }
 
-/// Links that lose and repeat.
 fn weather_of<C: Exclusion>(station: &Station<C>) -> Weather {
     Weather::of(7 + u64::from(station.node().get()), 16, 16)
 }
 
-/// Counts at a station by direct calls, until all nodes have counted.
 fn count_by_calls<C: Exclusion>(mut station: Station<C>, gate: &Assembly) -> Station<C>
     ensures { KeepsTable station result }
 {
@@ -144,7 +134,6 @@ fn count_by_calls<C: Exclusion>(mut station: Station<C>, gate: &Assembly) -> Sta
     station
 }
 
-/// Counts at a station as a worker.
 fn count_as_worker<C: Exclusion>(station: Station<C>, gate: &Assembly) -> Station<C>
     ensures { KeepsTable station result }
 {
@@ -172,7 +161,6 @@ fn work_in_vain<C: Exclusion>(station: Station<C>, gate: &Assembly) -> Station<C
     station
 }
 
-/// What a thread does at its station.
 #[derive(Clone, Copy)]
 enum Manner {
     Calls,
@@ -180,7 +168,6 @@ enum Manner {
     LostLetters,
 }
 
-/// Does that at a station.
 fn do_at<C: Exclusion>(station: Station<C>, gate: &Assembly, manner: Manner) -> Station<C>
     ensures { KeepsTable station result }
 {
@@ -191,7 +178,6 @@ fn do_at<C: Exclusion>(station: Station<C>, gate: &Assembly, manner: Manner) -> 
     }
 }
 
-/// Creates the stations of a cluster with one register.
 fn created<C: Exclusion>(alloc: Global, shape: &C::Shape) -> Result<Vec<Station<C>>, AllocError>
     ensures { IfOk result (λ all. OfOneTable all.items) }
 {
@@ -199,7 +185,6 @@ fn created<C: Exclusion>(alloc: Global, shape: &C::Shape) -> Result<Vec<Station<
     Ok(all)
 }
 
-/// Returns whether exactly one hundred sections were gathered, and all of them are settled.
 fn is_settled(all: &Gathered) -> bool {
     let journal = &all.journal;
     all.receipts.len() == 100
@@ -209,7 +194,6 @@ fn is_settled(all: &Gathered) -> bool {
         && view(journal, 1).value(0) == Some(100)
 }
 
-/// Returns whether no section was left.
 fn is_empty(all: &Gathered) -> bool {
     all.receipts.is_empty()
         && all.journal.is_empty()
@@ -226,7 +210,6 @@ fn is_right(all: &Gathered, manner: Manner) -> bool {
     }
 }
 
-/// Returns whether gathering the stations has the right result.
 fn are_gathered<C: Exclusion>(alloc: Global, stations: Vec<Station<C>>, manner: Manner) -> bool
     requires { OfOneTable stations.items }
 {
@@ -260,7 +243,6 @@ where
     Ok((are_gathered(alloc, back, manner), gate.gone()))
 }
 
-/// The manners in which nodes count to one hundred.
 const COUNTING: [Manner; 2] = [Manner::Worker, Manner::Calls];
 
 #[test]

@@ -9,7 +9,6 @@ use mx_stamps::NodeId;
 use std::alloc::{AllocError, Global};
 use std::test::Fail;
 
-/// Returns the records of numbers 1 to 5000. Each wrote its number.
 fn thousands(alloc: Global) -> Result<Vec<Record>, AllocError> {
     let mut list = Vec::new(alloc);
     for number in 1..=5000 {
@@ -18,7 +17,6 @@ fn thousands(alloc: Global) -> Result<Vec<Record>, AllocError> {
     Ok(list)
 }
 
-/// Returns a journal that takes records one by one, the last first.
 fn one_by_one(alloc: Global, list: &[Record]) -> Result<Journal, Fail> {
     let mut journal = Journal::new(alloc);
     for record in list.iter().rev() {
@@ -27,8 +25,6 @@ fn one_by_one(alloc: Global, list: &[Record]) -> Result<Journal, Fail> {
     Ok(journal)
 }
 
-/// Returns whether a journal takes thousands of records together, and then a journal of the same
-/// records changes nothing.
 fn takes_all(journal: &mut Journal, list: &[Record], other: &Journal) -> bool {
     journal.put_all(list) == Ok(5000)
         && journal.put_all(list) == Ok(0)
@@ -47,7 +43,6 @@ fn journals_of_thousands(rt: HostRuntime) -> Result<(), Fail> {
     Ok(())
 }
 
-/// Returns all of 21 nodes.
 fn names() -> [NodeId; 21] {
     let mut names = [node(0); 21];
     for index in 0..21u8 {
@@ -70,7 +65,6 @@ fn event_at(index: u64) -> Event {
     }
 }
 
-/// Returns the first `count` events of such sections.
 fn turns(alloc: Global, count: u64) -> Result<Vec<Event>, AllocError> {
     let mut events = Vec::new(alloc);
     for index in 0..count {
@@ -79,18 +73,15 @@ fn turns(alloc: Global, count: u64) -> Result<Vec<Event>, AllocError> {
     Ok(events)
 }
 
-/// Returns a cluster of 21 nodes.
 fn started(alloc: Global) -> Result<Cluster<Ricart>, Fail> {
     let shape = Count::of(21).ok_or("count")?;
     Ok(Cluster::start(alloc, &shape, 0, 1000, 1)?)
 }
 
-/// Returns whether a cluster runs through events, and has 5,280 items and 4,800 parcels then.
 fn runs(cluster: &mut Cluster<Ricart>, events: &[Event]) -> bool {
     cluster.run(events).is_ok() && cluster.trace().len() == 5280 && cluster.sent() == 4800
 }
 
-/// Returns whether it runs through 120 sections.
 fn has_sections(alloc: Global, cluster: &mut Cluster<Ricart>) -> bool {
     match turns(alloc, 120 * 44) {
         Ok(events) => runs(cluster, events.as_slice()),
@@ -98,7 +89,6 @@ fn has_sections(alloc: Global, cluster: &mut Cluster<Ricart>) -> bool {
     }
 }
 
-/// Returns whether the journals of all its nodes merge into one of 120 records.
 fn merges(alloc: Global, cluster: &Cluster<Ricart>) -> bool {
     match cluster.merged(alloc, &names()) {
         Ok(all) => all.len() == 120 && all.gapless_to() == 120,

@@ -2,18 +2,13 @@
 
 use crate::station_calls::{Call, Calls, GOT, SENT, assert_calls};
 use crate::stations::two;
-use Call::{
-    Ask, Cancel, Enter, Leave, PutsOut, Read, Restart, Settle, Shows, Status, TakesIn, Tick, Turn,
-    Waits, Want, Write,
-};
+use Call::{Ask, Enter, PutsOut, TakesIn, Tick, Turn, Waits};
 use mx_letters::Fate;
-use mx_nodelaws::CancelFault;
 use mx_stations::{PutOut, Taken, TurnReport};
 use std::alloc::Global;
 use std::process::Abort;
 use std::test::Fail;
 
-/// The report of a turn that takes one parcel, and does nothing else.
 const TAKEN: TurnReport = TurnReport {
     taken: 1,
     dropped: 0,
@@ -23,23 +18,19 @@ const TAKEN: TurnReport = TurnReport {
     ticked: false,
 };
 
-/// The report of a turn that throws away the one parcel that it takes.
 const DROPPED: TurnReport = TurnReport {
     dropped: 1,
     ..TAKEN
 };
 
-/// The report of a turn that delivers one parcel twice, and puts out two.
 const TWICE: TurnReport = TurnReport {
     twice: 1,
     put: 2,
     ..TAKEN
 };
 
-/// The report of a turn that takes one parcel, and puts one out.
 const TAKEN_AND_PUT: TurnReport = TurnReport { put: 1, ..TAKEN };
 
-/// The report of a turn that takes no parcel, puts one out, and ticks.
 const PUT_AND_TICKED: TurnReport = TurnReport {
     taken: 0,
     ticked: true,
@@ -94,67 +85,6 @@ const SIXTY_FOUR: [(u32, Calls); 7] = [
     (1, &[(0, Waits(0))]),
 ];
 
-/// Each node in turn withdraws a request, and asks again. Inside, it loses a write by a restart,
-/// and writes again. It settles all that it knows, and the other node asks it for that. Node 1
-/// reads what node 0 wrote.
-const SETTLING: Calls = &[
-    (0, Ask),
-    (0, Cancel(Ok(()))),
-    (0, Cancel(Err(CancelFault::NotWaiting))),
-    (0, Ask),
-    (0, SENT),
-    (0, SENT),
-    (1, GOT),
-    (1, GOT),
-    (1, SENT),
-    (1, SENT),
-    (0, GOT),
-    (0, GOT),
-    (0, Enter(1)),
-    (1, Status(3)),
-    (0, Read(0)),
-    (0, Write(4)),
-    (0, Restart),
-    (0, Write(5)),
-    (0, Leave(1)),
-    (0, Shows(0, 1, Some(5))),
-    (0, Settle(1)),
-    (1, Want),
-    (1, SENT),
-    (0, GOT),
-    (0, SENT),
-    (1, GOT),
-    (1, Ask),
-    (1, Cancel(Ok(()))),
-    (1, Cancel(Err(CancelFault::NotWaiting))),
-    (1, Ask),
-    (1, SENT),
-    (1, SENT),
-    (0, GOT),
-    (0, GOT),
-    (0, SENT),
-    (0, SENT),
-    (1, GOT),
-    (1, GOT),
-    (1, Enter(2)),
-    (0, Status(5)),
-    (1, Read(5)),
-    (1, Write(4)),
-    (1, Restart),
-    (1, Write(6)),
-    (1, Leave(2)),
-    (1, Shows(1, 1, Some(6))),
-    (1, Settle(2)),
-    (0, Want),
-    (0, SENT),
-    (1, GOT),
-    (1, SENT),
-    (0, GOT),
-    (0, Shows(2, 0, Some(6))),
-    (1, Shows(2, 0, Some(6))),
-];
-
-/// Makes the calls of each table this many times, one after another, with new stations.
 fn make_calls(rt: &impl Abort, alloc: Global, tables: &[(u32, Calls)]) -> Result<(), Fail> {
     let mut both = two(alloc)?;
     both.0.apart(&mut both.1);
@@ -179,9 +109,4 @@ fn turns_tell_what_they_did(rt: HostRuntime) -> Result<(), Fail> {
 #[test]
 fn sixty_four_parcels_wait(rt: HostRuntime) -> Result<(), Fail> {
     make_calls(&rt, rt.alloc(), &SIXTY_FOUR)
-}
-
-#[test]
-fn calls_that_no_worker_makes(rt: HostRuntime) -> Result<(), Fail> {
-    make_calls(&rt, rt.alloc(), &[(1, SETTLING)])
 }

@@ -8,7 +8,6 @@ use mx_stations::{Field, Station};
 use std::alloc::Global;
 use std::test::Fail;
 
-/// Returns the last of a list.
 pub(crate) fn last<T: Drop>(mut all: Vec<T>) -> Option<T>
     ensures { IfSome result (λ one. (left : List T) × (all.items ≡ left ++ one ∷ [])) }
 {
@@ -16,7 +15,6 @@ pub(crate) fn last<T: Drop>(mut all: Vec<T>) -> Option<T>
     Some(one)
 }
 
-/// Returns the last two of a list.
 pub(crate) fn last_two<T: Drop>(mut all: Vec<T>) -> Option<(T, T)>
     ensures { IfSome result (λ both. (more : List T) × (left : List T)
         × (all.items ≡ more ++ both.1 ∷ []) × (more ≡ left ++ both.0 ∷ [])) }
@@ -26,7 +24,6 @@ pub(crate) fn last_two<T: Drop>(mut all: Vec<T>) -> Option<(T, T)>
     Some((next, last))
 }
 
-/// Returns the two stations of a cluster of two nodes.
 pub(crate) fn two(alloc: Global) -> Result<(Station<Ricart>, Station<Ricart>), Fail>
     ensures { IfOk result (λ both. KeepsTable both.0 both.1) }
 {

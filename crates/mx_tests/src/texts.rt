@@ -12,7 +12,6 @@ use mx_trees::TreeFault;
 use std::alloc::Global;
 use std::fmt::Display;
 
-/// Returns whether a fault has this text.
 fn is_told<F: Display>(alloc: Global, fault: &F, text: &str) -> bool {
     match format!(in alloc; "{fault}") {
         Ok(told) => told.as_str() == text,
@@ -20,7 +19,6 @@ fn is_told<F: Display>(alloc: Global, fault: &F, text: &str) -> bool {
     }
 }
 
-/// Returns whether each of these faults has its text.
 fn are_told<F: Display>(alloc: Global, cases: &[(F, &str)]) -> bool {
     for (fault, text) in cases {
         if !is_told(alloc, fault, *text) {

@@ -90,8 +90,6 @@ fn stations_of(alloc: Global, nodes: u8) -> Result<Vec<Station<Ricart>>, Fail> {
     Ok(Field::<Ricart>::stations(alloc, &shape, 0, 1000, 1)?)
 }
 
-/// Counts 20 sections as a worker. Returns how it ends, and the value of the register at its node
-/// then.
 fn count_on(station: Station<Ricart>, gate: &Assembly) -> (Worked, u64) {
     let script = Script {
         register: 0,
@@ -101,7 +99,6 @@ fn count_on(station: Station<Ricart>, gate: &Assembly) -> (Worked, u64) {
     (ended, station.value(0).unwrap_or(0))
 }
 
-/// Returns the greatest value that a worker knows, if all are done.
 fn counted(ended: &[(Worked, u64)]) -> Option<u64> {
     let mut most = 0;
     for (worked, value) in ended {
@@ -154,7 +151,6 @@ fn workers_run_in_turn(rt: HostRuntime) -> Result<(), Fail> {
     Ok(())
 }
 
-/// A gate that is open.
 #[derive(Drop)]
 pub(crate) struct Open {
     pub(crate) may_stop: bool,
@@ -181,27 +177,13 @@ struct Ending {
     worked: Worked,
 }
 
-const ENDINGS: [Ending; 4] = [
-    Ending {
-        nodes: 1,
-        unworked: 0,
-        may_stop: true,
-        turns: 10,
-        worked: Worked::Done,
-    },
+const ENDINGS: [Ending; 2] = [
     Ending {
         nodes: 1,
         unworked: 0,
         may_stop: false,
         turns: 10,
         worked: Worked::NotYet(10),
-    },
-    Ending {
-        nodes: 1,
-        unworked: 0,
-        may_stop: true,
-        turns: 0,
-        worked: Worked::NotYet(0),
     },
     Ending {
         nodes: 3,
@@ -212,7 +194,6 @@ const ENDINGS: [Ending; 4] = [
     },
 ];
 
-/// Returns whether the worker of a station, which is to enter once, ends so. Some do not start.
 fn ends_so(station: Station<Ricart>, ending: &Ending) -> bool {
     if station.node().get() < ending.unworked {
         return true;
@@ -227,7 +208,6 @@ fn ends_so(station: Station<Ricart>, ending: &Ending) -> bool {
     work(station, script, &gate, Fair, ending.turns).1 == ending.worked
 }
 
-/// Returns whether all workers end so, one after another.
 fn end_so(stations: Vec<Station<Ricart>>, ending: &Ending) -> bool {
     for station in stations {
         if !ends_so(station, ending) {

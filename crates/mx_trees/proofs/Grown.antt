@@ -32,10 +32,6 @@ next_reached edges root g h i r = elim (dec_eq i root) [
   | inr ne ↦ let w = h.way i r ne in w.2 (next_of g i) (inl refl)
 ]
 
--- the root alone
-only_root : ℕ → Growth
-only_root root = record { reached = slice_set (replicate 21 false) root true; next = replicate 21 root }
-
 pub grown_at : (edges : List (ℕ × ℕ)) (root : ℕ) → root < 21 → IsGrown edges root (record { reached = slice_set (replicate 21 false) root true; next = replicate 21 root })
 grown_at edges root lt =
     let counted : count_by (λ r. r) (slice_set (replicate 21 false) root true) ≡ count_by (λ r. r) (replicate 21 false) + 1 = count_set (replicate 21 false) root lt (get_or_replicate 21 root false) in

@@ -8,6 +8,5 @@ abbrev pub values_json : {X : Type 0} → (X → Text) → List X → Text
 values_json f [] = []
 values_json f (x ∷ xs) = f x ++ each_text (λ y. codes "," ++ f y) xs
 
--- an array
 abbrev pub array_json : {X : Type 0} → (X → Text) → List X → Text
 array_json f xs = codes "[" ++ values_json f xs ++ codes "]"

@@ -14,8 +14,6 @@ use Rattle.mx_plan.specs.Text.{Text}
 use Rattle.mx_plan.specs.Fields.{Fields}
 use Rattle.mx_format.specs.Members.{node_member, number_member, number_start, register_member, word_member}
 
--- ---- an event
-
 -- the member `node` of an event; nothing, if the event has no node
 abbrev pub owner_json : Fields → Option ℕ → Text
 owner_json p None = []
@@ -35,8 +33,6 @@ abbrev pub act_json : Fields → Event → Text
 act_json p event =
     word_member (codes "act") (word_of (kind_of event)) ++ owner_json p (node_of event)
     ++ rest_json p event
-
--- ---- its outcome
 
 abbrev pub bare_json : Text → Text
 bare_json outcome = word_member (codes "outcome") outcome

@@ -13,7 +13,6 @@ use Rattle.mx_format.specs.NodeTexts.{register_in}
 use Rattle.mx_views.specs.FactJson.{knows_json}
 use Rattle.mx_format.specs.Members.{node_start, number_member, word_member}
 
--- inside, with the number of the section
 abbrev pub inside_json : ℕ → Text
 inside_json n = word_member (codes "phase") (codes "inside") ++ number_member (codes "number") n
 
@@ -37,7 +36,6 @@ journal_json journal =
 abbrev pub comma_at : ℕ → Text
 comma_at k = if k == 0 then [] else codes ","
 
--- the k-th register: its name and its value
 abbrev pub register_json : ℕ → Text → ℕ → Text
 register_json k name value =
     comma_at k ++ codes "\"" ++ name ++ codes "\":" ++ decimal value

@@ -67,10 +67,7 @@ module _ {M : Type 0} where
   abbrev pub shows_event : Option ℕ → List (ℕ × ℕ × Parcel M) → Event → Bool
   shows_event node sent event = option_map_or (shows node) (owner_of sent event) false
 
--- ---- lines
-
 module _ (p : Fields) (view : View) where
-  -- the line of the k-th event
   abbrev pub entry_text : ℕ → Entry → Text
   entry_text k entry =
       if view.is_json then event_json p k entry else event_line p k entry.event entry.outcome
@@ -85,7 +82,6 @@ module _ (p : Fields) (view : View) where
       where_shown (shows_event view.node sent entry.event) (entry_text k entry)
 
 module _ {M : Type 0} (p : Fields) (view : View) (parts : M → Parts) where
-  -- the line of the k-th parcel
   abbrev pub sent_text : ℕ → ℕ × ℕ × Parcel M → Text
   sent_text k parcel =
       if view.is_json then parcel_json parts p k parcel
@@ -110,8 +106,6 @@ module _ {H S M : Type 0} (p : Fields) (view : View) (core : Core H S M) (knows 
     -- the lines of the nodes that are shown, and the verdict, which is sound
     abbrev pub closing_text : ClusterState S M → Text
     closing_text g = texts_from shown_member 0 g.members ++ verdict_text view.is_json Sound
-
--- ---- runs
 
 module _ {S M : Type 0} (parts : M → Parts) (p : Fields) (view : View) where
   -- what is shown of the k-th event, by the clusters before and after it: the event's line, and the

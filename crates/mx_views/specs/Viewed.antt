@@ -73,8 +73,6 @@ abbrev pub HoldsOf : (Text → Option Telling) → Request → (Course → Type 
 HoldsOf told request P = IfSome (plan_told told request.names) (λ plan.
     HoldsOfPlan (λ p. option_map (course_told request p) (text_told told request.names)) plan P)
 
--- ---- what was printed
-
 -- the report was printed whole, with its status and the line of its fault. Or memory ran out, or an
 -- output refused, and the first texts of the report were printed, perhaps none or all, each whole
 abbrev pub PrintsReport : Bool → Text × Text → Report → Seen → Seen → ℕ → Type 0

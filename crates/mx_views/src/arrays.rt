@@ -14,13 +14,11 @@ pub(crate) trait Value {
     // the text that `add_json` appends
     ghost json: { Fields → Self → Text };
 
-    /// Appends the value as JSON, with the names of the plan.
     fn add_json(&self, plan: &Plan, text: &mut String) -> Result<(), AllocError>
         ensures { OnOk result (string_bytes text.new
             ≡ string_bytes text.old ++ json plan.now self.now) };
 }
 
-/// Appends an array of these values.
 pub(crate) fn add_array<V: Value>(
     plan: &Plan,
     values: &[V],
@@ -34,7 +32,6 @@ pub(crate) fn add_array<V: Value>(
     text.push_str("]")
 }
 
-/// Appends values, with commas between them.
 fn add_values<V: Value>(plan: &Plan, values: &[V], text: &mut String) -> Result<(), AllocError>
     ensures { OnOk result (string_bytes text.new
         ≡ string_bytes text.old ++ values_json (V.json plan.now) values.now) }
@@ -46,7 +43,6 @@ fn add_values<V: Value>(plan: &Plan, values: &[V], text: &mut String) -> Result<
     add_rest(plan, rest, text)
 }
 
-/// Appends the values after the first one, each after a comma.
 fn add_rest<V: Value>(plan: &Plan, rest: &[V], text: &mut String) -> Result<(), AllocError>
     ensures { OnOk result (string_bytes text.new ≡ string_bytes text.old
         ++ each_text (λ value. codes "," ++ V.json plan.now value) rest.now) }
@@ -57,7 +53,6 @@ fn add_rest<V: Value>(plan: &Plan, rest: &[V], text: &mut String) -> Result<(), 
     Ok(())
 }
 
-/// Appends a value, after a comma.
 fn add_next<V: Value>(plan: &Plan, value: &V, text: &mut String) -> Result<(), AllocError>
     ensures { OnOk result (string_bytes text.new
         ≡ string_bytes text.old ++ (codes "," ++ V.json plan.now value.now)) }

@@ -2,8 +2,7 @@
 
 ghost use Rattle.std.specs.Prelude.{◌≡◌, ◌+◌, ◌<◌, ◌++◌, length, drop, string_bytes, IfOk, OnOk};
 ghost use Rattle.mx_format.specs.Lines.{texts_from};
-ghost use Rattle.mx_format.specs.NodeTexts.{member_line};
-ghost use Rattle.mx_views.specs.Shown.{closing_text, member_text, shown_member, state_text};
+ghost use Rattle.mx_views.specs.Shown.{closing_text, shown_member, state_text};
 
 use crate::node_json::add_node_json;
 use crate::selection::Selection;
@@ -17,7 +16,6 @@ use mx_nodelaws::Exclusion;
 use mx_stamps::{MAX_NODES, NodeId};
 use std::alloc::{AllocError, Global};
 
-/// Appends the lines of the nodes that are shown and of the verdict. Returns the verdict.
 pub(crate) fn add_closing<C: Exclusion + Knowledge>(
     alloc: Global,
     selection: &Selection<'_>,
@@ -36,7 +34,6 @@ pub(crate) fn add_closing<C: Exclusion + Knowledge>(
     Ok(verdict)
 }
 
-/// Appends the lines of the nodes that are shown.
 fn add_nodes<C: Exclusion + Knowledge>(
     alloc: Global,
     selection: &Selection<'_>,
@@ -55,7 +52,6 @@ fn add_nodes<C: Exclusion + Knowledge>(
     Ok(())
 }
 
-/// Appends the lines of the node of this index, if the node is shown.
 fn add_node<C: Exclusion + Knowledge>(
     alloc: Global,
     selection: &Selection<'_>,
@@ -79,7 +75,6 @@ fn add_node<C: Exclusion + Knowledge>(
     }
 }
 
-/// Appends the lines of a node, if the node is shown.
 fn add_member<C: Exclusion + Knowledge>(
     alloc: Global,
     selection: &Selection<'_>,
@@ -93,43 +88,13 @@ fn add_member<C: Exclusion + Knowledge>(
     if !selection.shows_node(node) {
         return Ok(());
     }
-    add_shown(alloc, selection, node, member, text)
-}
-
-/// Appends the JSON object of a node, or its lines.
-fn add_shown<C: Exclusion + Knowledge>(
-    alloc: Global,
-    selection: &Selection<'_>,
-    node: NodeId,
-    member: &Member<C>,
-    text: &mut String,
-) -> Result<(), AllocError>
-    ensures { OnOk result (string_bytes text.new ≡ string_bytes text.old
-        ++ member_text selection.now.plan.now selection.now.view C.core C.knows node member.now) }
-{
     if selection.view.is_json {
         return add_node_json(alloc, selection.plan, node, member, text);
     }
-    add_lines(alloc, selection, node, member, text)
-}
-
-/// Appends the line of a node, and, if it is asked for, the line of what the node knows.
-fn add_lines<C: Exclusion + Knowledge>(
-    alloc: Global,
-    selection: &Selection<'_>,
-    node: NodeId,
-    member: &Member<C>,
-    text: &mut String,
-) -> Result<(), AllocError>
-    ensures { OnOk result (string_bytes text.new ≡ string_bytes text.old
-        ++ (member_line C.core selection.now.plan.now node member.now
-        ++ state_text selection.now.plan.now selection.now.view (C.knows member.now.core))) }
-{
     add_member_line(selection.plan, node, member, text)?;
     add_state(alloc, selection, member, text)
 }
 
-/// Appends the line of what a node knows, if the view asks for it.
 fn add_state<C: Exclusion + Knowledge>(
     alloc: Global,
     selection: &Selection<'_>,

@@ -11,7 +11,6 @@ use mx_plan::Plan;
 use mx_stamps::NodeId;
 use std::alloc::AllocError;
 
-/// Appends the JSON object of an event with this index, and its outcome, as one line.
 pub(crate) fn add_event_json(
     plan: &Plan,
     index: u64,
@@ -27,7 +26,6 @@ pub(crate) fn add_event_json(
     text.push_str("}\n")
 }
 
-/// Appends the word of an event, its node and its other arguments.
 fn add_act(plan: &Plan, event: &Event, text: &mut String) -> Result<(), AllocError>
     ensures { OnOk result (string_bytes text.new
         ≡ string_bytes text.old ++ act_json plan.now event.now) }
@@ -37,7 +35,6 @@ fn add_act(plan: &Plan, event: &Event, text: &mut String) -> Result<(), AllocErr
     add_rest(plan, event, text)
 }
 
-/// Appends the node of an event. A delivery has none.
 fn add_owner(plan: &Plan, owner: Option<NodeId>, text: &mut String) -> Result<(), AllocError>
     ensures { OnOk result (string_bytes text.new
         ≡ string_bytes text.old ++ owner_json plan.now owner) }
@@ -48,7 +45,6 @@ fn add_owner(plan: &Plan, owner: Option<NodeId>, text: &mut String) -> Result<()
     }
 }
 
-/// Appends the arguments of an event beside its node.
 fn add_rest(plan: &Plan, event: &Event, text: &mut String) -> Result<(), AllocError>
     ensures { OnOk result (string_bytes text.new
         ≡ string_bytes text.old ++ rest_json plan.now event.now) }
@@ -71,7 +67,6 @@ fn add_rest(plan: &Plan, event: &Event, text: &mut String) -> Result<(), AllocEr
     }
 }
 
-/// Appends the outcome of an event.
 fn add_outcome(outcome: &Outcome, text: &mut String) -> Result<(), AllocError>
     ensures { OnOk result (string_bytes text.new
         ≡ string_bytes text.old ++ outcome_json outcome.now) }
@@ -91,7 +86,6 @@ fn add_outcome(outcome: &Outcome, text: &mut String) -> Result<(), AllocError>
     }
 }
 
-/// Appends the word of an outcome.
 fn add_bare(outcome: &str, text: &mut String) -> Result<(), AllocError>
     ensures { OnOk result (string_bytes text.new
         ≡ string_bytes text.old ++ bare_json outcome.now) }
@@ -99,7 +93,6 @@ fn add_bare(outcome: &str, text: &mut String) -> Result<(), AllocError>
     add_word("outcome", outcome, text)
 }
 
-/// Appends the word of an outcome, and a number under this key.
 fn add_with(outcome: &str, key: &str, number: u64, text: &mut String) -> Result<(), AllocError>
     ensures { OnOk result (string_bytes text.new
         ≡ string_bytes text.old ++ with_json outcome.now key.now number) }
@@ -108,7 +101,6 @@ fn add_with(outcome: &str, key: &str, number: u64, text: &mut String) -> Result<
     add_number(key, number, text)
 }
 
-/// Appends the outcome of a leave: the number of the section, and how many writes it made.
 fn add_left(receipt: &Receipt, text: &mut String) -> Result<(), AllocError>
     ensures { OnOk result (string_bytes text.new
         ≡ string_bytes text.old ++ left_json receipt.now) }
@@ -117,7 +109,6 @@ fn add_left(receipt: &Receipt, text: &mut String) -> Result<(), AllocError>
     add_number("writes", receipt.writes.len() as u64, text)
 }
 
-/// Appends a refusal and its cause.
 fn add_refusal(cause: &Cause, text: &mut String) -> Result<(), AllocError>
     ensures { OnOk result (string_bytes text.new
         ≡ string_bytes text.old ++ refusal_json cause.now) }
@@ -127,7 +118,6 @@ fn add_refusal(cause: &Cause, text: &mut String) -> Result<(), AllocError>
     add_if_some(cause.number(), text)
 }
 
-/// Appends the number of a cause, if it has one.
 fn add_if_some(number: Option<u64>, text: &mut String) -> Result<(), AllocError>
     ensures { OnOk result (string_bytes text.new
         ≡ string_bytes text.old ++ number_json number) }

@@ -42,7 +42,6 @@ impl Value for Fact {
     }
 }
 
-/// Appends the member `knows`: an array of the facts that a node knows.
 pub(crate) fn add_knows_json(
     plan: &Plan,
     facts: &Facts,

@@ -9,7 +9,6 @@ use mx_format::{LetterParts, Numbers, Subject};
 use mx_plan::Plan;
 use std::alloc::AllocError;
 
-/// Appends the word of a letter, what it is about and its numbers, each as a member of an object.
 pub(crate) fn add_letter_json(
     plan: &Plan,
     parts: &LetterParts,
@@ -23,7 +22,6 @@ pub(crate) fn add_letter_json(
     add_numbers(&parts.numbers, text)
 }
 
-/// Appends what a letter is about: the number and the node of a stamp, or a number by its name.
 fn add_subject(plan: &Plan, subject: &Subject, text: &mut String) -> Result<(), AllocError>
     ensures { OnOk result (string_bytes text.new
         ≡ string_bytes text.old ++ about_json plan.now (subject_of subject.now)) }
@@ -37,7 +35,6 @@ fn add_subject(plan: &Plan, subject: &Subject, text: &mut String) -> Result<(), 
     }
 }
 
-/// Appends each further number of a letter, by its name.
 fn add_numbers(numbers: &Numbers, text: &mut String) -> Result<(), AllocError>
     ensures { OnOk result (string_bytes text.new
         ≡ string_bytes text.old ++ numbers_json (numbers_of numbers.now)) }

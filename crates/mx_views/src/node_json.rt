@@ -17,7 +17,6 @@ use mx_stamps::NodeId;
 use std::alloc::{AllocError, Global};
 use std::fmt;
 
-/// Appends the line of a node, with what it knows.
 pub(crate) fn add_node_json<C: Exclusion + Knowledge>(
     alloc: Global,
     plan: &Plan,
@@ -34,7 +33,6 @@ pub(crate) fn add_node_json<C: Exclusion + Knowledge>(
     text.push_str("}\n")
 }
 
-/// Begins the line of a node: its name, its phase, and the last section that it entered.
 fn add_standing<C: Exclusion>(
     plan: &Plan,
     node: NodeId,
@@ -49,7 +47,6 @@ fn add_standing<C: Exclusion>(
     add_number("mine", member.mine(), text)
 }
 
-/// Appends what a journal has, and the value of each register that it shows.
 fn add_contents(plan: &Plan, journal: &Journal, text: &mut String) -> Result<(), AllocError>
     ensures { OnOk result (string_bytes text.new
         ≡ string_bytes text.old ++ contents_json plan.now journal.now) }
@@ -58,7 +55,6 @@ fn add_contents(plan: &Plan, journal: &Journal, text: &mut String) -> Result<(),
     add_registers(plan, journal, text)
 }
 
-/// Appends how many records a journal has, and the section number up to which it has no gap.
 fn add_journal(journal: &Journal, text: &mut String) -> Result<(), AllocError>
     ensures { OnOk result (string_bytes text.new
         ≡ string_bytes text.old ++ journal_json journal.now) }
@@ -67,7 +63,6 @@ fn add_journal(journal: &Journal, text: &mut String) -> Result<(), AllocError>
     add_number("gapless", journal.gapless_to(), text)
 }
 
-/// Appends a phase.
 fn add_phase(phase: Phase, text: &mut String) -> Result<(), AllocError>
     ensures { OnOk result (string_bytes text.new ≡ string_bytes text.old ++ phase_json phase) }
 {
@@ -78,7 +73,6 @@ fn add_phase(phase: Phase, text: &mut String) -> Result<(), AllocError>
     }
 }
 
-/// Appends that a node is inside, with the number of the section.
 fn add_inside(number: u64, text: &mut String) -> Result<(), AllocError>
     ensures { OnOk result (string_bytes text.new ≡ string_bytes text.old ++ inside_json number) }
 {
@@ -86,7 +80,6 @@ fn add_inside(number: u64, text: &mut String) -> Result<(), AllocError>
     add_number("number", number, text)
 }
 
-/// Appends an object that has the value of each register.
 fn add_registers(plan: &Plan, journal: &Journal, text: &mut String) -> Result<(), AllocError>
     ensures { OnOk result (string_bytes text.new
         ≡ string_bytes text.old ++ registers_json plan.now journal.now) }
@@ -96,7 +89,6 @@ fn add_registers(plan: &Plan, journal: &Journal, text: &mut String) -> Result<()
     text.push_str("}")
 }
 
-/// Appends what a node knows.
 fn add_known<C: Exclusion + Knowledge>(
     alloc: Global,
     plan: &Plan,
@@ -110,7 +102,6 @@ fn add_known<C: Exclusion + Knowledge>(
     add_knows_json(plan, &facts, text)
 }
 
-/// Appends the name and the value of each register.
 fn add_values(plan: &Plan, journal: &Journal, text: &mut String) -> Result<(), AllocError>
     ensures { OnOk result (string_bytes text.new
         ≡ string_bytes text.old ++ values_of plan.now journal.now) }
@@ -126,7 +117,6 @@ fn add_values(plan: &Plan, journal: &Journal, text: &mut String) -> Result<(), A
     Ok(())
 }
 
-/// The name of a register and its value, after a comma if it is not the first.
 #[derive(Clone, Copy)]
 struct RegisterJson<'a> {
     register: u8,
@@ -143,7 +133,6 @@ impl fmt::Display for RegisterJson<'_> {
     }
 }
 
-/// Returns what comes before the member at this place of an object: a comma, or nothing at place 0.
 fn comma_at(place: u8) -> &'static str
     ensures { result.now ≡ comma_at place }
 {

@@ -13,7 +13,6 @@ use mx_plan::Plan;
 use std::alloc::AllocError;
 use std::fmt;
 
-/// A range of section numbers: its first and its last, as an array.
 #[derive(Clone, Copy)]
 struct RangeJson<'a>(&'a Range);
 
@@ -41,7 +40,6 @@ impl Value for Record {
     }
 }
 
-/// Appends the JSON object of a parcel with this number, as one line.
 pub(crate) fn add_parcel_json<M: Letter>(
     plan: &Plan,
     number: u64,
@@ -59,7 +57,6 @@ pub(crate) fn add_parcel_json<M: Letter>(
     text.push_str("}\n")
 }
 
-/// Appends the kind of a parcel, and what it carries.
 fn add_content<M: Letter>(
     plan: &Plan,
     parcel: &Parcel<M>,
@@ -76,7 +73,6 @@ fn add_content<M: Letter>(
     }
 }
 
-/// Appends a want of these ranges.
 fn add_want(plan: &Plan, ranges: &[Range], text: &mut String) -> Result<(), AllocError>
     ensures { OnOk result (string_bytes text.new ≡ string_bytes text.old ++ want_json ranges.now) }
 {
@@ -84,7 +80,6 @@ fn add_want(plan: &Plan, ranges: &[Range], text: &mut String) -> Result<(), Allo
     add_array(plan, ranges, text)
 }
 
-/// Appends a base, by the number of its last section alone.
 fn add_base(upto: u64, text: &mut String) -> Result<(), AllocError>
     ensures { OnOk result (string_bytes text.new ≡ string_bytes text.old ++ base_json upto) }
 {
@@ -92,7 +87,6 @@ fn add_base(upto: u64, text: &mut String) -> Result<(), AllocError>
     add_number("upto", upto, text)
 }
 
-/// Appends the numbers of these records.
 fn add_records(plan: &Plan, records: &[Record], text: &mut String) -> Result<(), AllocError>
     ensures { OnOk result (string_bytes text.new
         ≡ string_bytes text.old ++ records_json records.now) }

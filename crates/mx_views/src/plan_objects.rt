@@ -1,11 +1,10 @@
-//! `check` with `--json`, with its file read from a source and its texts printed to two outputs.
+//! `check` with `--json`.
 
-ghost use Rattle.std.specs.Prelude.{◌≡◌, ◌++◌, true, IsSome, IfSome, IfOk, OnOk, string_bytes};
+ghost use Rattle.std.specs.Prelude.{◌≡◌, ◌++◌, IsSome, IfSome, IfOk, OnOk, string_bytes};
 ghost use Rattle.std.specs.Io.KnownBytes.{Appends};
 ghost use Rattle.mx_cli.specs.Words.{texts_of};
 ghost use Rattle.mx_cli.specs.Reports.{Answers, seen};
 ghost use Rattle.mx_cli.specs.Closed.{IsRunStatus, PassesOn};
-ghost use Rattle.mx_format.specs.AskTexts.{plan_asks_text_by};
 ghost use Rattle.mx_views.specs.PlanObjects.{PrintsObjects, objects_of};
 ghost use Rattle.mx_views.specs.PlanWords.{check_line, plan_asked, plan_request_of};
 
@@ -18,12 +17,7 @@ use mx_plan::Plan;
 use std::alloc::{AllocError, Global};
 
 /// Runs `check` with `--json`. `words` is the command line without the program's name. Returns the
-/// exit status:
-///
-/// - 0 on success, or if help was requested;
-/// - 1 for an error in the plan, a file or an output;
-/// - 2 for wrong arguments;
-/// - 5 if memory ran out.
+/// exit status.
 pub fn check_objects<S: Source, O: Output, E: Output>(
     alloc: Global,
     words: &[&str],
@@ -47,8 +41,6 @@ pub fn check_objects<S: Source, O: Output, E: Output>(
     }
 }
 
-/// Prints what `request` asks for, then flushes `out` and reports an error as `close` does. Returns
-/// the exit status.
 fn check_and_close<S: Source, O: Output, E: Output>(
     alloc: Global,
     request: &PlanRequest<'_>,
@@ -66,7 +58,6 @@ fn check_and_close<S: Source, O: Output, E: Output>(
     close(alloc, ended, &request.names(), out, err)
 }
 
-/// Reads a plan, and prints its JSON objects. Returns the exit status.
 fn check_plan<S: Source, O: Output>(
     alloc: Global,
     request: &PlanRequest<'_>,
@@ -81,8 +72,6 @@ fn check_plan<S: Source, O: Output>(
     print_objects(alloc, &plan, request.has_asks, out)
 }
 
-/// Prints the JSON objects of a plan, and, if `has_asks`, those that say which nodes each node
-/// asks. Returns the exit status.
 fn print_objects<O: Output>(
     alloc: Global,
     plan: &Plan,
@@ -98,23 +87,13 @@ fn print_objects<O: Output>(
     print(text.as_bytes(), out)
 }
 
-/// Appends the JSON objects of a plan, and, if `has_asks`, those that say which nodes each node
-/// asks.
 fn add_objects(plan: &Plan, has_asks: bool, text: &mut String) -> Result<(), AllocError>
     ensures { OnOk result (string_bytes text.new
         ≡ string_bytes text.old ++ objects_of has_asks plan.now) }
 {
     if has_asks {
-        return add_all_objects(plan, text);
+        add_plan_json(plan, text)?;
+        return add_asks_json(plan, text);
     }
     add_plan_json(plan, text)
-}
-
-/// Appends the JSON objects of a plan, and those that say which nodes each node asks.
-fn add_all_objects(plan: &Plan, text: &mut String) -> Result<(), AllocError>
-    ensures { OnOk result (string_bytes text.new
-        ≡ string_bytes text.old ++ plan_asks_text_by true plan.now) }
-{
-    add_plan_json(plan, text)?;
-    add_asks_json(plan, text)
 }

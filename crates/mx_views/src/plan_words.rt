@@ -9,10 +9,8 @@ use clap::{ArgMatches, Error};
 use mx_cli::{CommandId, Names, is_given, matches_in, text_at};
 use std::alloc::Global;
 
-/// What a command line asks to print of a plan.
 #[derive(Clone, Copy)]
 pub(crate) struct PlanRequest<'a> {
-    /// The name of the plan's file.
     pub(crate) plan: &'a str,
     /// Whether to print also which nodes each node asks.
     pub(crate) has_asks: bool,
@@ -29,12 +27,6 @@ impl<'a> PlanRequest<'a> {
     }
 }
 
-/// Parses a command line that begins with `check` and has `--json`.
-///
-/// # Errors
-///
-/// Returns the error of `clap` for wrong arguments, and also, with the text to show, if help is
-/// requested.
 pub(crate) fn parse_plan<'a>(
     alloc: Global,
     words: &'a [&'a str],
@@ -46,7 +38,6 @@ pub(crate) fn parse_plan<'a>(
     Ok(plan_request_in(&matches))
 }
 
-/// Returns what the command line asks to print, or `None` for another command.
 fn plan_request_in<'a>(matches: &ArgMatches<'a>) -> Option<PlanRequest<'a>>
     ensures { option_map plan_request_of result
         ≡ plan_request_in (subcommand_rows_of matches.now) }
@@ -57,7 +48,6 @@ fn plan_request_in<'a>(matches: &ArgMatches<'a>) -> Option<PlanRequest<'a>>
     }
 }
 
-/// Returns what `check` asks to print, or `None` if no plan is named.
 fn plan_in<'a>(matches: &ArgMatches<'a>) -> Option<PlanRequest<'a>>
     ensures { option_map plan_request_of result ≡ plan_in (rows_of (found_of matches.now)) }
 {

@@ -1,5 +1,3 @@
-//! What is shown of a run.
-
 ghost use Rattle.std.specs.Prelude.{◌≡◌, false};
 ghost use Rattle.std.specs.Option.{option_map_or};
 ghost use Rattle.mx_views.specs.Shown.{addressee_of, shows, shows_event, shows_parcel};
@@ -32,7 +30,6 @@ pub(crate) struct Selection<'a> {
 }
 
 impl Selection<'_> {
-    /// Whether the events and the lines of this node are shown.
     pub(crate) fn shows_node(&self, node: NodeId) -> bool
         ensures { result ≡ shows self.now.view.node node }
     {
@@ -42,7 +39,6 @@ impl Selection<'_> {
         }
     }
 
-    /// Whether a parcel is shown: it is from or to a node that is shown.
     pub(crate) fn shows_parcel<M>(&self, sent: &SentParcel<'_, M>) -> bool
         ensures { result ≡ shows_parcel self.now.view.node
             (sent.now.from, sent.now.to, sent.now.parcel.now) }
@@ -50,7 +46,6 @@ impl Selection<'_> {
         self.shows_node(sent.from) || self.shows_node(sent.to)
     }
 
-    /// Whether an event that has happened in this cluster is shown.
     pub(crate) fn shows_event<C: Exclusion>(&self, cluster: &Cluster<C>, event: &Event) -> bool
         ensures { result ≡ shows_event self.now.view.node cluster.now.sent event.now }
     {
@@ -60,7 +55,6 @@ impl Selection<'_> {
         }
     }
 
-    /// Whether a delivery is shown: it is an event of the parcel's addressee.
     fn shows_delivery<C: Exclusion>(&self, cluster: &Cluster<C>, event: &Event) -> bool
         ensures { result ≡ option_map_or (shows self.now.view.node)
             (addressee_of cluster.now.sent event.now) false }

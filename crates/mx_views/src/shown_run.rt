@@ -63,8 +63,6 @@ where
     }
 }
 
-/// Appends what is shown of the newest event, with this index, and of the parcels from number
-/// `before` on, which it sent. A quiet view shows nothing of them.
 fn add_step<C: Exclusion>(
     selection: &Selection<'_>,
     index: u64,
@@ -87,8 +85,6 @@ where
     add_newest(selection, index, before, cluster, text)
 }
 
-/// Appends the line of the newest event, if it is shown, and the line of each shown parcel from
-/// number `before` on, which the event sent.
 fn add_newest<C: Exclusion>(
     selection: &Selection<'_>,
     index: u64,
@@ -111,7 +107,6 @@ where
     add_parcels(selection, cluster, before, text)
 }
 
-/// Appends the line of an event that has happened in this cluster, if the event is shown.
 fn add_event<C: Exclusion>(
     selection: &Selection<'_>,
     index: u64,
@@ -136,7 +131,6 @@ fn add_event<C: Exclusion>(
     })
 }
 
-/// Appends the line of each shown parcel from number `before` on.
 fn add_parcels<C: Exclusion>(
     selection: &Selection<'_>,
     cluster: &Cluster<C>,
@@ -156,7 +150,6 @@ where
     Ok(())
 }
 
-/// Appends the line of the parcel of this number, if the parcel is shown.
 fn add_numbered<C: Exclusion>(
     selection: &Selection<'_>,
     cluster: &Cluster<C>,
@@ -179,7 +172,6 @@ where
     }
 }
 
-/// Appends the line of a parcel with this number, if the parcel is shown.
 fn add_sent<M: Letter>(
     selection: &Selection<'_>,
     number: u64,

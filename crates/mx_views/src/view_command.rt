@@ -1,5 +1,4 @@
-//! `replay` with `--quiet`, `--node`, `--json` or `--state`, with its files read from a source and
-//! its texts printed to two outputs.
+//! `replay` with `--quiet`, `--node`, `--json` or `--state`.
 
 ghost use Rattle.std.specs.Prelude.{◌≡◌, ◌&&◌, IsSome, IfSome, IfOk, length, option_map};
 ghost use Rattle.mx_plan.specs.Events.{events_at};
@@ -25,12 +24,7 @@ use mx_stamps::NodeId;
 use std::alloc::Global;
 
 /// Runs `replay` with `--quiet`, `--node`, `--json` or `--state`. `words` is the command line
-/// without the program's name. Returns the exit status:
-///
-/// - 0 on success, or if help was requested;
-/// - 1 for an error in the plan, its events, the node, a file or an output;
-/// - 2 for wrong arguments;
-/// - 5 if memory ran out.
+/// without the program's name. Returns the exit status.
 pub fn replay_view<S: Source, O: Output, E: Output>(
     alloc: Global,
     words: &[&str],
@@ -57,8 +51,6 @@ pub fn replay_view<S: Source, O: Output, E: Output>(
     }
 }
 
-/// Shows what `request` asks for, then flushes `out` and reports an error as `close` does. Returns
-/// the exit status.
 fn view_and_close<S: Source, O: Output, E: Output>(
     alloc: Global,
     request: &Request<'_>,
@@ -82,7 +74,6 @@ fn view_and_close<S: Source, O: Output, E: Output>(
     }
 }
 
-/// Reads a plan and its events, replays these, and shows what `request` asks for.
 fn view_run<S: Source, O: Output>(
     alloc: Global,
     request: &Request<'_>,
@@ -102,8 +93,6 @@ fn view_run<S: Source, O: Output>(
     }
 }
 
-/// Reads events from `text`, replays them, and shows what `request` asks for. If `text` is not
-/// JSON, the error says that this input is the events.
 fn view_text<O: Output>(
     alloc: Global,
     request: &Request<'_>,
@@ -127,7 +116,6 @@ fn view_text<O: Output>(
     }
 }
 
-/// Replays these events, and shows what `request` asks for.
 fn view_events<O: Output>(
     alloc: Global,
     request: &Request<'_>,
@@ -181,7 +169,6 @@ fn unknown_node(alloc: Global, plan: &Plan, name: &str) -> ViewError
     }
 }
 
-/// Replays these events, and prints what `view` shows. Returns the exit status.
 fn show<O: Output>(
     alloc: Global,
     plan: &Plan,

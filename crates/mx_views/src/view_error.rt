@@ -1,5 +1,3 @@
-//! Why a view of a replay ends early.
-
 ghost use Rattle.std.specs.Prelude.{◌++◌, Some, codes, string_bytes};
 
 use mx_cli::CommandError;

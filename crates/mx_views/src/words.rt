@@ -9,7 +9,6 @@ use clap::{ArgMatches, Error};
 use mx_cli::{CommandId, Names, is_given, matches_in, names_at, text_at};
 use std::alloc::Global;
 
-/// What a command line asks to show of a replay.
 #[derive(Clone, Copy)]
 pub(crate) struct Request<'a> {
     pub(crate) names: Names<'a>,
@@ -17,18 +16,11 @@ pub(crate) struct Request<'a> {
     pub(crate) is_quiet: bool,
     /// The name of the only node that is shown, or `None` for all nodes.
     pub(crate) node: Option<&'a str>,
-    /// Whether JSON is printed, in place of lines.
     pub(crate) is_json: bool,
     /// Whether what each node knows is shown too. JSON always shows it.
     pub(crate) has_state: bool,
 }
 
-/// Parses a command line that begins with `replay`.
-///
-/// # Errors
-///
-/// Returns the error of `clap` for wrong arguments, and also, with the text to show, if help is
-/// requested.
 pub(crate) fn parse<'a>(alloc: Global, words: &'a [&'a str]) -> Result<Option<Request<'a>>, Error>
     ensures { Asks request_of view_line (texts_of words.entry.now)
         (request_asked (texts_of words.entry.now)) result }
@@ -37,7 +29,6 @@ pub(crate) fn parse<'a>(alloc: Global, words: &'a [&'a str]) -> Result<Option<Re
     Ok(from_matches(&matches))
 }
 
-/// Returns what the command line asks to show, or `None` for another command.
 fn from_matches<'a>(matches: &ArgMatches<'a>) -> Option<Request<'a>>
     ensures { option_map request_of result ≡ request_in (subcommand_rows_of matches.now) }
 {
@@ -47,7 +38,6 @@ fn from_matches<'a>(matches: &ArgMatches<'a>) -> Option<Request<'a>>
     }
 }
 
-/// Returns what `replay` asks to show, or `None` if the plan or the events are not named.
 fn view_in<'a>(matches: &ArgMatches<'a>) -> Option<Request<'a>>
     ensures { option_map request_of result ≡ view_in (rows_of (found_of matches.now)) }
 {

@@ -15,9 +15,8 @@ use Rattle.mx_io.specs.Told.{Telling}
 use Rattle.mx_explorer.specs.declared.verdict.Verdict.{Verdict}
 use Rattle.mx_explorer.specs.declared.verdict.Verdict.TheVariants.{Sound}
 use Rattle.mx_walks.specs.declared.summary.Summary.{Summary}
-use Rattle.mx_walks.specs.Printed.{Explores, ExploresWalk, seed_job}
+use Rattle.mx_walks.specs.Printed.{ExploresWalk, walk_job}
 use Rattle.mx_walks.specs.WalkWords.{WalkRequest}
-use Rattle.mx_walks.specs.declared.manner.Manner.TheVariants.{Walk}
 
 -- equal counts, and a sound verdict
 abbrev pub summary : ℕ → ℕ → ℕ → Verdict → Summary
@@ -42,4 +41,4 @@ at_once t a b (Some job) same = inl (tt, same)
 pub short_walk : (t u : Bool) (told : Text → Option Telling) (request : WalkRequest) (old new : Seen) (status : ℕ)
     → RunsOut old new status → ExploresWalk t u told request old.out new.out old.err new.err status
 short_walk t u told request old new status m =
-    (Err command_error.Memory, at_once t old.out new.out (seed_job told request.plan (Walk request.conditions) request.seed request.steps) m.1, inl (m.0, m.2))
+    (Err command_error.Memory, at_once t old.out new.out (walk_job told request) m.1, inl (m.0, m.2))

@@ -1,4 +1,3 @@
 pub mod ExploredLemmas
 pub mod ParcelLemmas
 pub mod StepLemmas
-pub mod SeedsLemmas

@@ -1,5 +1,5 @@
 -- The steps of a walk: whom they name, and the next one.
-use Rattle.std.proofs.Common.{◌≡◌, ◌∙◌, ◌<◌, ◌+◌, ◌-◌, ◌%◌, ◌||◌, ◌&&◌, not, ◌≤◌, ◌≢◌, min, ℕ, zero, suc, Bool, true, false, nat_lt, nat_eq, Option, Some, None, Result, Ok, Err, IfSome, List, ap, arith, length, refl, slice_get, sym}
+use Rattle.std.proofs.Common.{◌≡◌, ◌∙◌, ◌<◌, ◌+◌, ◌-◌, ◌%◌, ◌||◌, ◌≤◌, ◌≢◌, min, ℕ, zero, suc, Bool, true, false, nat_lt, nat_eq, Option, Some, None, Result, Ok, Err, IfSome, List, ap, arith, length, refl, slice_get, sym}
 use Rattle.std.proofs.Math.Nat.{mod-lt}
 use Rattle.std.specs.Option.{option_map_or}
 use Rattle.std.specs.Prelude.{OnOk, if◌then◌else◌, slice_index_or}
@@ -15,8 +15,8 @@ use Rattle.mx_events.specs.declared.event.Event.TheVariants.{Deliver}
 use Rattle.mx_network.specs.Step.{ClusterState}
 use Rattle.mx_explorer.specs.Drawn.{IsDrawn, after_words, word}
 use Rattle.mx_walks.specs.declared.conditions.Conditions.{Conditions}
-use Rattle.mx_walks.specs.Walk.{Draw, Step, WalkState, act_by, acted, actor, byte_of, chosen, is_delivery, idle_by, is_empty, looked, with_words, inside_by, is_ready_at, member_act, next_step, node_act, own_step, repeated, step_by, taken_up, without, ready_from, waiting_by}
-use Rattle.mx_walks.specs.Walked.{after_step, walk_after, walked}
+use Rattle.mx_walks.specs.Walk.{Draw, Step, WalkState, act_by, acted, actor, byte_of, chosen, is_delivery, idle_by, is_empty, looked, with_words, inside_by, is_ready_at, member_act, next_step, own_step, repeated, step_by, taken_up, without, ready_from, waiting_by}
+use Rattle.mx_walks.specs.Walked.{after_step, walked}
 
 module _ (nodes registers : ℕ) where
   abbrev Named : Option Event → Type 0

@@ -1,7 +1,6 @@
--- The summary of the events that are drawn from a seed, and its text.
+-- The summary of the walk of a seed, and its text.
 use Rattle.std.specs.Prelude.{ℕ, ◌++◌, length}
 use Rattle.std.specs.List.{count_by}
-use Rattle.mx_nodelaws.specs.Core.{Core}
 use Rattle.mx_ricart.specs.Step.{ricart_core}
 use Rattle.mx_maekawa.specs.Step.{maekawa_core}
 use Rattle.mx_raymond.specs.Step.{raymond_core}
@@ -12,19 +11,12 @@ use Rattle.mx_plan.specs.Fields.{Fields}
 use Rattle.mx_plan.specs.declared.shape.Shape.{Shape}
 use Rattle.mx_plan.specs.declared.shape.Shape.TheVariants.{Ricart, Maekawa, Raymond}
 use Rattle.mx_format.specs.PlanTexts.{explored_line}
-use Rattle.mx_commands.specs.Explored.{after_drawn, is_entry, schedule_of}
+use Rattle.mx_commands.specs.Explored.{is_entry}
 use Rattle.mx_commands.specs.Runs.{at_rest}
 use Rattle.mx_commands.specs.VerdictLines.{verdict_line}
-use Rattle.mx_walks.specs.declared.manner.Manner.{Manner}
-use Rattle.mx_walks.specs.declared.manner.Manner.TheVariants.{Schedule, Walk}
+use Rattle.mx_walks.specs.declared.conditions.Conditions.{Conditions}
 use Rattle.mx_walks.specs.declared.summary.Summary.{Summary}
 use Rattle.mx_walks.specs.Walked.{after_walk}
-
--- the cluster after the events of a seed
-abbrev pub after_seed : {H S M : Type 0} → Core H S M → Fields → Manner → ℕ → ℕ
-    → ClusterState S M → ClusterState S M
-after_seed core p Schedule seed steps g = after_drawn core g (schedule_of p seed steps)
-after_seed core p (Walk conditions) seed steps g = after_walk core p conditions seed steps g
 
 -- the summary of a cluster after this many steps. Its verdict is sound
 abbrev pub summary_in : {S M : Type 0} → ℕ → ClusterState S M → Summary
@@ -36,19 +28,20 @@ summary_in steps g =
       verdict = Sound;
     }
 
--- the summary of the events of a seed in the cluster of a plan, by the plan's algorithm
-abbrev pub summary_of : Fields → Manner → ℕ → ℕ → Shape → Summary
-summary_of p manner seed steps (Ricart count) =
-    summary_in steps (after_seed ricart_core p manner seed steps (at_rest ricart_core p count))
-summary_of p manner seed steps (Maekawa family) =
-    summary_in steps (after_seed maekawa_core p manner seed steps (at_rest maekawa_core p family))
-summary_of p manner seed steps (Raymond tree) =
-    summary_in steps (after_seed raymond_core p manner seed steps (at_rest raymond_core p tree))
+-- the summary of the walk of a seed in the cluster of a plan, by the plan's algorithm
+abbrev pub summary_of : Fields → Conditions → ℕ → ℕ → Shape → Summary
+summary_of p conditions seed steps (Ricart count) =
+    summary_in steps (after_walk ricart_core p conditions seed steps (at_rest ricart_core p count))
+summary_of p conditions seed steps (Maekawa family) =
+    summary_in steps
+    (after_walk maekawa_core p conditions seed steps (at_rest maekawa_core p family))
+summary_of p conditions seed steps (Raymond tree) =
+    summary_in steps (after_walk raymond_core p conditions seed steps (at_rest raymond_core p tree))
 
 -- the counts, and the verdict
 abbrev pub summary_text : Summary → Text
 summary_text s = explored_line s.steps s.entered s.sent ++ verdict_line s.verdict
 
--- what is printed for a seed
-abbrev pub seed_text : Fields → Manner → ℕ → ℕ → Text
-seed_text p manner seed steps = summary_text (summary_of p manner seed steps p.shape)
+-- what is printed for the walk of a seed
+abbrev pub walk_text : Fields → Conditions → ℕ → ℕ → Text
+walk_text p conditions seed steps = summary_text (summary_of p conditions seed steps p.shape)

@@ -1,5 +1,5 @@
 -- A walk: what happens next in a cluster, by the words (32-bit numbers) of a generator.
-use Rattle.std.specs.Prelude.{ℕ, zero, suc, ◌+◌, ◌-◌, ◌*◌, ◌/◌, ◌%◌, ◌&&◌, ◌||◌, Bool, true, false, not, List, [], ◌∷◌, ◌++◌, Option, Some, None, length, min, nat_eq, nat_lt, position, slice_get, slice_index_or, if◌then◌else◌}
+use Rattle.std.specs.Prelude.{ℕ, zero, suc, ◌+◌, ◌-◌, ◌*◌, ◌/◌, ◌%◌, ◌&&◌, ◌||◌, Bool, false, not, List, [], ◌∷◌, ◌++◌, Option, Some, None, length, min, nat_eq, nat_lt, position, slice_get, slice_index_or, if◌then◌else◌}
 use Rattle.std.specs.List.{range_with_len, swap_remove}
 use Rattle.std.specs.Option.{option_map_or}
 use Rattle.rand_pcg.specs.Lcg.{Lcg}
@@ -15,6 +15,7 @@ use Rattle.mx_network.specs.Step.{ClusterState}
 use Rattle.mx_explorer.specs.Drawn.{after_words, word}
 use Rattle.mx_explorer.specs.Weather.{generator_of}
 use Rattle.mx_walks.specs.declared.conditions.Conditions.{Conditions}
+use Rattle.mx_walks.specs.declared.walk.Walk.{Walk}
 
 -- ---- what a node does by itself
 
@@ -96,6 +97,9 @@ pub record WalkState : Type 0 where
   pub flying : List ℕ
   pub seen : ℕ
 
+abbrev pub state_of : Walk → WalkState
+state_of w = record { words = w.words; flying = w.flying.items; seen = w.seen }
+
 -- the walk of a seed, before its first step
 abbrev pub at_first : ℕ → WalkState
 at_first seed = record { words = generator_of seed; flying = []; seen = 0 }
@@ -114,7 +118,6 @@ pub record Step : Type 0 where
   pub event : Option Event
   pub after : WalkState
 
--- a walk with this generator
 abbrev pub with_words : Lcg → WalkState → WalkState
 with_words g w = record { words = g; flying = w.flying; seen = w.seen }
 
@@ -142,7 +145,6 @@ module _ {H S M : Type 0} (core : Core H S M) where
       if is_ready_at members ((any + offset) % nodes) then (any + offset) % nodes
       else ready_from members nodes any (offset + 1) left
 
-  -- what a member does by itself
   abbrev pub member_act : ℕ → ℕ → Bool → ℕ → Lcg → MemberState S → Draw
   member_act nodes registers is_calm i g m =
       act_by (core.phase m.core) nodes registers i (first_gap m.journal - 1)
@@ -209,7 +211,6 @@ module _ {H S M : Type 0} (core : Core H S M) where
         else own_step
         (acted g.members nodes registers (is_empty w.flying) (n % 64) w.words) w
 
-    -- the next step
     abbrev pub next_step : ClusterState S M → ℕ → ℕ → WalkState → Step
     next_step g nodes registers w =
         step_by g nodes registers (word w.words) (with_words (after_words 1 w.words) w)

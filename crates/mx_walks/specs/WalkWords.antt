@@ -41,7 +41,6 @@ request_of walk =
       conditions = walk.conditions;
     }
 
--- the request of the given arguments
 abbrev pub walk_in : List Row → Option WalkRequest
 walk_in rows =
     option_map

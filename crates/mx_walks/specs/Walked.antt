@@ -1,15 +1,13 @@
 -- The cluster after a walk of a number of steps.
-use Rattle.std.specs.Prelude.{ℕ, zero, suc, Option, length}
+use Rattle.std.specs.Prelude.{ℕ, zero, suc, length}
 use Rattle.mx_nodelaws.specs.Core.{Core}
-use Rattle.mx_events.specs.declared.event.Event.{Event}
 use Rattle.mx_network.specs.Step.{ClusterState}
 use Rattle.mx_plan.specs.Fields.{Fields}
 use Rattle.mx_commands.specs.Explored.{after_placed}
 use Rattle.mx_walks.specs.declared.conditions.Conditions.{Conditions}
-use Rattle.mx_walks.specs.Walk.{Step, WalkState, at_first, looked, next_step}
+use Rattle.mx_walks.specs.Walk.{WalkState, at_first, looked, next_step}
 
 module _ {H S M : Type 0} (core : Core H S M) (conditions : Conditions) (nodes registers : ℕ) where
-  -- the cluster after a step
   abbrev pub after_step : WalkState → ClusterState S M → ClusterState S M
   after_step w g = after_placed core g (next_step core conditions g nodes registers w).event
 

@@ -5,13 +5,12 @@ ghost use Rattle.mx_cli.specs.Closed.{IsRunStatus, PassesOn};
 ghost use Rattle.mx_cli.specs.Reports.{Answers, seen};
 ghost use Rattle.mx_cli.specs.Words.{names_of, texts_of};
 ghost use Rattle.mx_commands.specs.Ran.{RanOn};
-ghost use Rattle.mx_walks.specs.Printed.{Explores, ExploresWalk, seed_job};
+ghost use Rattle.mx_walks.specs.Printed.{ExploresWalk, walk_job};
 ghost use Rattle.mx_walks.specs.WalkWords.{request_asked, request_of, walk_line};
 
-use crate::manner::Manner;
 use crate::walk_words::{WalkRequest, parse_walk};
 use crate::walked_cluster::explore_plan;
-use mx_cli::{CommandError, Exploration, Names, close, fetch_plan, refuse};
+use mx_cli::{CommandError, Names, close, fetch_plan, refuse};
 use mx_io::{Output, Source};
 use std::alloc::Global;
 
@@ -46,8 +45,6 @@ pub fn explore_walk<S: Source, O: Output, E: Output>(
     }
 }
 
-/// Runs the walk of a request, flushes the output, and reports a fault if there is one. Returns the
-/// status.
 fn run_walk<S: Source, O: Output, E: Output>(
     alloc: Global,
     request: &WalkRequest<'_>,
@@ -62,61 +59,39 @@ fn run_walk<S: Source, O: Output, E: Output>(
         result }
     ensures status { IsRunStatus result }
 {
-    let manner = Manner::Walk(request.conditions);
-    run_seed(alloc, &request.exploration, &manner, source, out, err)
-}
-
-/// Explores a seed, flushes the output, and reports a fault if there is one. Returns the status.
-fn run_seed<S: Source, O: Output, E: Output>(
-    alloc: Global,
-    exploration: &Exploration<'_>,
-    manner: &Manner,
-    source: &mut S,
-    out: &mut O,
-    err: &mut E,
-) -> u8
-    ensures explores { Explores (O.takes_all out.old) (E.takes_all err.old) exploration.now.plan.now
-        (seed_job (S.told source.old) exploration.now.plan.now manner.now
-        exploration.now.seed exploration.now.steps)
-        (O.written out.old) (O.written out.new) (E.written err.old) (E.written err.new) result }
-    ensures passed { PassesOn (E.written err.old) (E.written err.new) (O.keeps_back out.new)
-        result }
-    ensures status { IsRunStatus result }
-{
-    let names = plan_alone(exploration);
-    let ended = explore_named(alloc, exploration, manner, source, out);
+    let names = plan_alone(request);
+    let ended = explore_named(alloc, request, source, out);
     close(alloc, ended, &names, out, err)
 }
 
 /// Returns the file names for messages: the plan's, also in place of a second file's.
-fn plan_alone<'a>(exploration: &Exploration<'a>) -> Names<'a>
-    ensures { names_of result ≡ (exploration.now.plan.now, exploration.now.plan.now) }
+fn plan_alone<'a>(request: &WalkRequest<'a>) -> Names<'a>
+    ensures { names_of result
+        ≡ (request.now.exploration.plan.now, request.now.exploration.plan.now) }
 {
     Names {
-        plan: exploration.plan,
-        events: exploration.plan,
+        plan: request.exploration.plan,
+        events: request.exploration.plan,
     }
 }
 
-/// Reads the plan, and explores a seed. Returns the status.
 fn explore_named<S: Source, O: Output>(
     alloc: Global,
-    exploration: &Exploration<'_>,
-    manner: &Manner,
+    request: &WalkRequest<'_>,
     source: &mut S,
     out: &mut O,
 ) -> Result<u8, CommandError>
-    ensures ran { IfSome (seed_job (S.told source.old) exploration.now.plan.now manner.now
-        exploration.now.seed exploration.now.steps)
+    ensures ran { IfSome (walk_job (S.told source.old) (request_of request.now))
         (λ job. RanOn (O.takes_all out.old) (O.written out.old) (O.written out.new) job result) }
     ensures zero { IfOk result (λ status. status ≡ 0) }
     ensures stays { O.takes_all out.new ≡ O.takes_all out.old }
 {
+    let exploration = &request.exploration;
     let plan = fetch_plan(alloc, source, exploration.plan)?;
     explore_plan(
         alloc,
         &plan,
-        manner,
+        &request.conditions,
         exploration.seed,
         exploration.steps,
         out,

@@ -8,7 +8,6 @@ use mx_stamps::{MAX_NODES, NodeId};
 use rand_core::utils::NextWord;
 use rand_pcg::Pcg32;
 
-/// Draws one of the first `nodes` nodes by the generator's next word.
 pub(crate) fn draw_node(words: &mut Pcg32, nodes: u8) -> NodeId
     requires nodes { (0 < nodes) × (nodes ≤ MAX_NODES) }
     ensures value { result ≡ word words.old % nodes }
@@ -17,7 +16,6 @@ pub(crate) fn draw_node(words: &mut Pcg32, nodes: u8) -> NodeId
     NodeId::of(draw_below(words, nodes)).unwrap()
 }
 
-/// Draws a number below `count` by the generator's next word.
 pub(crate) fn draw_below(words: &mut Pcg32, count: u8) -> u8
     requires { 0 < count }
     ensures value { result ≡ word words.old % count }

@@ -3,7 +3,7 @@
 ghost use Rattle.std.specs.Prelude.{◌≡◌, ◌≤◌, ◌<◌, ◌-◌, ◌%◌};
 ghost use Rattle.mx_member.specs.Member.{first_gap};
 ghost use Rattle.mx_explorer.specs.Drawn.{after_words, word};
-ghost use Rattle.mx_walks.specs.Walk.{act_by, acted, actor, idle_by, inside_by, is_ready, is_ready_at, member_act, node_act, ready_from, waiting_by};
+ghost use Rattle.mx_walks.specs.Walk.{acted, actor, idle_by, inside_by, is_ready, is_ready_at, member_act, node_act, ready_from, waiting_by};
 
 use crate::draws::{draw_below, draw_node};
 use mx_journal::Journal;
@@ -40,8 +40,6 @@ pub(crate) fn act<C: Exclusion>(
     act_at(words, nodes, registers, cluster, node, is_calm)
 }
 
-/// Returns the node that acts: the drawn node `any` if `chance` (0 to 63) is below 4, else the
-/// first from it on that may enter or is inside, or `any` if there is none.
 fn actor<C: Exclusion>(nodes: u8, cluster: &Cluster<C>, chance: u32, any: NodeId) -> NodeId
     requires { (0 < nodes) × (nodes ≤ MAX_NODES) }
     ensures { result ≡ actor C.core cluster.now.members nodes chance any }
@@ -53,7 +51,6 @@ fn actor<C: Exclusion>(nodes: u8, cluster: &Cluster<C>, chance: u32, any: NodeId
     }
 }
 
-/// Returns what this node does by itself, if anything. `is_calm` says that no parcel is under way.
 fn act_at<C: Exclusion>(
     words: &mut Pcg32,
     nodes: u8,
@@ -75,8 +72,6 @@ fn act_at<C: Exclusion>(
     }
 }
 
-/// Returns what a node does by itself in its phase, if anything. `member` is its state; `is_calm`
-/// says that no parcel is under way.
 fn act_as<C: Exclusion>(
     words: &mut Pcg32,
     nodes: u8,
@@ -99,15 +94,12 @@ fn act_as<C: Exclusion>(
     }
 }
 
-/// Returns the number of the section up to which a journal has no gap.
 fn gapless_to(journal: &Journal) -> u64
     ensures { result ≡ first_gap journal.now - 1 }
 {
     journal.gapless_to()
 }
 
-/// Returns what an idle node does, if anything: it asks, wants the records of a node, or settles
-/// its journal up to section `gapless`.
 fn be_idle(words: &mut Pcg32, nodes: u8, node: NodeId, gapless: u64) -> Option<Event>
     requires { (0 < nodes) × (nodes ≤ MAX_NODES) }
     ensures event { result
@@ -119,7 +111,6 @@ fn be_idle(words: &mut Pcg32, nodes: u8, node: NodeId, gapless: u64) -> Option<E
     idle_by(number, words, nodes, node, gapless)
 }
 
-/// Returns what an idle node does, if anything, as `number` (0 to 15) chooses.
 fn idle_by(number: u32, words: &mut Pcg32, nodes: u8, node: NodeId, gapless: u64) -> Option<Event>
     requires { (0 < nodes) × (nodes ≤ MAX_NODES) }
     ensures event { result ≡ (idle_by number nodes node gapless words.old).0 }
@@ -136,8 +127,6 @@ fn idle_by(number: u32, words: &mut Pcg32, nodes: u8, node: NodeId, gapless: u64
     }
 }
 
-/// Returns what a waiting node does, if anything: seldom it cancels; else it enters if it may; else
-/// it ticks, but seldom unless no parcel is under way (`is_calm`).
 fn wait(words: &mut Pcg32, node: NodeId, may_enter: bool, is_calm: bool) -> Option<Event>
     ensures event { result ≡ waiting_by (word words.old % 64) node may_enter is_calm }
     ensures next { words.new ≡ after_words 1 words.old }
@@ -154,7 +143,6 @@ fn wait(words: &mut Pcg32, node: NodeId, may_enter: bool, is_calm: bool) -> Opti
     }
 }
 
-/// Returns what a node inside does: it reads, writes, wants the records of a node, or leaves.
 fn be_inside(words: &mut Pcg32, nodes: u8, registers: u8, node: NodeId) -> Option<Event>
     requires nodes { (0 < nodes) × (nodes ≤ MAX_NODES) }
     requires registers { 0 < registers }
@@ -167,7 +155,6 @@ fn be_inside(words: &mut Pcg32, nodes: u8, registers: u8, node: NodeId) -> Optio
     inside_by(number, words, nodes, registers, node)
 }
 
-/// Returns what a node inside does, as `number` (0 to 15) chooses.
 fn inside_by(
     number: u32,
     words: &mut Pcg32,
@@ -192,8 +179,6 @@ fn inside_by(
     }
 }
 
-/// Returns the first node from `any` on, in cyclic order, that may enter or is inside, or `any` if
-/// there is none.
 fn ready_or<C: Exclusion>(nodes: u8, cluster: &Cluster<C>, any: NodeId) -> NodeId
     requires { (0 < nodes) × (nodes ≤ MAX_NODES) }
     ensures { result ≡ ready_from C.core cluster.now.members nodes any 0
@@ -208,7 +193,6 @@ fn ready_or<C: Exclusion>(nodes: u8, cluster: &Cluster<C>, any: NodeId) -> NodeI
     any
 }
 
-/// Returns the node of this number.
 fn node_at(number: u8) -> NodeId
     requires { number < MAX_NODES }
     ensures { result ≡ number }
@@ -216,7 +200,6 @@ fn node_at(number: u8) -> NodeId
     NodeId::of(number).unwrap()
 }
 
-/// Whether a node may enter or is inside.
 fn is_ready_at<C: Exclusion>(cluster: &Cluster<C>, node: NodeId) -> bool
     ensures { result ≡ is_ready_at C.core cluster.now.members node }
 {
@@ -226,7 +209,6 @@ fn is_ready_at<C: Exclusion>(cluster: &Cluster<C>, node: NodeId) -> bool
     }
 }
 
-/// Whether a member may enter or is inside.
 fn is_ready<C: Exclusion>(member: &Member<C>) -> bool
     ensures { result ≡ is_ready C.core member.now }
 {

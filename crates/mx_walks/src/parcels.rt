@@ -9,7 +9,6 @@ use mx_nodelaws::Exclusion;
 use mx_stamps::NodeId;
 use std::alloc::AllocError;
 
-/// Adds the newest parcels, numbered `seen` to `sent - 1`, to `flying`, those under way.
 pub(crate) fn put_new(flying: &mut Vec<u64>, seen: u64, sent: u64) -> Result<(), AllocError>
     ensures { OnOk result
         (flying.new.items ≡ flying.old.items ++ range_with_len seen (sent - seen)) }
@@ -20,7 +19,6 @@ pub(crate) fn put_new(flying: &mut Vec<u64>, seen: u64, sent: u64) -> Result<(),
     Ok(())
 }
 
-/// Removes a parcel from `flying`, those under way. The last of the list takes its place.
 pub(crate) fn take(flying: &mut Vec<u64>, number: u64)
     ensures { flying.new.items ≡ without number flying.old.items }
 {
@@ -32,7 +30,6 @@ pub(crate) fn take(flying: &mut Vec<u64>, number: u64)
     }
 }
 
-/// Returns the place of a parcel in the list of those under way.
 fn place_of(number: u64, flying: &[u64]) -> Option<usize>
     ensures value { result ≡ position (nat_eq number) flying.now }
     ensures within { IfSome result (λ place. place < length flying.now) }
@@ -46,8 +43,6 @@ fn is_same(number: u64, other: u64) -> bool
     number == other
 }
 
-/// Returns the oldest parcel under way from and to the same nodes as parcel `number`, or `number`
-/// if none is older.
 pub(crate) fn oldest_beside<C: Exclusion>(cluster: &Cluster<C>, flying: &[u64], number: u64) -> u64
     ensures { result ≡ oldest_beside cluster.now.sent flying.now number }
 {
@@ -57,7 +52,6 @@ pub(crate) fn oldest_beside<C: Exclusion>(cluster: &Cluster<C>, flying: &[u64], 
     }
 }
 
-/// Returns the least of `number` and the numbers of the parcels under way from one node to another.
 fn oldest_on<C: Exclusion>(
     cluster: &Cluster<C>,
     from: NodeId,
@@ -74,8 +68,6 @@ fn oldest_on<C: Exclusion>(
     oldest
 }
 
-/// Returns the lesser of `oldest` and `other` if parcel `other` goes from `from` to `to`, else
-/// `oldest`.
 fn older_of<C: Exclusion>(
     cluster: &Cluster<C>,
     from: NodeId,
@@ -93,7 +85,6 @@ fn older_of<C: Exclusion>(
     }
 }
 
-/// Whether the parcel of this number goes from `from` to `to`.
 fn is_on<C: Exclusion>(cluster: &Cluster<C>, from: NodeId, to: NodeId, number: u64) -> bool
     ensures { result ≡ is_on cluster.now.sent from to number }
 {
@@ -103,14 +94,12 @@ fn is_on<C: Exclusion>(cluster: &Cluster<C>, from: NodeId, to: NodeId, number: u
     }
 }
 
-/// Returns whether no parcel is under way.
 pub(crate) fn is_empty(flying: &[u64]) -> bool
     ensures { result ≡ is_empty flying.now }
 {
     flying.len() == 0
 }
 
-/// Returns the parcel under way that a word draws.
 pub(crate) fn drawn_of(word: u32, flying: &[u64]) -> u64
     requires { is_empty flying.now ≡ false }
     ensures { result ≡ slice_index_or flying.now (word % length flying.now) 0 }

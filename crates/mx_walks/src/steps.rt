@@ -2,8 +2,7 @@
 
 ghost use Rattle.std.specs.Prelude.{◌≡◌, ◌<◌, ◌≤◌, length, OnOk};
 ghost use Rattle.mx_commands.specs.Explored.{after_placed};
-ghost use Rattle.mx_walks.specs.States.{state_of};
-ghost use Rattle.mx_walks.specs.Walk.{at_first, looked, next_step};
+ghost use Rattle.mx_walks.specs.Walk.{at_first, looked, next_step, state_of};
 ghost use Rattle.mx_walks.specs.Walked.{after_walk, walked};
 
 use crate::conditions::Conditions;
@@ -38,7 +37,6 @@ pub fn walk_cluster<C: Exclusion>(
     )
 }
 
-/// Runs a walk over the first `nodes` nodes and `registers` registers.
 fn walk_over<C: Exclusion>(
     alloc: Global,
     nodes: u8,
@@ -60,7 +58,6 @@ fn walk_over<C: Exclusion>(
     Ok(())
 }
 
-/// Takes the next step of a walk: applies its event, if there is one, and notes the parcels sent.
 fn step<C: Exclusion>(
     nodes: u8,
     registers: u8,

@@ -1,4 +1,4 @@
-//! The summary of the events drawn from a seed.
+//! The summary of a walk.
 
 ghost use Rattle.std.specs.Prelude.{◌≡◌, Some};
 ghost use Rattle.mx_walks.specs.Summaries.{summary_text};
@@ -10,15 +10,14 @@ use std::fmt;
 
 /// How many steps were taken, sections entered and parcels sent, and the verdict on the trace.
 #[derive(Clone, Copy)]
-pub struct Summary {
-    pub steps: u64,
-    pub entered: u64,
-    pub sent: u64,
-    pub verdict: Verdict,
+pub(crate) struct Summary {
+    pub(crate) steps: u64,
+    pub(crate) entered: u64,
+    pub(crate) sent: u64,
+    pub(crate) verdict: Verdict,
 }
 
 impl Summary {
-    /// Returns the line of the counts, without the verdict.
     fn counts(&self) -> ExploredLine
         ensures steps { result.steps ≡ self.now.steps }
         ensures entered { result.entered ≡ self.now.entered }

@@ -1,8 +1,7 @@
 //! The next step of a walk: it mostly delivers a parcel; else a node acts by itself.
 
 ghost use Rattle.std.specs.Prelude.{◌≡◌, ◌<◌, ◌≤◌, OnOk, false};
-ghost use Rattle.mx_walks.specs.Walk.{at_first, chosen, is_delivery, is_empty, looked, next_step, repeated, taken_up};
-ghost use Rattle.mx_walks.specs.States.{state_of};
+ghost use Rattle.mx_walks.specs.Walk.{at_first, chosen, is_delivery, is_empty, looked, next_step, repeated, state_of, taken_up};
 
 use crate::conditions::Conditions;
 use crate::draws::byte_of;
@@ -46,7 +45,6 @@ impl Walk {
         }
     }
 
-    /// Adds the parcels sent since the last look to those under way; `sent` counts all so far.
     pub(crate) fn look(&mut self, sent: u64) -> Result<(), AllocError>
         ensures { OnOk result (state_of self.new ≡ looked sent (state_of self.old)) }
     {
@@ -83,8 +81,6 @@ impl Walk {
         act(&mut self.words, nodes, registers, cluster, chance, is_calm)
     }
 
-    /// Returns a delivery of one of the newest parcels, or of the one that `chosen` puts in its
-    /// place; `None` if no parcel was sent. What is under way stays so.
     fn repeat<C: Exclusion>(
         &mut self,
         conditions: &Conditions,
@@ -104,8 +100,6 @@ impl Walk {
         Some(Event::Deliver(number))
     }
 
-    /// Takes up a drawn parcel under way, or the one that `chosen` puts in its place. Returns the
-    /// delivery of that parcel, or `None` if it is lost.
     fn take_up<C: Exclusion>(
         &mut self,
         conditions: &Conditions,
@@ -128,8 +122,6 @@ impl Walk {
         }
     }
 
-    /// Returns the parcel that is taken in place of parcel `number`: if links keep their order, the
-    /// oldest under way from and to the same nodes, if one is older; else `number` itself.
     fn chosen<C: Exclusion>(
         &self,
         conditions: &Conditions,
@@ -147,8 +139,6 @@ impl Walk {
     }
 }
 
-/// Whether a step of this `chance` (0 to 63) delivers or loses a parcel under way; not if there is
-/// none (`is_calm`).
 fn is_delivery(chance: u32, is_calm: bool) -> bool
     ensures { result ≡ is_delivery chance is_calm }
 {

@@ -16,19 +16,12 @@ const LOSS: u64 = 4;
 /// The chance in 256 that a step repeats a parcel, if `--repeat` is absent.
 const REPEAT: u64 = 8;
 
-/// What a walk is asked to do: its plan, seed and number of steps, and what becomes of parcels.
 #[derive(Clone, Copy)]
 pub(crate) struct WalkRequest<'a> {
     pub(crate) exploration: Exploration<'a>,
     pub(crate) conditions: Conditions,
 }
 
-/// Parses a command line that is `explore` with `--walk`.
-///
-/// # Errors
-///
-/// Returns the error of `clap` for wrong arguments, and also, with the text to show, if help is
-/// requested.
 pub(crate) fn parse_walk<'a>(
     alloc: Global,
     words: &'a [&'a str],
@@ -49,7 +42,6 @@ fn from_matches<'a>(matches: &ArgMatches<'a>) -> Option<WalkRequest<'a>>
     }
 }
 
-/// Returns the request that the arguments of `explore` give, if it is whole.
 fn walk_in<'a>(matches: &ArgMatches<'a>) -> Option<WalkRequest<'a>>
     ensures { option_map request_of result ≡ walk_in (rows_of (found_of matches.now)) }
 {
@@ -73,7 +65,6 @@ pub fn conditions_in(matches: &ArgMatches<'_>) -> Conditions
     }
 }
 
-/// Returns the number of the option named `id`, or `other` if the option is absent.
 fn number_or(matches: &ArgMatches<'_>, id: &str, other: u64) -> u64
     ensures { result ≡ number_or id.now other (rows_of (found_of matches.now)) }
 {

@@ -1,13 +1,14 @@
-use Rattle.std.proofs.Common.{◌∙◌, ap}
+use Rattle.std.proofs.Common.{◌∙◌, ap, subst}
 use Rattle.std.proofs.lemmas.List.{take_all}
-use Rattle.clap.specs.Words.{app_of}
+use Rattle.clap.specs.Words.{App, app_of, new_app}
 use Rattle.mx_cli.specs.Table.{listed_app, with_commands}
+use Rattle.mx_cli.specs.Words.{IsCommand}
 use Rattle.mx_cli.proofs.LineLemmas.{commands_more}
 use Rattle.mx_cli.proofs.line.with_listed.Goals as goal
 
 pub loop-id-preserved : goal.loop-id-preserved
 loop-id-preserved c =
-    commands_more listed_app (app_of c.args.line) c.args.ids.now c.loop-id.id-index _ c.loop-id-test.true c.loop-id.invariant c.listed_command.ensures c.in_ok-line.ensures
+    commands_more listed_app (app_of c.args.line) c.args.ids.now c.loop-id.id-index _ c.loop-id-test.true c.loop-id.invariant (subst (λ (a : App). IsCommand (new_app a.top.name) c.listed_row.result) c.row_of.ensures c.listed_row.ensures) c.in_ok-line.ensures
 
 pub returns : goal.returns
 returns c = c.loop-id.invariant ∙ ap (with_commands listed_app (app_of c.args.line)) (take_all c.loop-id.id-index c.args.ids.now c.loop-id-test.false)

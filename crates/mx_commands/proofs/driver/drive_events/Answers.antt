@@ -41,7 +41,7 @@ returns-in_err-drive_event-clause-ran g c =
     let at_event = subst (λ (x : Event). StopsAt k (step_of core c.loop-index.cluster x) s) c.index-events-index.is c.in_err-drive_event.ensures.err in
     let texts = g.K.Sink.texts c.args.sink.now c.args.plan.now in
     let final = stopped_at core texts (g.O.Output.takes_all c.args.out.now) (g.O.Output.written c.args.out.now) (g.O.Output.written c.loop-index.out)
-    c.args.events.now (report_from core texts 0 c.args.cluster.now c.args.events.now) k c.loop-index.cluster c.index-events-index.result s i.written.0 c.loop-index-test.true i.written.2 i.written.1 at_event in
+    c.args.events.now (report_from core texts 0 c.args.cluster c.args.events.now) k c.loop-index.cluster c.index-events-index.result s i.written.0 c.loop-index-test.true i.written.2 i.written.1 at_event in
     let is : c.from_residual.result ≡ Err s = err_is c.from_residual.result s c.from_residual.ensures.1 in
     rw is final
 
@@ -52,10 +52,10 @@ returns-in_err-put-clause-ran g c =
     let core = g.C.Exclusion.core in
     let texts = g.K.Sink.texts c.args.sink.now c.args.plan.now in
     let final = stopped_by (g.O.Output.takes_all c.args.out.now) (g.O.Output.takes_all c.loop-index.out) (g.O.Output.written c.args.out.now) (g.O.Output.written c.loop-index.out)
-    (g.O.Output.written c.put.new.self) (report_from core texts 0 c.args.cluster.now c.args.events.now)
+    (g.O.Output.written c.put.new.self) (report_from core texts 0 c.args.cluster c.args.events.now)
     (remaining core texts c.args.events.now c.loop-index.index c.loop-index.cluster)
     i.written.0 f i.written.2 i.written.1 c.in_err-put.ensures.err i.stays c.in_err-put.ensures.takes in
-    let is : c.from_residual-in_err-put.result ≡ Err (error_of f) = search rules in
+    let is : c.from_residual-in_err-put.result ≡ Err (error_of f) = err_is c.from_residual-in_err-put.result (error_of f) c.from_residual-in_err-put.ensures.1 in
     rw is final
 
 pub loop-index-preserved : goal.loop-index-preserved
@@ -96,7 +96,7 @@ returns-in_err-status-clause-ran g c =
     let texts = g.K.Sink.texts c.args.sink.now c.args.plan.now in
     let p = c.args.plan.now in
     let es = c.args.events.now in
-    let final = done_some (g.O.Output.written c.args.out.now) (g.O.Output.written c.loop-index.out) (report_from core texts 0 c.args.cluster.now es)
+    let final = done_some (g.O.Output.written c.args.out.now) (g.O.Output.written c.loop-index.out) (report_from core texts 0 c.args.cluster es)
     (remaining core texts es c.loop-index.index c.loop-index.cluster) i.written.0 i.written.2 i.written.1 in
     let is : c.from_residual-in_err-status.result ≡ Err command_error.Memory =
     err_is c.from_residual-in_err-status.result command_error.Memory c.from_residual-in_err-status.ensures.1 in
@@ -109,7 +109,7 @@ returns-in_err-put-2-clause-ran g c =
     let core = g.C.Exclusion.core in
     let texts = g.K.Sink.texts c.args.sink.now c.args.plan.now in
     let final = stopped_by (g.O.Output.takes_all c.args.out.now) (g.O.Output.takes_all c.loop-index.out) (g.O.Output.written c.args.out.now) (g.O.Output.written c.loop-index.out)
-    (g.O.Output.written c.put-2.new.self) (report_from core texts 0 c.args.cluster.now c.args.events.now)
+    (g.O.Output.written c.put-2.new.self) (report_from core texts 0 c.args.cluster c.args.events.now)
     (remaining core texts c.args.events.now c.loop-index.index c.loop-index.cluster)
     i.written.0 f i.written.2 i.written.1 c.in_err-put-2.ensures.err i.stays c.in_err-put-2.ensures.takes in
     let is : c.from_residual-in_err-put-2.result ≡ Err (error_of f) = err_is c.from_residual-in_err-put-2.result (error_of f) c.from_residual-in_err-put-2.ensures.1 in
@@ -128,7 +128,7 @@ returns-clause-ran g c =
     ∙ ap (λ (x : Fields → Texts g.row.C.Denot g.row.C-Msg.Denot). string_bytes c.clear-2.new.self ++ (x p).closing c.loop-index.cluster) i.sink
     ∙ ap (λ (l : Text). l ++ text) c.clear-2.ensures.bytes in
     let put = subst (λ (l : List ℕ). Appends (g.O.Output.written c.loop-index.out) (g.O.Output.written c.put-2.new.self) l) bytes c.in_ok-put-2.ensures.ok in
-    ran_to (g.O.Output.takes_all c.args.out.now) a (g.O.Output.written c.put-2.new.self) (report_from core texts 0 c.args.cluster.now es) (i.written.0 ++ text ∷ []) None
+    ran_to (g.O.Output.takes_all c.args.out.now) a (g.O.Output.written c.put-2.new.self) (report_from core texts 0 c.args.cluster es) (i.written.0 ++ text ∷ []) None
     (i.written.2 ∙ ap (after_texts i.written.0) (remaining_end core texts es c.loop-index.index c.loop-index.cluster c.loop-index-test.false)
     ∙ after_after i.written.0 (text ∷ []) (ends_with None))
     (appends_more a (g.O.Output.written c.loop-index.out) (g.O.Output.written c.put-2.new.self) i.written.0 text i.written.1 put)
@@ -146,7 +146,7 @@ pub returns-in_err-put-clause-refused : goal.returns-in_err-put-clause-refused
 returns-in_err-put-clause-refused g c =
     let f = c.in_err-put.field-0.0 in
     let taken = c.in_err-put.ensures.refused ∙ ap (λ (b : Bool). refused_by {T = ⊤} (Err f) b) c.loop-index.invariant.refused ∙ refused_on f (g.O.Output.has_refused c.args.out.now) in
-    let is : c.from_residual-in_err-put.result ≡ Err (error_of f) = search rules in
+    let is : c.from_residual-in_err-put.result ≡ Err (error_of f) = err_is c.from_residual-in_err-put.result (error_of f) c.from_residual-in_err-put.ensures.1 in
     rw is taken
 
 pub returns-in_err-put-2-clause-refused : goal.returns-in_err-put-2-clause-refused
@@ -154,4 +154,11 @@ returns-in_err-put-2-clause-refused g c =
     let f = c.in_err-put-2.field-0.0 in
     let taken = c.in_err-put-2.ensures.refused ∙ ap (λ (b : Bool). refused_by {T = ⊤} (Err f) b) c.loop-index.invariant.refused ∙ refused_on f (g.O.Output.has_refused c.args.out.now) in
     let is : c.from_residual-in_err-put-2.result ≡ Err (error_of f) = err_is c.from_residual-in_err-put-2.result (error_of f) c.from_residual-in_err-put-2.ensures.1 in
+    rw is taken
+
+pub returns-in_err-status-clause-refused : goal.returns-in_err-status-clause-refused
+returns-in_err-status-clause-refused g c =
+    let taken = c.loop-index.invariant.refused in
+    let is : c.from_residual-in_err-status.result ≡ Err command_error.Memory =
+    err_is c.from_residual-in_err-status.result command_error.Memory c.from_residual-in_err-status.ensures.1 in
     rw is taken

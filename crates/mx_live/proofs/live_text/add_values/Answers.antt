@@ -18,6 +18,6 @@ loop-register-preserved c =
     (c.value.ensures ∙ ap (λ cells. value_in k cells) c.view-shown.ensures.value ∙ value_there c.registers.result journal k few) in
     record {
       in_range = omega (arith, lt);
-      written = i.written ∙ value_more p journal k c.name_of.result.now c.unwrap_or.result (string_bytes c.loop-register.text) (string_bytes c.write.new.self)
-          lt c.name_of.ensures value c.in_ok-write.ensures.bytes;
+      written = i.written ∙ value_more p journal k c.register_name_of.result.now c.unwrap_or.result (string_bytes c.loop-register.text) (string_bytes c.write.new.self)
+          lt c.register_name_of.ensures value c.in_ok-write.ensures.bytes;
     }

@@ -3,7 +3,7 @@ use Rattle.std.specs.Prelude.{IfSome}
 use Rattle.mx_format.specs.LetterTexts.{letter_text}
 use Rattle.mx_scripts.specs.Lines.{IsNext}
 use Rattle.mx_scripts.specs.States.{IsAllowed}
-use Rattle.mx_scripts.specs.declared.session_event.SessionEvent.{SessionEvent}
+use Rattle.mx_scripts.specs.declared.state.SessionEvent.{SessionEvent}
 use Rattle.mx_play.specs.Sessions.{SessionState}
 use Rattle.mx_play.proofs.InterpreterLemmas.{adds_extends, extends_more, on_err, performing_end, performing_first, performing_next}
 use Rattle.mx_play.proofs.interpreter.perform.Goals as goal

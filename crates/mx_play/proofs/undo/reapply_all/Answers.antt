@@ -1,6 +1,6 @@
 use Rattle.std.proofs.Common.{rules, subst, sym}
 use Rattle.mx_scripts.specs.States.{Brings, IsAllowed, RunState}
-use Rattle.mx_scripts.specs.declared.session_event.SessionEvent.{SessionEvent}
+use Rattle.mx_scripts.specs.declared.state.SessionEvent.{SessionEvent}
 use Rattle.mx_play.specs.Histories.{Leads}
 use Rattle.mx_play.proofs.HistoryLemmas.{allowed_at, leads_at, leads_end}
 use Rattle.mx_play.proofs.undo.reapply_all.Goals as goal

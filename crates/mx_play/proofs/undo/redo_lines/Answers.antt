@@ -1,6 +1,6 @@
 use Rattle.std.proofs.Common.{◌∙◌, ◌++◌, List, ap, rules, subst, sym}
 use Rattle.mx_scripts.specs.States.{RunState}
-use Rattle.mx_scripts.specs.declared.session_event.SessionEvent.{SessionEvent}
+use Rattle.mx_scripts.specs.declared.state.SessionEvent.{SessionEvent}
 use Rattle.mx_play.specs.Histories.{CanLead, Leads}
 use Rattle.mx_play.proofs.SessionLemmas.{can_redo, session_redone, was_redone}
 use Rattle.mx_play.proofs.undo.redo_lines.Goals as goal

@@ -4,7 +4,7 @@ use Rattle.mx_cli.specs.Reports.{seen}
 use Rattle.mx_cli.proofs.ClosedLemmas.{not_five}
 use Rattle.mx_cli.proofs.RefusedLemmas.{refused, runs_out}
 use Rattle.mx_scripts.proofs.EndedLemmas.{short_scripts}
-use Rattle.mx_scripts.proofs.RefusedLemmas.{short_draws}
+use Rattle.mx_scripts.proofs.PrintedLemmas.{short_draws}
 use Rattle.mx_scripts.specs.Words.{file_line, request_asked, request_in}
 use Rattle.mx_scripts.proofs.command.event_file.Goals as goal
 

@@ -2,7 +2,7 @@ use Rattle.std.proofs.Common.{◌≡◌, Err}
 use Rattle.mx_commands.proofs.JobLemmas.{alone_read, alone_unread}
 use Rattle.mx_commands.proofs.RunLemmas.{err_is}
 use Rattle.mx_scripts.specs.Drawn.{drawn_file}
-use Rattle.mx_scripts.specs.Requests.{draw}
+use Rattle.mx_scripts.specs.Printed.{draw}
 use Rattle.mx_scripts.proofs.PrintedLemmas.{print_done}
 use Rattle.mx_scripts.proofs.printer.draw_file.Goals as goal
 

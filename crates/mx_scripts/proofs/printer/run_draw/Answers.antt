@@ -2,8 +2,7 @@ use Rattle.std.proofs.Common.{Bool, ◌&&◌, subst}
 use Rattle.mx_cli.specs.Words.{names_of}
 use Rattle.mx_plan.specs.Text.{Text}
 use Rattle.mx_cli.specs.Closed.{Closes}
-use Rattle.mx_scripts.specs.Printed.{draw_job}
-use Rattle.mx_scripts.specs.Requests.{draw}
+use Rattle.mx_scripts.specs.Printed.{draw_job, draw}
 use Rattle.mx_cli.proofs.ClosedLemmas.{closed_done}
 use Rattle.mx_scripts.proofs.PrintedLemmas.{done_keeps, job_kept}
 use Rattle.mx_scripts.proofs.printer.run_draw.Goals as goal

@@ -1,7 +1,7 @@
 use Rattle.std.proofs.Common.{Bool, ◌&&◌, subst}
 use Rattle.mx_cli.specs.Words.{names_of}
 use Rattle.mx_scripts.specs.Ended.{ClosesScript}
-use Rattle.mx_scripts.specs.Requests.{script}
+use Rattle.mx_scripts.specs.Printed.{script}
 use Rattle.mx_scripts.proofs.EndedLemmas.{script_closed_done}
 use Rattle.mx_scripts.proofs.PrintedLemmas.{done_keeps}
 use Rattle.mx_scripts.proofs.printer.run_script.Goals as goal

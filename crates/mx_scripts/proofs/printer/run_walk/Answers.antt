@@ -1,6 +1,6 @@
 use Rattle.std.proofs.Common.{◌&&◌}
 use Rattle.mx_cli.specs.Words.{names_of}
-use Rattle.mx_scripts.specs.Requests.{walk}
+use Rattle.mx_scripts.specs.Printed.{walk}
 use Rattle.mx_cli.proofs.ClosedLemmas.{closed_done}
 use Rattle.mx_scripts.proofs.PrintedLemmas.{done_keeps}
 use Rattle.mx_scripts.proofs.printer.run_walk.Goals as goal

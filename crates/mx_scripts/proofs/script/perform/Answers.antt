@@ -5,7 +5,7 @@ use Rattle.mx_scripts.specs.Lines.{IsNext, StopsAfter}
 use Rattle.mx_scripts.specs.States.{IsAllowed}
 use Rattle.mx_scripts.specs.declared.script_error.LineFailure.{LineFailure}
 use Rattle.mx_scripts.specs.declared.script_error.LineFailure.TheVariants as failure
-use Rattle.mx_scripts.specs.declared.session_event.SessionEvent.{SessionEvent}
+use Rattle.mx_scripts.specs.declared.state.SessionEvent.{SessionEvent}
 use Rattle.mx_scripts.proofs.LineLemmas.{err_of, performs_next, stops_next}
 use Rattle.mx_scripts.proofs.script.perform.Goals as goal
 

@@ -1,4 +1,4 @@
-use Rattle.std.proofs.Common.{◌≡◌, ◌∙◌, ◌<◌, ◌+◌, ◌%◌, ℕ, true, false, ap, arith, sym}
+use Rattle.std.proofs.Common.{◌≡◌, ◌∙◌, ◌+◌, ◌%◌, ℕ, true, false, ap, arith, sym}
 use Rattle.std.proofs.Math.Nat.{mod-lt}
 use Rattle.mx_walks.specs.Walk.{is_ready_at}
 use Rattle.mx_walks.proofs.StepLemmas.{ready_end, ready_more, ready_there}

@@ -1,10 +1,8 @@
-use Rattle.std.proofs.Common.{◌∙◌, ap, ℕ, length, subst, sym}
-use Rattle.std.specs.Prelude.{OnOk}
+use Rattle.std.proofs.Common.{◌∙◌, ap, length, sym}
 use Rattle.mx_events.specs.declared.event.Event.{Event}
 use Rattle.std.specs.Prelude.{Option}
 use Rattle.mx_commands.specs.Explored.{after_placed}
-use Rattle.mx_walks.specs.States.{state_of}
-use Rattle.mx_walks.specs.Walk.{WalkState, looked, next_step}
+use Rattle.mx_walks.specs.Walk.{state_of}
 use Rattle.mx_walks.proofs.StepLemmas.{on_ok, looked_after}
 use Rattle.mx_walks.proofs.steps.step.Goals as goal
 

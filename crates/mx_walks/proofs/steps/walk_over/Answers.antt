@@ -1,6 +1,5 @@
-use Rattle.std.proofs.Common.{◌≡◌, ◌∙◌, suc, ap, arith, refl, sym}
-use Rattle.mx_walks.specs.States.{state_of}
-use Rattle.mx_walks.specs.Walk.{WalkState}
+use Rattle.std.proofs.Common.{◌≡◌, ◌∙◌, suc, ap, arith, sym}
+use Rattle.mx_walks.specs.Walk.{WalkState, state_of}
 use Rattle.mx_walks.specs.Walked.{walked}
 use Rattle.mx_walks.proofs.StepLemmas.{walked_more, walked_none}
 use Rattle.mx_walks.proofs.steps.walk_over.Goals as goal

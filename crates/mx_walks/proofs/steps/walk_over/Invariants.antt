@@ -1,6 +1,5 @@
 use Rattle.std.proofs.Common.{ℕ, ◌≡◌, ◌+◌}
-use Rattle.mx_walks.specs.States.{state_of}
-use Rattle.mx_walks.specs.Walk.{at_first}
+use Rattle.mx_walks.specs.Walk.{at_first, state_of}
 use Rattle.mx_walks.specs.Walked.{walked}
 use Rattle.mx_walks.proofs.steps.walk_over.Given as goal
 

@@ -1,5 +1,5 @@
 use Rattle.std.proofs.Common.{◌≤◌, subst, sym, true}
-use Rattle.mx_picture.specs.declared.flights.Flight.{Flight}
+use Rattle.mx_picture.specs.declared.sheet.Flight.{Flight}
 use Rattle.mx_picture.proofs.SheetLemmas.{all_above_at, all_above_set}
 use Rattle.mx_picture.proofs.sheet.Sheet.deliver.Goals as goal
 

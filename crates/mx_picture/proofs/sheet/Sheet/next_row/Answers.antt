@@ -1,5 +1,5 @@
 use Rattle.mx_picture.specs.declared.phases.PhaseSpan.{PhaseSpan}
-use Rattle.mx_picture.specs.declared.flights.Flight.{Flight}
+use Rattle.mx_picture.specs.declared.sheet.Flight.{Flight}
 use Rattle.mx_picture.proofs.SheetLemmas.{all_above_next}
 use Rattle.mx_picture.proofs.sheet.Sheet.next_row.Goals as goal
 

@@ -1,6 +1,5 @@
 use Rattle.std.proofs.Common.{◌≤◌, ◌∙◌, ℕ, subst, sym}
-use Rattle.mx_scripts.specs.Fates.{Fates}
-use Rattle.mx_scripts.specs.UnderWay.{AreGone, AreGoneBetween}
+use Rattle.mx_scripts.specs.Fates.{Fates, AreGone, AreGoneBetween}
 use Rattle.mx_scripts.proofs.FateLemmas.{none_at_all, none_first, none_next}
 use Rattle.mx_scripts.proofs.in_flight.InFlight.oldest.Goals as goal
 

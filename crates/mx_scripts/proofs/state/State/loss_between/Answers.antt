@@ -2,7 +2,7 @@ use Rattle.std.proofs.Common.{Some, refl}
 use Rattle.mx_lines.specs.declared.orders.Scope.TheVariants.{Link}
 use Rattle.mx_scripts.specs.Fates.{is_waiting}
 use Rattle.mx_scripts.specs.Lines.{Finds}
-use Rattle.mx_scripts.specs.declared.session_event.SessionEvent.TheVariants.{IsLost}
+use Rattle.mx_scripts.specs.declared.state.SessionEvent.TheVariants.{IsLost}
 use Rattle.mx_scripts.proofs.LineLemmas.{once_later, once_now}
 use Rattle.mx_scripts.proofs.state.State.loss_between.Goals as goal
 

@@ -1,5 +1,5 @@
 use Rattle.std.proofs.Common.{Bool, List, rules, subst, sym}
-use Rattle.mx_scripts.specs.UnderWay.{AreGone, AreSkipped}
+use Rattle.mx_scripts.specs.Fates.{AreGone, AreSkipped}
 use Rattle.mx_scripts.proofs.UnderWayLemmas.{parcel_more, place_more}
 use Rattle.mx_scripts.proofs.under_way.UnderWay.add.Goals as goal
 

@@ -1,5 +1,4 @@
 use Rattle.std.proofs.Common.{ap, ℕ, List}
-use Rattle.mx_walks.specs.Walk.{WalkState}
 use Rattle.mx_walks.proofs.StepLemmas.{with_flying}
 use Rattle.mx_walks.proofs.walk.Walk.look.Goals as goal
 

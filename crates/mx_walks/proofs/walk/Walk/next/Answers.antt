@@ -1,7 +1,6 @@
 use Rattle.std.proofs.Common.{◌≡◌, ◌∙◌, ◌<◌, ◌≤◌, ◌%◌, ℕ, Bool, List, true, false, ap, arith, rules, sym}
 use Rattle.rand_pcg.specs.Lcg.{Lcg}
-use Rattle.mx_walks.specs.States.{state_of}
-use Rattle.mx_walks.specs.Walk.{Step, acted, byte_of, is_delivery, is_empty, with_words}
+use Rattle.mx_walks.specs.Walk.{Step, acted, byte_of, is_delivery, is_empty, state_of, with_words}
 use Rattle.mx_walks.proofs.StepLemmas.{is_there, next_acts, next_repeats, next_takes}
 use Rattle.mx_walks.proofs.walk.Walk.next.Goals as goal
 

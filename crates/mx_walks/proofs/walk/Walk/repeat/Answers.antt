@@ -1,7 +1,6 @@
 use Rattle.std.proofs.Common.{◌≡◌, ◌∙◌, ◌-◌, ◌%◌, ℕ, ap, min, sym}
-use Rattle.mx_walks.specs.States.{state_of}
-use Rattle.mx_walks.specs.Walk.{Step, chosen, repeated}
-use Rattle.mx_walks.proofs.StepLemmas.{delivers, nothing, repeats_nothing, repeats_one}
+use Rattle.mx_walks.specs.Walk.{Step, chosen, repeated, state_of}
+use Rattle.mx_walks.proofs.StepLemmas.{delivers, repeats_nothing, repeats_one}
 use Rattle.mx_walks.proofs.walk.Walk.repeat.Given.{Over}
 use Rattle.mx_walks.proofs.walk.Walk.repeat.Goals as goal
 

@@ -1,8 +1,6 @@
 use Rattle.std.proofs.Common.{◌≡◌, ◌∙◌, ◌<◌, ◌≤◌, ◌%◌, ℕ, List, ap, arith, length, sym}
 use Rattle.std.specs.Prelude.{slice_index_or}
-use Rattle.rand_pcg.specs.Lcg.{Lcg}
-use Rattle.mx_walks.specs.States.{state_of}
-use Rattle.mx_walks.specs.Walk.{byte_of, chosen}
+use Rattle.mx_walks.specs.Walk.{byte_of, chosen, state_of}
 use Rattle.mx_walks.proofs.StepLemmas.{takes_after, takes_lost, takes_one, with_flying}
 use Rattle.mx_walks.proofs.walk.Walk.take_up.Goals as goal
 
