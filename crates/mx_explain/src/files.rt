@@ -1,8 +1,8 @@
 //! What is wrong in the files that a check, a replay or a script reads.
 
-ghost use Rattle.std.specs.Prelude.{◌≡◌, IfErr, OnErr, OnOk};
+ghost use Rattle.std.specs.Prelude.{◌≡◌, IfErr, IsErr, OnErr, OnOk, false};
 ghost use Rattle.std.specs.Io.KnownBytes.{Keeps};
-ghost use Rattle.mx_explain.specs.Explained.{FailsToPrint, PrintsReport};
+ghost use Rattle.mx_explain.specs.Explained.{FailsToPrint, Prints};
 
 use crate::cached_source::DetailedSource;
 use crate::event_fault::explain_events;
@@ -26,24 +26,29 @@ pub(crate) enum Second<'a> {
     Script(&'a Notes),
 }
 
-/// Prints what is wrong in the files of these names. If all is well (`is_well`), these are warnings
-/// alone, and that nothing is at fault.
-pub(crate) fn print_files<S: Source + DetailedSource, O: Output>(
+/// Prints what is wrong in the files of a run that ended as `ended` says; nothing if that is not
+/// told. If it ended well, these are warnings alone, and that nothing is at fault.
+pub(crate) fn print_files<T: Drop, F: Drop, S: Source + DetailedSource, O: Output>(
     alloc: Global,
     names: &Names<'_>,
     second: &Second<'_>,
-    is_well: bool,
+    ended: &Result<T, F>,
+    is_told: bool,
     source: &mut S,
     out: &mut O,
 ) -> Result<(), CommandError>
+    requires { is_told ≡ false → IsErr ended.now }
     ensures fails { IfErr result (FailsToPrint (O.takes_all out.old)) }
-    ensures prints { OnOk result (PrintsReport (O.written out.old) (O.written out.new) is_well) }
+    ensures prints { OnOk result (Prints (O.written out.old) (O.written out.new) ended.now) }
     ensures same { OnErr result (Keeps (O.written out.old) (O.written out.new)) }
     ensures stays { O.takes_all out.new ≡ O.takes_all out.old }
 {
+    if !is_told {
+        return Ok(());
+    }
     let mut report = Report::new(alloc);
     explain_files(&mut report, names, second, source)?;
-    let text = report.into_text(is_well)?;
+    let text = report.into_text(ended.is_ok())?;
     out.put(text.as_bytes())?;
     Ok(())
 }
@@ -58,27 +63,18 @@ fn explain_files<S: Source + DetailedSource>(
     let Some(text) = fetched(report, names.plan, source)? else {
         return Ok(());
     };
-    if !are_dashes(names) || matches!(second, Second::Nothing) {
-        return explain_two(report, names, second, text.as_slice(), source);
-    }
-    let (line, rest) = split_line(text.as_slice());
+    let is_one = are_dashes(names) && !matches!(second, Second::Nothing);
+    let (line, rest) = if is_one {
+        split_line(text.as_slice())
+    } else {
+        (text.as_slice(), &[] as &[u8])
+    };
     let Some(plan) = explain_plan(report, part_of(names.plan, line, 0))? else {
         return Ok(());
     };
-    explain_second(report, second, &plan, part_of(names.events, rest, 1))
-}
-
-/// Reports what is wrong in a plan with this text, and in what comes with it in a second file.
-fn explain_two<S: Source + DetailedSource>(
-    report: &mut Report,
-    names: &Names<'_>,
-    second: &Second<'_>,
-    text: &[u8],
-    source: &mut S,
-) -> Result<(), AllocError> {
-    let Some(plan) = explain_plan(report, part_of(names.plan, text, 0))? else {
-        return Ok(());
-    };
+    if is_one {
+        return explain_second(report, second, &plan, part_of(names.events, rest, 1));
+    }
     if let Second::Nothing = second {
         return Ok(());
     }

@@ -10,7 +10,6 @@ mod explanation;
 mod files;
 mod location;
 mod notes;
-mod path;
 mod plan_fault;
 mod replay;
 mod report;
@@ -18,6 +17,7 @@ mod request;
 mod script_lines;
 mod scripts;
 mod shape_fault;
+mod spot;
 
 pub use cached_source::DetailedSource;
 pub use explanation::explain;

@@ -3,13 +3,12 @@
 ghost use Rattle.mx_commands.specs.Runs.{silent};
 
 use crate::location::Part;
-use crate::path::offset_of;
 use crate::report::{MAX_LINES, Report};
+use crate::spot::offset_of;
 use mx_commands::Sink;
 use mx_events::Event;
-use mx_format::{EventText, Letter, OutcomeText, add_facts_line, add_parcel_line};
+use mx_format::{EventText, Letter, OutcomeText, add_facts_line};
 use mx_knowledge::Knowledge;
-use mx_lines::LineFault;
 use mx_network::Cluster;
 use mx_nodelaws::Exclusion;
 use mx_plan::{Plan, PlanFault};
@@ -40,8 +39,6 @@ pub(crate) struct Notes {
     sent: u64,
     /// The line of a script that cannot be done, unless one of its words is wrong.
     bad_line: Option<Note>,
-    /// The parcels under way, if that line names one that is not.
-    parcels: Vec<Note>,
 }
 
 impl<C: Exclusion + Knowledge> Sink<Cluster<C>> for Notes {
@@ -89,9 +86,9 @@ where
 
     fn refused(
         &mut self,
-        plan: &Plan,
+        _plan: &Plan,
         line: &RefusedLine,
-        state: &State<C>,
+        _state: &State<C>,
     ) -> Result<(), AllocError> {
         if line.is_unread {
             return Ok(());
@@ -99,9 +96,6 @@ where
         let number = line.number;
         let text = format!(in self.alloc; " {}{}", line.fault, line.message.as_str())?;
         self.bad_line = Some(Note { number, text });
-        if matches!(line.fault, LineFault::NoParcel | LineFault::NotUnderWay) {
-            self.note_parcels(plan, state, number)?;
-        }
         Ok(())
     }
 }
@@ -116,7 +110,6 @@ impl Notes {
             unsent: None,
             sent: 0,
             bad_line: None,
-            parcels: Vec::new(alloc),
         }
     }
 
@@ -140,34 +133,6 @@ impl Notes {
         }
         let text = refusal(self.alloc, plan, cluster, &newest.event, cause)?;
         self.refused.push(Note { number, text })?;
-        Ok(())
-    }
-
-    /// Notes the first parcels under way, the oldest first, or that there is none.
-    fn note_parcels<C: Exclusion>(
-        &mut self,
-        plan: &Plan,
-        state: &State<C>,
-        number: u64,
-    ) -> Result<(), AllocError>
-    where
-        C::Msg: Letter,
-    {
-        for k in 0..state.cluster().sent() {
-            if self.parcels.len() < MAX_LINES && state.is_under_way(k) {
-                let mut shown = String::new(self.alloc);
-                if let Some(parcel) = state.cluster().sent_parcel(k) {
-                    add_parcel_line(plan, k, &parcel, &mut shown)?;
-                }
-                let shown = shown.as_str().trim();
-                let text = format!(in self.alloc; " warning: under way: {shown}")?;
-                self.parcels.push(Note { number, text })?;
-            }
-        }
-        if self.parcels.is_empty() {
-            let text = String::from_str(self.alloc, " warning: no parcel is under way")?;
-            self.parcels.push(Note { number, text })?;
-        }
         Ok(())
     }
 
@@ -204,20 +169,17 @@ impl Notes {
         report: &mut Report,
         part: &Part<'_>,
     ) -> Result<(), AllocError> {
-        add_notes(report, part, self.refused.as_slice())?;
-        report.count(part.file, self.more)?;
-        if let Some(note) = &self.bad_line {
+        for note in &self.refused {
             report.add_at(part, part.offset_of_line(note.number), note.text.as_str())?;
         }
-        add_notes(report, part, self.parcels.as_slice())
+        report.count(part.file, self.more)?;
+        match &self.bad_line {
+            Some(note) => {
+                report.add_at(part, part.offset_of_line(note.number), note.text.as_str())
+            }
+            None => Ok(()),
+        }
     }
-}
-
-fn add_notes(report: &mut Report, part: &Part<'_>, notes: &[Note]) -> Result<(), AllocError> {
-    for note in notes {
-        report.add_at(part, part.offset_of_line(note.number), note.text.as_str())?;
-    }
-    Ok(())
 }
 
 /// Returns the warning that `event`, the newest one of a cluster, is refused for this cause. After

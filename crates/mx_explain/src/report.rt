@@ -51,7 +51,8 @@ impl Report {
         ensures err { OnErr result (self.new ≡ self.old) }
     {
         let line = line_of(self.alloc, file, message)?;
-        self.text.push_str(line.as_str())
+        self.text.push_str(line.as_str())?;
+        Ok(())
     }
 
     /// Adds a line about the byte `offset` of a part. The message begins with a space.
@@ -78,14 +79,15 @@ impl Report {
     /// Returns all lines. If the files are well, a last one says `nothing is at fault`.
     pub(crate) fn into_text(mut self, is_well: bool) -> Result<String, AllocError>
         ensures well { IfOk result (λ text. is_well ≡ true
-            → string_bytes text ≡ report_text self.entry) }
+            → string_bytes text ≡ report_text self) }
         ensures printable { IfOk result (λ text. AreShown (string_bytes text)) }
         ensures last { IfOk result (λ text. (last_line (string_bytes text) ≡ nothing_at_fault)
             ↔ (is_well ≡ true)) }
     {
-        if is_well {
-            self.text.push_str("nothing is at fault\n")?;
+        if !is_well {
+            return Ok(self.text);
         }
+        self.text.push_str("nothing is at fault\n")?;
         Ok(self.text)
     }
 }

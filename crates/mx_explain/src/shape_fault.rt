@@ -1,14 +1,13 @@
 //! What is wrong in the arbiter sets or the tree of a plan as a whole.
 
-use crate::document::{Document, index_in, items_of, text_of};
-use crate::path::Path;
+use crate::document::Document;
 use crate::report::Report;
-use json::Value;
+use crate::spot::{Spot, index_in};
 use mx_lines::Quoted;
 use mx_plan::ShapeFault;
 use mx_quorums::QuorumFault;
 use mx_trees::TreeFault;
-use std::alloc::{AllocError, Global};
+use std::alloc::AllocError;
 use std::fmt;
 use std::fmt::Display;
 
@@ -20,85 +19,80 @@ pub(crate) fn report_shape(
     fault: ShapeFault,
     nodes: &[&str],
 ) -> Result<(), AllocError> {
-    match fault {
-        ShapeFault::Quorum(fault) => report_quorums(report, document, fault, nodes),
-        ShapeFault::Tree(fault) => report_tree(report, document, fault, nodes),
-    }
+    let plan = Spot::root("", &document.root);
+    let (quorums, edges) = (plan.key("quorums"), plan.key("edges"));
+    let spot = match fault {
+        ShapeFault::Quorum(QuorumFault::EmptySet(i) | QuorumFault::NotOwnMember(i)) => {
+            quorums.key("sets").item(usize::from(i))
+        }
+        ShapeFault::Quorum(QuorumFault::Apart(_, i)) => quorums.key("sets").item(usize::from(i)),
+        ShapeFault::Quorum(QuorumFault::NoPlane(_)) => quorums.key("kind"),
+        ShapeFault::Quorum(_) => quorums,
+        ShapeFault::Tree(TreeFault::BadEdge(k)) => edges.item(k as usize),
+        ShapeFault::Tree(_) if report_cycle(report, document, nodes)? => return Ok(()),
+        ShapeFault::Tree(_) => edges,
+    };
+    let count = edges.len();
+    let mut text = String::new(report.alloc());
+    text.write(ShapeText {
+        fault,
+        nodes,
+        count,
+    })?;
+    document.report_at(report, spot, text.as_str())
 }
 
-fn report_quorums(
-    report: &mut Report,
-    document: &Document<'_>,
-    fault: QuorumFault,
-    nodes: &[&str],
-) -> Result<(), AllocError> {
-    let alloc = report.alloc();
-    let quorums = Path::whole("").key("quorums");
-    let set = |i: u8| quorums.key("sets").item(usize::from(i));
-    let (path, text) = match fault {
-        QuorumFault::EmptySet(i) => {
-            let node = NamedNode { nodes, i };
-            let text = format!(in alloc;
-                "the set of {node} is empty, expected that it has the node itself"
-            )?;
-            (set(i), text)
-        }
-        QuorumFault::NotOwnMember(i) => {
-            let node = NamedNode { nodes, i };
-            (
-                set(i),
-                format!(in alloc; "the set of {node} lacks the node itself")?,
-            )
-        }
-        QuorumFault::Apart(i, j) => {
-            let (a, b) = (NamedNode { nodes, i }, NamedNode { nodes, i: j });
-            let text = format!(in alloc;
-                "the sets of {a} and of {b} have no node in common, expected that any two do"
-            )?;
-            (set(j), text)
-        }
-        QuorumFault::NoPlane(n) => {
-            let text = format!(in alloc;
-                "there is no plane of {n} nodes, expected 7, 13 or 21; a grid has rows times cols"
-            )?;
-            (quorums.key("kind"), text)
-        }
-        _ => (
-            quorums,
-            String::from_str(alloc, "these are no sets of the nodes")?,
-        ),
-    };
-    document.report_at(report, path, text.as_str())
+/// The text about the rule that the sets, or a tree with this count of edges, break.
+#[derive(Clone, Copy)]
+struct ShapeText<'a> {
+    fault: ShapeFault,
+    nodes: &'a [&'a str],
+    count: usize,
 }
 
-fn report_tree(
-    report: &mut Report,
-    document: &Document<'_>,
-    fault: TreeFault,
-    nodes: &[&str],
-) -> Result<(), AllocError> {
-    let alloc = report.alloc();
-    let edges = Path::whole("").key("edges");
-    if let TreeFault::BadEdge(k) = fault {
-        let text = "this edge joins a node with itself";
-        return document.report_at(report, edges.item(k as usize), text);
-    }
-    if report_cycle(report, document, nodes)? {
-        return Ok(());
-    }
-    let text = match fault {
-        TreeFault::WrongCount => {
-            let count = items_of(document.root.get("edges")).len();
-            let wanted = nodes.len().saturating_sub(1);
-            format!(in alloc; "{count} edges stand here, expected {wanted}, one fewer than nodes")?
+impl Display for ShapeText<'_> {
+    fn fmt<W: fmt::Write>(&self, f: &mut fmt::Formatter<W>) -> fmt::Result {
+        let nodes = self.nodes;
+        let node = |i: u8| NamedNode { nodes, i };
+        match self.fault {
+            ShapeFault::Quorum(QuorumFault::EmptySet(i)) => {
+                write!(
+                    f,
+                    "the set of {} is empty, expected that it has the node itself",
+                    node(i)
+                )
+            }
+            ShapeFault::Quorum(QuorumFault::NotOwnMember(i)) => {
+                write!(f, "the set of {} lacks the node itself", node(i))
+            }
+            ShapeFault::Quorum(QuorumFault::Apart(i, j)) => {
+                write!(
+                    f,
+                    "the sets of {} and of {} have no node in common",
+                    node(i),
+                    node(j)
+                )?;
+                f.write_str(", expected that any two do")
+            }
+            ShapeFault::Quorum(QuorumFault::NoPlane(n)) => {
+                write!(f, "there is no plane of {n} nodes, expected 7, 13 or 21")?;
+                f.write_str("; a grid has rows times cols")
+            }
+            ShapeFault::Quorum(_) => f.write_str("these are no sets of the nodes"),
+            ShapeFault::Tree(TreeFault::BadEdge(_)) => {
+                f.write_str("this edge joins a node with itself")
+            }
+            ShapeFault::Tree(TreeFault::WrongCount) => {
+                let wanted = nodes.len().saturating_sub(1);
+                write!(f, "{} edges stand here, expected {wanted}", self.count)?;
+                f.write_str(", one fewer than nodes")
+            }
+            ShapeFault::Tree(TreeFault::NotJoined(i)) => {
+                write!(f, "no way leads from {} to {}", node(i), node(0))
+            }
+            ShapeFault::Tree(_) => f.write_str("these are no edges of the nodes"),
         }
-        TreeFault::NotJoined(i) => {
-            let (node, first) = (NamedNode { nodes, i }, NamedNode { nodes, i: 0 });
-            format!(in alloc; "no way leads from {node} to {first}")?
-        }
-        _ => String::from_str(alloc, "these are no edges of the nodes")?,
-    };
-    document.report_at(report, edges, text.as_str())
+    }
 }
 
 /// A node by its name and its number.
@@ -124,17 +118,16 @@ pub(crate) fn report_cycle(
     let alloc = report.alloc();
     // of each node, the number of its part: nodes that earlier edges connect are in one
     let mut parts: Vec<usize> = (0..nodes.len()).collect(alloc)?;
-    for (k, edge) in items_of(document.root.get("edges")).iter().enumerate() {
-        let [first, second] = items_of(Some(edge)) else {
-            continue;
-        };
-        let (first, second) = (text_of(Some(first)), text_of(Some(second)));
+    let edges = Spot::root("", &document.root).key("edges");
+    for k in 0..edges.len() {
+        let edge = edges.item(k);
+        let (first, second) = (edge.item(0).text(), edge.item(1).text());
         if first != second && join(parts.as_mut_slice(), nodes, first, second) == Some(false) {
             let (first, second) = (Quoted(first), Quoted(second));
             let text = format!(in alloc;
                 "this edge makes a cycle, since earlier edges connect {first} and {second}"
             )?;
-            document.report_at(report, Path::whole("").key("edges").item(k), text.as_str())?;
+            document.report_at(report, edge, text.as_str())?;
             return Ok(true);
         }
     }
