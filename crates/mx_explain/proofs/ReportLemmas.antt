@@ -102,14 +102,14 @@ ends_line ls p e =
     let last : line_after [] [] (lines_text ls) ≡ last_text [] ls = ap (λ x. line_after [] [] x) (sym (append-nil (lines_text ls))) ∙ line_after-lines [] ls [] p in
     last_text-not ls p (sym last ∙ e)
 
-pub report_well : (w : Bool) (text new : Text) → not w ≡ false → IsReport text → new ≡ report_text text → (last_line new ≡ nothing_at_fault) ↔ (w ≡ true)
+pub report_well : (w : Bool) (text new : Text) → w ≡ true → IsReport text → new ≡ report_text text → (last_line new ≡ nothing_at_fault) ↔ (w ≡ true)
 report_well true text new n r e =
     let ends = ap last_line (e ∙ ap (λ t. t ++ (nothing_at_fault ++ 10 ∷ [])) r.are) ∙ ends_nothing r.lines r.each in
     (λ q. refl, λ q. ends)
-report_well false text new n r e = absurd (let bad : true ≡ false = n in cc)
+report_well false text new n r e = absurd (let bad : false ≡ true = n in cc)
 
-pub report_at_fault : (w : Bool) (text : Text) → not w ≡ true → IsReport text → (last_line text ≡ nothing_at_fault) ↔ (w ≡ true)
-report_at_fault true text n r = absurd (let bad : false ≡ true = n in cc)
+pub report_at_fault : (w : Bool) (text : Text) → w ≡ false → IsReport text → (last_line text ≡ nothing_at_fault) ↔ (w ≡ true)
+report_at_fault true text n r = absurd (let bad : true ≡ false = n in cc)
 report_at_fault false text n r =
     (λ q. absurd (ends_line r.lines r.each (sym (ap last_line r.are) ∙ q)), λ q. absurd (let bad : false ≡ true = q in cc))
 

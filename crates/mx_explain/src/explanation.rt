@@ -14,9 +14,10 @@ use crate::notes::Notes;
 use crate::replay::replay;
 use crate::request::{ExplainRequest, parse};
 use crate::scripts::explain_script;
-use mx_cli::{CommandError, Request, close, refuse};
+use mx_cli::{CommandError, Fault, Request, close, refuse};
 use mx_commands::{NullOutput, carry_out, names_in};
 use mx_io::{Output, Source};
+use mx_plan::PlanFault;
 use std::alloc::Global;
 
 /// Runs a command line whose first argument is `explain`, without the program's name. Returns the
@@ -113,6 +114,7 @@ fn carry_out_and_explain<S: Source + DetailedSource, O: Output>(
 {
     let mut notes = Notes::new(alloc);
     let ended = run(alloc, request, source, &mut notes);
+    notes.bad_text = text_fault(&ended);
     let second = match request {
         Request::Replay(_) => Second::Events(&notes),
         Request::Check(_) | Request::Asks(_) | Request::Explore(_) => Second::Nothing,
@@ -146,4 +148,12 @@ fn is_told(ended: &Result<u8, CommandError>) -> bool
     ensures { result ≡ false → IsErr ended.now }
 {
     matches!(ended, Ok(_) | Err(CommandError::Fault(_)))
+}
+
+/// Returns why a text of the run could not be read.
+fn text_fault(ended: &Result<u8, CommandError>) -> Option<PlanFault> {
+    match ended {
+        Err(CommandError::Fault(Fault::BadText(fault))) => Some(*fault),
+        _ => None,
+    }
 }

@@ -103,7 +103,7 @@ fn explain_second(
 ) -> Result<(), AllocError> {
     match second {
         Second::Nothing => Ok(()),
-        Second::Events(notes) => match notes.bad_events {
+        Second::Events(notes) => match notes.bad_text {
             Some(fault) => explain_events(report, part, plan, fault),
             None => notes.explain_replay(report, &part),
         },

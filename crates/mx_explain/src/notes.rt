@@ -31,8 +31,8 @@ pub(crate) struct Notes {
     refused: Vec<Note>,
     /// How many further ones there are.
     more: u64,
-    /// Why the events of a replay can't be read.
-    pub(crate) bad_events: Option<PlanFault>,
+    /// Why the plan or the events of a replay can't be read.
+    pub(crate) bad_text: Option<PlanFault>,
     /// The event of this index delivers the parcel of this number, which was not sent.
     pub(crate) unsent: Option<(u64, u64)>,
     /// How many parcels were sent.
@@ -106,7 +106,7 @@ impl Notes {
             alloc,
             refused: Vec::new(alloc),
             more: 0,
-            bad_events: None,
+            bad_text: None,
             unsent: None,
             sent: 0,
             bad_line: None,

@@ -41,13 +41,7 @@ fn replay_events(
     ensures ran { Ran true None None (report_of_events text.now plan.now) result }
     ensures zero { IfOk result (λ status. status ≡ 0) }
 {
-    let events = match read_events(alloc, text, plan) {
-        Ok(events) => events,
-        Err(fault) => {
-            notes.bad_events = Some(fault);
-            return Err(CommandError::from(fault));
-        }
-    };
+    let events = read_events(alloc, text, plan)?;
     match observe(alloc, plan, events.as_slice(), notes) {
         Ok(()) => Ok(0),
         Err(error) => {
