@@ -63,18 +63,16 @@ fn explain_files<S: Source + DetailedSource>(
     let Some(text) = fetched(report, names.plan, source)? else {
         return Ok(());
     };
-    let is_one = are_dashes(names) && !matches!(second, Second::Nothing);
-    let (line, rest) = if is_one {
-        split_line(text.as_slice())
-    } else {
-        (text.as_slice(), &[] as &[u8])
-    };
-    let Some(plan) = explain_plan(report, part_of(names.plan, line, 0))? else {
+    if are_dashes(names) && !matches!(second, Second::Nothing) {
+        let (line, rest) = split_line(text.as_slice());
+        return match explain_plan(report, part_of(names.plan, line, 0))? {
+            Some(plan) => explain_second(report, second, &plan, part_of(names.events, rest, 1)),
+            None => Ok(()),
+        };
+    }
+    let Some(plan) = explain_plan(report, part_of(names.plan, text.as_slice(), 0))? else {
         return Ok(());
     };
-    if is_one {
-        return explain_second(report, second, &plan, part_of(names.events, rest, 1));
-    }
     if let Second::Nothing = second {
         return Ok(());
     }
