@@ -8,7 +8,6 @@ use std::alloc::{AllocError, Global};
 
 const MAX_DEPTH: usize = 127;
 
-/// Of what does not fit, so many characters are shown at most.
 const MAX_SHOWN: usize = 24;
 
 const STRING: &str =
@@ -30,10 +29,9 @@ pub(crate) fn report_bad_token(report: &mut Report, part: &Part<'_>) -> Result<b
         Err(e) => e.valid_up_to(),
     };
     let text = str::from_utf8(part.text.get(..end).unwrap_or(&[])).unwrap_or("");
-    let is_utf8 = end == part.text.len();
     let (offset, cause) = match first_bad_token(alloc, text)? {
-        Some((offset, cause)) if is_utf8 || offset < text.len() => (offset, cause),
-        None if is_utf8 => return Ok(false),
+        Some((offset, cause)) if end == part.text.len() || offset < end => (offset, cause),
+        None if end == part.text.len() => return Ok(false),
         _ => (
             text.len(),
             Cause::Stands("bytes that are not UTF-8 stand here"),

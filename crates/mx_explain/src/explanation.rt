@@ -23,9 +23,7 @@ use std::alloc::Global;
 /// exit status:
 ///
 /// - that of the check, the replay or the script that it explains: 0, 1 or 5;
-/// - 0 if help was requested;
-/// - 1 if an output failed;
-/// - 2 for wrong arguments.
+/// - 0 if help was requested, 1 if an output failed, 2 for wrong arguments.
 pub fn explain<S: Source + DetailedSource, O: Output, E: Output>(
     alloc: Global,
     words: &[&str],

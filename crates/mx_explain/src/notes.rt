@@ -82,12 +82,10 @@ where
         line: &RefusedLine,
         _state: &State<C>,
     ) -> Result<(), AllocError> {
-        if line.is_unread {
-            return Ok(());
+        if !line.is_unread {
+            let text = format!(in self.alloc; " {}{}", line.fault, line.message.as_str())?;
+            self.bad_line = Some((line.number, text));
         }
-        let number = line.number;
-        let text = format!(in self.alloc; " {}{}", line.fault, line.message.as_str())?;
-        self.bad_line = Some((number, text));
         Ok(())
     }
 }

@@ -150,7 +150,6 @@ fn wrong_in_edges<'w, 'a>(edges: Spot<'w, 'a>, nodes: &'w [&'w str]) -> Wrong<'w
     Wrong::of(edges, "an array of edges, each an array of two nodes")
 }
 
-/// Returns the first item of an array that is no node, or that it is no array.
 fn wrong_in_nodes<'w, 'a>(list: Spot<'w, 'a>, nodes: &'w [&'w str]) -> Option<Wrong<'w, 'a>> {
     let Some(Value::Array(_)) = list.value else {
         return Some(Wrong::of(list, "an array of nodes"));

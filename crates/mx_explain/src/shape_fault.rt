@@ -48,21 +48,29 @@ struct ShapeText<'a> {
     count: usize,
 }
 
+impl ShapeText<'_> {
+    fn name(&self, i: u8) -> &str {
+        self.nodes.get(usize::from(i)).copied().unwrap_or("")
+    }
+}
+
 impl Display for ShapeText<'_> {
     fn fmt<W: fmt::Write>(&self, f: &mut fmt::Formatter<W>) -> fmt::Result {
-        let nodes = self.nodes;
-        let name = |i: u8| nodes.get(usize::from(i)).copied().unwrap_or("");
         match self.fault {
             ShapeFault::Quorum(QuorumFault::EmptySet(i)) => {
-                write!(f, "the set of {} (node {i}) is empty", name(i))?;
+                write!(f, "the set of {} (node {i}) is empty", self.name(i))?;
                 f.write_str(", expected that it has the node itself")
             }
             ShapeFault::Quorum(QuorumFault::NotOwnMember(i)) => {
-                write!(f, "the set of {} (node {i}) lacks the node itself", name(i))
+                write!(
+                    f,
+                    "the set of {} (node {i}) lacks the node itself",
+                    self.name(i)
+                )
             }
             ShapeFault::Quorum(QuorumFault::Apart(i, j)) => {
-                write!(f, "the sets of {} (node {i}) and of ", name(i))?;
-                write!(f, "{} (node {j}) have no node in common", name(j))?;
+                write!(f, "the sets of {} (node {i}) and of ", self.name(i))?;
+                write!(f, "{} (node {j}) have no node in common", self.name(j))?;
                 f.write_str(", expected that any two do")
             }
             ShapeFault::Quorum(QuorumFault::NoPlane(n)) => {
@@ -74,13 +82,13 @@ impl Display for ShapeText<'_> {
                 f.write_str("this edge joins a node with itself")
             }
             ShapeFault::Tree(TreeFault::WrongCount) => {
-                let wanted = nodes.len().saturating_sub(1);
+                let wanted = self.nodes.len().saturating_sub(1);
                 write!(f, "{} edges stand here, expected {wanted}", self.count)?;
                 f.write_str(", one fewer than nodes")
             }
             ShapeFault::Tree(TreeFault::NotJoined(i)) => {
-                write!(f, "no way leads from {} (node {i})", name(i))?;
-                write!(f, " to {} (node 0)", name(0))
+                write!(f, "no way leads from {} (node {i})", self.name(i))?;
+                write!(f, " to {} (node 0)", self.name(0))
             }
             ShapeFault::Tree(_) => f.write_str("these are no edges of the nodes"),
         }

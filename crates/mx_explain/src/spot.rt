@@ -14,7 +14,6 @@ struct Step {
 
 #[derive(Clone, Copy)]
 pub(crate) struct Spot<'v, 'a> {
-    /// What messages call the outermost value.
     whole: &'static str,
     steps: [Option<Step>; 4],
     pub(crate) value: Option<&'v Value<'a>>,
