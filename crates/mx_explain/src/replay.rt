@@ -13,9 +13,8 @@ use mx_io::Source;
 use mx_plan::{Plan, read_events};
 use std::alloc::Global;
 
-/// Reads the plan, then the events, and replays the events. Prints nothing. Ends as the command
-/// `replay` does over an output that takes all texts: with status 0, with the same fault, or
-/// because memory ran out.
+/// Reads a plan and its events, and replays them. Prints nothing, and ends as `replay` does over an
+/// output that takes all texts.
 pub(crate) fn replay<S: Source>(
     alloc: Global,
     names: &Names<'_>,

@@ -14,7 +14,6 @@ pub(crate) type ReportResult = Result<(), AllocError>;
 /// The greatest number of faults, and of warnings, of one kind that are shown.
 pub(crate) const MAX_LINES: usize = 20;
 
-/// The lines of faults and warnings.
 #[derive(Drop)]
 pub(crate) struct Report {
     alloc: Global,
@@ -68,7 +67,6 @@ impl Report {
         self.add(part.file, text.as_str())
     }
 
-    /// Adds the line that this many faults or warnings are not shown, unless it is none.
     pub(crate) fn count(&mut self, file: &str, more: u64) -> ReportResult {
         if more == 0 {
             return Ok(());

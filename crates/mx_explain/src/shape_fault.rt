@@ -48,50 +48,52 @@ struct ShapeText<'a> {
     count: usize,
 }
 
-impl ShapeText<'_> {
-    fn name(&self, i: u8) -> &str {
-        self.nodes.get(usize::from(i)).copied().unwrap_or("")
-    }
-}
-
 impl Display for ShapeText<'_> {
     fn fmt<W: fmt::Write>(&self, f: &mut fmt::Formatter<W>) -> fmt::Result {
+        let nodes = self.nodes;
+        let node = |i: u8| NamedNode { nodes, i };
         match self.fault {
             ShapeFault::Quorum(QuorumFault::EmptySet(i)) => {
-                write!(f, "the set of {} (node {i}) is empty", self.name(i))?;
+                write!(f, "the set of {} is empty", node(i))?;
                 f.write_str(", expected that it has the node itself")
             }
             ShapeFault::Quorum(QuorumFault::NotOwnMember(i)) => {
-                write!(
-                    f,
-                    "the set of {} (node {i}) lacks the node itself",
-                    self.name(i)
-                )
+                write!(f, "the set of {} lacks the node itself", node(i))
             }
             ShapeFault::Quorum(QuorumFault::Apart(i, j)) => {
-                write!(f, "the sets of {} (node {i}) and of ", self.name(i))?;
-                write!(f, "{} (node {j}) have no node in common", self.name(j))?;
-                f.write_str(", expected that any two do")
+                write!(f, "the sets of {} and of {}", node(i), node(j))?;
+                f.write_str(" have no node in common, expected that any two do")
             }
             ShapeFault::Quorum(QuorumFault::NoPlane(n)) => {
                 write!(f, "there is no plane of {n} nodes, expected 7, 13 or 21")?;
                 f.write_str("; a grid has rows times cols")
             }
-            ShapeFault::Quorum(_) => f.write_str("these are no sets of the nodes"),
             ShapeFault::Tree(TreeFault::BadEdge(_)) => {
                 f.write_str("this edge joins a node with itself")
             }
             ShapeFault::Tree(TreeFault::WrongCount) => {
-                let wanted = self.nodes.len().saturating_sub(1);
+                let wanted = nodes.len().saturating_sub(1);
                 write!(f, "{} edges stand here, expected {wanted}", self.count)?;
                 f.write_str(", one fewer than nodes")
             }
             ShapeFault::Tree(TreeFault::NotJoined(i)) => {
-                write!(f, "no way leads from {} (node {i})", self.name(i))?;
-                write!(f, " to {} (node 0)", self.name(0))
+                write!(f, "no way leads from {} to {}", node(i), node(0))
             }
-            ShapeFault::Tree(_) => f.write_str("these are no edges of the nodes"),
+            _ => f.write_str("this is no shape of the nodes"),
         }
+    }
+}
+
+#[derive(Clone, Copy)]
+struct NamedNode<'a> {
+    nodes: &'a [&'a str],
+    i: u8,
+}
+
+impl Display for NamedNode<'_> {
+    fn fmt<W: fmt::Write>(&self, f: &mut fmt::Formatter<W>) -> fmt::Result {
+        let name = self.nodes.get(usize::from(self.i)).copied().unwrap_or("");
+        write!(f, "{name} (node {})", self.i)
     }
 }
 
