@@ -6,32 +6,32 @@ use arrayvec::ArrayVec;
 use json::{Scratch, Value, is_valid};
 use std::alloc::{AllocError, Global};
 
-/// The greatest number of brackets that may be open at once.
 const MAX_DEPTH: usize = 127;
 
-/// How many characters are shown at most of a text that does not fit.
 const MAX_SHOWN: usize = 24;
 
 const STRING: &str =
     "a text in one line without control characters, each \\ of which begins an escape of a whole character";
 
-/// Why a token does not fit.
 #[derive(Clone, Copy)]
 enum Cause {
     Expected(&'static str),
-    /// What these words say stands here.
     Stands(&'static str),
     /// The text ends before what opens at this byte is closed.
     Cut(usize),
 }
 
-/// Reports the first token by which a text is not JSON.
-pub(crate) fn report_bad_token(report: &mut Report, part: &Part<'_>) -> Result<(), AllocError> {
+/// Reports the first token by which a text is not JSON. Returns whether there is one.
+pub(crate) fn report_bad_token(report: &mut Report, part: &Part<'_>) -> Result<bool, AllocError> {
     let alloc = report.alloc();
-    let (text, is_utf8) = valid_start(part.text);
+    let end = match str::from_utf8(part.text) {
+        Ok(text) => text.len(),
+        Err(e) => e.valid_up_to(),
+    };
+    let text = str::from_utf8(part.text.get(..end).unwrap_or(&[])).unwrap_or("");
     let (offset, cause) = match first_bad_token(alloc, text)? {
-        Some((offset, cause)) if is_utf8 || offset < text.len() => (offset, cause),
-        None if is_utf8 => return Ok(()),
+        Some((offset, cause)) if end == part.text.len() || offset < end => (offset, cause),
+        None if end == part.text.len() => return Ok(false),
         _ => (
             text.len(),
             Cause::Stands("bytes that are not UTF-8 stand here"),
@@ -55,25 +55,14 @@ pub(crate) fn report_bad_token(report: &mut Report, part: &Part<'_>) -> Result<(
             )?;
         }
     }
-    report.add_at(part, offset, message.as_str())
-}
-
-/// Returns the longest prefix that is UTF-8, and whether that is the whole text.
-fn valid_start(text: &[u8]) -> (&str, bool) {
-    match str::from_utf8(text) {
-        Ok(text) => (text, true),
-        Err(e) => {
-            let start = text.get(..e.valid_up_to()).unwrap_or(&[]);
-            (str::from_utf8(start).unwrap_or(""), false)
-        }
-    }
+    report.add_at(part, offset, message.as_str())?;
+    Ok(true)
 }
 
 fn rest_of(text: &str, offset: usize) -> &str {
     text.get(offset..).unwrap_or("")
 }
 
-/// What may come next in a text.
 #[derive(Clone, Copy, PartialEq, Eq)]
 enum Next {
     Value,
@@ -85,7 +74,6 @@ enum Next {
     AfterValue,
 }
 
-/// How far a text was read.
 #[derive(Drop)]
 struct Scanner {
     next: Next,

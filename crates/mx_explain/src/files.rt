@@ -9,20 +9,17 @@ use crate::event_fault::explain_events;
 use crate::location::Part;
 use crate::notes::Notes;
 use crate::plan_fault::explain_plan;
-use crate::report::Report;
+use crate::report::{Report, ReportResult};
 use crate::script_lines::explain_lines;
 use mx_cli::{CommandError, Names, are_dashes, split_line};
 use mx_io::{Output, Refusal, Source};
 use mx_plan::Plan;
 use std::alloc::{AllocError, Global};
 
-/// What comes with a plan, as a second file or in the rest of standard input.
 #[derive(Clone, Copy)]
 pub(crate) enum Second<'a> {
     Nothing,
-    /// Events, with the notes of their replay.
     Events(&'a Notes),
-    /// A script, with the notes of its run.
     Script(&'a Notes),
 }
 
@@ -53,60 +50,46 @@ pub(crate) fn print_files<T: Drop, F: Drop, S: Source + DetailedSource, O: Outpu
     Ok(())
 }
 
-/// Reports what is wrong in a plan, and in what comes with it, if the plan has no fault.
 fn explain_files<S: Source + DetailedSource>(
     report: &mut Report,
     names: &Names<'_>,
     second: &Second<'_>,
     source: &mut S,
-) -> Result<(), AllocError> {
+) -> ReportResult {
     let Some(text) = fetched(report, names.plan, source)? else {
         return Ok(());
     };
-    let is_one = are_dashes(names) && !matches!(second, Second::Nothing);
-    let (line, rest) = if is_one {
-        split_line(text.as_slice())
-    } else {
-        (text.as_slice(), &[] as &[u8])
-    };
-    let Some(plan) = explain_plan(report, part_of(names.plan, line, 0))? else {
+    if are_dashes(names) && !matches!(second, Second::Nothing) {
+        let (line, rest) = split_line(text.as_slice());
+        return match explain_plan(report, Part::of(names.plan, line, 0))? {
+            Some(plan) => explain_rest(report, second, &plan, Part::of(names.events, rest, 1)),
+            None => Ok(()),
+        };
+    }
+    let Some(plan) = explain_plan(report, Part::of(names.plan, text.as_slice(), 0))? else {
         return Ok(());
     };
-    if is_one {
-        return explain_second(report, second, &plan, part_of(names.events, rest, 1));
-    }
     if let Second::Nothing = second {
         return Ok(());
     }
     match fetched(report, names.events, source)? {
         Some(text) => {
-            explain_second(
-                report,
-                second,
-                &plan,
-                part_of(names.events, text.as_slice(), 0),
-            )
+            let part = Part::of(names.events, text.as_slice(), 0);
+            explain_rest(report, second, &plan, part)
         }
         None => Ok(()),
     }
 }
 
-fn part_of<'a>(file: &'a str, text: &'a [u8], above: usize) -> Part<'a> {
-    Part { file, text, above }
-}
-
-fn explain_second(
+fn explain_rest(
     report: &mut Report,
     second: &Second<'_>,
     plan: &Plan,
     part: Part<'_>,
-) -> Result<(), AllocError> {
+) -> ReportResult {
     match second {
         Second::Nothing => Ok(()),
-        Second::Events(notes) => match notes.bad_text {
-            Some(fault) => explain_events(report, part, plan, fault),
-            None => notes.explain_replay(report, &part),
-        },
+        Second::Events(notes) => explain_events(report, part, plan, notes),
         Second::Script(notes) => {
             explain_lines(report, &part, plan)?;
             notes.explain_script(report, &part)
@@ -114,7 +97,6 @@ fn explain_second(
     }
 }
 
-/// Returns the bytes of a file. If it can't be read, reports the reason, and returns `None`.
 fn fetched<S: Source + DetailedSource>(
     report: &mut Report,
     name: &str,

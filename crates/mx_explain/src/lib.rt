@@ -4,10 +4,10 @@
 
 mod bad_token;
 mod cached_source;
-mod document;
 mod event_fault;
 mod explanation;
 mod files;
+mod json_report;
 mod location;
 mod notes;
 mod plan_fault;

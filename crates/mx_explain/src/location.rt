@@ -11,7 +11,11 @@ pub(crate) struct Part<'a> {
     pub(crate) above: usize,
 }
 
-impl Part<'_> {
+impl<'a> Part<'a> {
+    pub(crate) fn of(file: &'a str, text: &'a [u8], above: usize) -> Part<'a> {
+        Part { file, text, above }
+    }
+
     pub(crate) fn location(&self, offset: usize) -> Location {
         let mut line = self.above.saturating_add(1);
         let mut column = 1usize;

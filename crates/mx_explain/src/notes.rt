@@ -3,27 +3,23 @@
 ghost use Rattle.mx_commands.specs.Runs.{silent};
 
 use crate::location::Part;
-use crate::report::{MAX_LINES, Report};
+use crate::report::{MAX_LINES, Report, ReportResult};
 use crate::spot::offset_of;
+use mx_cli::Fault;
 use mx_commands::Sink;
 use mx_events::Event;
 use mx_format::{EventText, Letter, OutcomeText, add_facts_line};
 use mx_knowledge::Knowledge;
 use mx_network::Cluster;
 use mx_nodelaws::Exclusion;
-use mx_plan::{Plan, PlanFault};
+use mx_plan::Plan;
 use mx_scripts::{Recorder, RefusedLine, SessionEvent, State};
 use mx_trace::{Cause, Outcome};
 use std::alloc::{AllocError, Global};
 
-/// A message about the event or the line of this number. The text begins with a space.
-#[derive(Drop)]
-struct Note {
-    number: u64,
-    text: String,
-}
+/// The number of an event or a line, and the message about it, which begins with a space.
+type Note = (u64, String);
 
-/// The notes of a run: which events are refused, and what ends it.
 #[derive(Drop)]
 pub(crate) struct Notes {
     alloc: Global,
@@ -31,12 +27,8 @@ pub(crate) struct Notes {
     refused: Vec<Note>,
     /// How many further ones there are.
     more: u64,
-    /// Why the plan or the events of a replay can't be read.
-    pub(crate) bad_text: Option<PlanFault>,
-    /// The event of this index delivers the parcel of this number, which was not sent.
-    pub(crate) unsent: Option<(u64, u64)>,
-    /// How many parcels were sent.
-    sent: u64,
+    pub(crate) sent: u64,
+    pub(crate) fault: Option<Fault>,
     /// The line of a script that cannot be done, unless one of its words is wrong.
     bad_line: Option<Note>,
 }
@@ -90,12 +82,10 @@ where
         line: &RefusedLine,
         _state: &State<C>,
     ) -> Result<(), AllocError> {
-        if line.is_unread {
-            return Ok(());
+        if !line.is_unread {
+            let text = format!(in self.alloc; " {}{}", line.fault, line.message.as_str())?;
+            self.bad_line = Some((line.number, text));
         }
-        let number = line.number;
-        let text = format!(in self.alloc; " {}{}", line.fault, line.message.as_str())?;
-        self.bad_line = Some(Note { number, text });
         Ok(())
     }
 }
@@ -106,9 +96,8 @@ impl Notes {
             alloc,
             refused: Vec::new(alloc),
             more: 0,
-            bad_text: None,
-            unsent: None,
             sent: 0,
+            fault: None,
             bad_line: None,
         }
     }
@@ -132,50 +121,26 @@ impl Notes {
             return Ok(());
         }
         let text = refusal(self.alloc, plan, cluster, &newest.event, cause)?;
-        self.refused.push(Note { number, text })?;
+        self.refused.push((number, text))?;
         Ok(())
     }
 
-    /// Reports the notes of a replay, each at its event.
-    pub(crate) fn explain_replay(
-        &self,
-        report: &mut Report,
-        part: &Part<'_>,
-    ) -> Result<(), AllocError> {
-        for note in &self.refused {
-            let offset = offset_of(self.alloc, part.text, &[note.number as usize])?;
-            report.add_at(part, offset, note.text.as_str())?;
+    pub(crate) fn add_refused(&self, report: &mut Report, part: &Part<'_>) -> ReportResult {
+        for (k, text) in &self.refused {
+            let offset = offset_of(self.alloc, part.text, &[*k as usize])?;
+            report.add_at(part, offset, text.as_str())?;
         }
-        report.count(part.file, self.more)?;
-        let Some((k, number)) = self.unsent else {
-            return Ok(());
-        };
-        let sent = self.sent;
-        let known = match sent.checked_sub(1) {
-            Some(last) => format!(in self.alloc; "there are {sent}, from 0 to {last}")?,
-            None => String::from_str(self.alloc, "there is none yet")?,
-        };
-        let known = known.as_str();
-        let text = format!(in self.alloc;
-            " events[{k}][1]: {number} stands here, expected a parcel that was sent before: {known}"
-        )?;
-        let offset = offset_of(self.alloc, part.text, &[k as usize, 1])?;
-        report.add_at(part, offset, text.as_str())
+        report.count(part.file, self.more)
     }
 
-    /// Reports the notes of a script, each at its line.
-    pub(crate) fn explain_script(
-        &self,
-        report: &mut Report,
-        part: &Part<'_>,
-    ) -> Result<(), AllocError> {
-        for note in &self.refused {
-            report.add_at(part, part.offset_of_line(note.number), note.text.as_str())?;
+    pub(crate) fn explain_script(&self, report: &mut Report, part: &Part<'_>) -> ReportResult {
+        for (number, text) in &self.refused {
+            report.add_at(part, part.offset_of_line(*number), text.as_str())?;
         }
         report.count(part.file, self.more)?;
         match &self.bad_line {
-            Some(note) => {
-                report.add_at(part, part.offset_of_line(note.number), note.text.as_str())
+            Some((number, text)) => {
+                report.add_at(part, part.offset_of_line(*number), text.as_str())
             }
             None => Ok(()),
         }

@@ -1,10 +1,9 @@
 //! What is wrong in a plan.
 
-use crate::bad_token::report_bad_token;
-use crate::document::{Document, Wrong};
+use crate::json_report::{JsonReport, Wrong, read_value};
 use crate::location::Part;
-use crate::report::{MAX_LINES, Report};
-use crate::shape_fault::{report_cycle, report_shape};
+use crate::report::{MAX_LINES, Report, ReportResult};
+use crate::shape_fault::{add_cycle, add_shape};
 use crate::spot::{Spot, index_in, offset_of};
 use json::{Scratch, Value};
 use mx_lines::{Nearest, Quoted, nearest};
@@ -23,10 +22,8 @@ const KEYS: [&str; 8] = [
     "holder",
 ];
 
-/// What is expected where the name of a node stands.
 pub(crate) const NODE: &str = "a node of the plan";
 
-/// What is expected where a number stands.
 pub(crate) const NUMBER: &str = "a whole number of 64 bits without a sign";
 
 /// Reads a plan, and reports its first fault, and keys that no plan uses. Returns the plan if it
@@ -36,85 +33,73 @@ pub(crate) fn explain_plan(
     part: Part<'_>,
 ) -> Result<Option<Plan>, AllocError> {
     let read = read_plan(report.alloc(), part.text);
-    match read {
-        Err(PlanFault::Memory) => return Err(AllocError),
-        Err(PlanFault::NotJson) => {
-            report_bad_token(report, &part)?;
-            return Ok(None);
-        }
-        _ => {}
+    if let Err(PlanFault::Memory) = read {
+        return Err(AllocError);
     }
     let mut scratch = Scratch::new(report.alloc());
-    let Some(document) = Document::read(report, part, &mut scratch)? else {
+    let Some(plan) = read_value(report, &part, &mut scratch)? else {
         return Ok(None);
     };
+    let mut report = JsonReport { report, part };
     if let Err(fault) = &read {
-        report_fault(report, &document, *fault)?;
+        add_fault(&mut report, Spot::root("", &plan), *fault)?;
     }
-    warn_of_unknown_keys(report, &document)?;
+    add_unknown_keys(&mut report, &plan)?;
     Ok(read.ok())
 }
 
-fn report_fault(
-    report: &mut Report,
-    document: &Document<'_>,
-    fault: PlanFault,
-) -> Result<(), AllocError> {
-    let plan = Spot::root("", &document.root);
+fn add_fault(report: &mut JsonReport<'_>, plan: Spot<'_, '_>, fault: PlanFault) -> ReportResult {
     let mut nodes = Vec::new(report.alloc());
     let names = plan.key("nodes");
     for i in 0..names.len() {
         nodes.push(names.item(i).text())?;
     }
     let nodes = nodes.as_slice();
-    let place = match fault {
-        PlanFault::NotPlan(place) | PlanFault::DoubleName(place) | PlanFault::UnknownName(place) =>
-            { place }
-        PlanFault::BadShape(fault) => return report_shape(report, document, fault, nodes),
-        PlanFault::NotJson | PlanFault::Memory => return Ok(()),
-    };
-    match place {
-        Place::Holder if report_cycle(report, document, nodes)? => Ok(()),
-        Place::Nodes => report_names(report, document, plan.key("nodes"), 21),
-        Place::Registers => report_names(report, document, plan.key("registers"), 32),
-        _ => document.report_wrong(report, &wrong_at(document, place, nodes)),
+    match fault {
+        PlanFault::NotPlan(place) => add_place(report, plan, place, nodes),
+        PlanFault::DoubleName(place) => add_place(report, plan, place, nodes),
+        PlanFault::UnknownName(place) => add_place(report, plan, place, nodes),
+        PlanFault::BadShape(fault) => add_shape(report, plan, fault, nodes),
+        PlanFault::NotJson | PlanFault::Memory => Ok(()),
     }
 }
 
-/// Reports the first value that is wrong in a list of 1 to `most` names, all different.
-fn report_names(
-    report: &mut Report,
-    document: &Document<'_>,
-    list: Spot<'_, '_>,
-    most: usize,
-) -> Result<(), AllocError> {
-    let alloc = report.alloc();
-    let count = list.len();
-    if count == 0 || count > most {
-        let expected = format!(in alloc; "an array of 1 to {most} names")?;
-        return document.report_wrong(report, &Wrong::of(list, expected.as_str()));
+/// Adds the first value that is wrong at a place of a plan, in the order of the text.
+fn add_place(
+    report: &mut JsonReport<'_>,
+    plan: Spot<'_, '_>,
+    place: Place,
+    nodes: &[&str],
+) -> ReportResult {
+    match place {
+        Place::Holder if add_cycle(report, plan, nodes)? => Ok(()),
+        Place::Nodes => add_names(report, plan.key("nodes"), 21),
+        Place::Registers => add_names(report, plan.key("registers"), 32),
+        _ => report.add_wrong(&wrong_at(plan, place, nodes)),
     }
-    for i in 0..count {
+}
+
+fn add_names(report: &mut JsonReport<'_>, list: Spot<'_, '_>, most: usize) -> ReportResult {
+    let alloc = report.alloc();
+    if list.len() == 0 || list.len() > most {
+        let expected = format!(in alloc; "an array of 1 to {most} names")?;
+        return report.add_wrong(&Wrong::of(list, expected.as_str()));
+    }
+    for i in 0..list.len() {
         let name = list.item(i);
         if !is_name(name.text()) {
             let expected = "a name: 1 to 16 of letters, digits, _ and -";
-            return document.report_wrong(report, &Wrong::of(name, expected));
+            return report.add_wrong(&Wrong::of(name, expected));
         }
         if (0..i).any(|k| list.item(k).text() == name.text()) {
             let text = format!(in alloc; "duplicate name {}", Quoted(name.text()))?;
-            return document.report_at(report, name, text.as_str());
+            return report.add(name, text.as_str());
         }
     }
     Ok(())
 }
 
-/// Returns the first value that is wrong at a place of a plan, in the order of the text.
-fn wrong_at<'w, 'a>(
-    document: &'w Document<'a>,
-    place: Place,
-    nodes: &'w [&'w str],
-) -> Wrong<'w, 'a> {
-    let plan = Spot::root("", &document.root);
+fn wrong_at<'w, 'a>(plan: Spot<'w, 'a>, place: Place, nodes: &'w [&'w str]) -> Wrong<'w, 'a> {
     match place {
         Place::Algorithm => Wrong {
             spot: plan.key("algorithm"),
@@ -132,12 +117,11 @@ fn wrong_at<'w, 'a>(
         },
         _ => {
             let expected = "an object with algorithm, nodes, registers and sections";
-            Wrong::of(Spot::root("the plan", &document.root), expected)
+            Wrong::of(plan.named("the plan"), expected)
         }
     }
 }
 
-/// Returns that the text at a place is none of the known words, unless it is one.
 pub(crate) fn wrong_word<'w, 'a>(
     spot: Spot<'w, 'a>,
     expected: &'w str,
@@ -166,7 +150,6 @@ fn wrong_in_edges<'w, 'a>(edges: Spot<'w, 'a>, nodes: &'w [&'w str]) -> Wrong<'w
     Wrong::of(edges, "an array of edges, each an array of two nodes")
 }
 
-/// Returns the first item of an array that is no node, or that it is no array.
 fn wrong_in_nodes<'w, 'a>(list: Spot<'w, 'a>, nodes: &'w [&'w str]) -> Option<Wrong<'w, 'a>> {
     let Some(Value::Array(_)) = list.value else {
         return Some(Wrong::of(list, "an array of nodes"));
@@ -219,9 +202,9 @@ fn wrong_in_sets<'w, 'a>(sets: Spot<'w, 'a>, nodes: &'w [&'w str]) -> Wrong<'w, 
 }
 
 /// Warns of keys that no plan uses: of the first `MAX_LINES`.
-fn warn_of_unknown_keys(report: &mut Report, document: &Document<'_>) -> Result<(), AllocError> {
+fn add_unknown_keys(report: &mut JsonReport<'_>, plan: &Value<'_>) -> ReportResult {
     let alloc = report.alloc();
-    let Value::Object(members) = &document.root else {
+    let Value::Object(members) = plan else {
         return Ok(());
     };
     let mut count = 0usize;
@@ -230,8 +213,8 @@ fn warn_of_unknown_keys(report: &mut Report, document: &Document<'_>) -> Result<
             let nearest = Nearest(nearest(alloc, key, &KEYS)?);
             let key = Quoted(key);
             let text = format!(in alloc; " warning: unknown key {key}, ignored{nearest}")?;
-            let offset = offset_of(alloc, document.part.text, &[index])?;
-            report.add_at(&document.part, offset, text.as_str())?;
+            let offset = offset_of(alloc, report.part.text, &[index])?;
+            report.report.add_at(&report.part, offset, text.as_str())?;
             count = count.saturating_add(1);
         }
     }

@@ -1,18 +1,14 @@
 //! What is wrong in the lines of a script.
 
 use crate::location::Part;
-use crate::report::{MAX_LINES, Report};
+use crate::report::{MAX_LINES, Report, ReportResult};
 use crate::spot::index_in;
 use mx_lines::{Expected, FirstWords, first_error, message, place_of_word, words_in};
 use mx_plan::Plan;
 use std::alloc::AllocError;
 
 /// Reports the first wrong word of each line of a script; of a text of JSON, that it is no script.
-pub(crate) fn explain_lines(
-    report: &mut Report,
-    part: &Part<'_>,
-    plan: &Plan,
-) -> Result<(), AllocError> {
+pub(crate) fn explain_lines(report: &mut Report, part: &Part<'_>, plan: &Plan) -> ReportResult {
     if let Some(offset) = json_begin(part.text) {
         return report.add_at(
             part,
@@ -32,7 +28,6 @@ pub(crate) fn explain_lines(
     report.count(part.file, count.saturating_sub(MAX_LINES as u64))
 }
 
-/// Returns the byte at which a text of JSON begins that is an array or an object.
 fn json_begin(text: &[u8]) -> Option<usize> {
     let begin = text.iter().position(|byte| !byte.is_ascii_whitespace())?;
     match text.get(begin) {
@@ -90,7 +85,7 @@ const MEANT: [(&str, &str); 6] = [
 ];
 
 /// Appends which of the known words is meant by a wrong one, if that is known.
-pub(crate) fn add_meant(word: &str, known: &[&str], text: &mut String) -> Result<(), AllocError> {
+pub(crate) fn add_meant(word: &str, known: &[&str], text: &mut String) -> ReportResult {
     for (other, meant) in &MEANT {
         if *other == word && index_in(meant, known).is_some() {
             write!(text, "; \"{meant}\" is meant")?;

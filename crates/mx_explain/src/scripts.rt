@@ -14,8 +14,6 @@ use mx_io::{Output, Source};
 use mx_scripts::{ScriptError, close_script, file_of_names};
 use std::alloc::Global;
 
-/// Prints what is wrong in a plan and a script, reports how the script ends, and returns the exit
-/// status.
 pub(crate) fn explain_script<S: Source + DetailedSource, O: Output, E: Output>(
     alloc: Global,
     names: &Names<'_>,
@@ -35,8 +33,6 @@ pub(crate) fn explain_script<S: Source + DetailedSource, O: Output, E: Output>(
     close_script(alloc, ended, names, out, err)
 }
 
-/// Runs the lines of a script, and prints what is wrong. Returns how the script ended, or why
-/// printing failed.
 fn end_and_explain<S: Source + DetailedSource, O: Output>(
     alloc: Global,
     names: &Names<'_>,
@@ -58,8 +54,6 @@ fn end_and_explain<S: Source + DetailedSource, O: Output>(
     }
 }
 
-/// Runs a script, which notes its events. Returns how the script ends; the file of its events is
-/// dropped.
 fn end_of<S: Source>(
     alloc: Global,
     names: &Names<'_>,

@@ -1,7 +1,7 @@
 //! What is wrong in the arbiter sets or the tree of a plan as a whole.
 
-use crate::document::Document;
-use crate::report::Report;
+use crate::json_report::JsonReport;
+use crate::report::ReportResult;
 use crate::spot::{Spot, index_in};
 use mx_lines::Quoted;
 use mx_plan::ShapeFault;
@@ -11,15 +11,14 @@ use std::alloc::AllocError;
 use std::fmt;
 use std::fmt::Display;
 
-/// Reports the rule that the arbiter sets or the tree of a plan break; of a tree with a cycle, the
+/// Adds the rule that the arbiter sets or the tree of a plan break; of a tree with a cycle, the
 /// cycle.
-pub(crate) fn report_shape(
-    report: &mut Report,
-    document: &Document<'_>,
+pub(crate) fn add_shape(
+    report: &mut JsonReport<'_>,
+    plan: Spot<'_, '_>,
     fault: ShapeFault,
     nodes: &[&str],
-) -> Result<(), AllocError> {
-    let plan = Spot::root("", &document.root);
+) -> ReportResult {
     let (quorums, edges) = (plan.key("quorums"), plan.key("edges"));
     let spot = match fault {
         ShapeFault::Quorum(QuorumFault::EmptySet(i) | QuorumFault::NotOwnMember(i)) => {
@@ -29,7 +28,7 @@ pub(crate) fn report_shape(
         ShapeFault::Quorum(QuorumFault::NoPlane(_)) => quorums.key("kind"),
         ShapeFault::Quorum(_) => quorums,
         ShapeFault::Tree(TreeFault::BadEdge(k)) => edges.item(k as usize),
-        ShapeFault::Tree(_) if report_cycle(report, document, nodes)? => return Ok(()),
+        ShapeFault::Tree(_) if add_cycle(report, plan, nodes)? => return Ok(()),
         ShapeFault::Tree(_) => edges,
     };
     let count = edges.len();
@@ -39,10 +38,9 @@ pub(crate) fn report_shape(
         nodes,
         count,
     })?;
-    document.report_at(report, spot, text.as_str())
+    report.add(spot, text.as_str())
 }
 
-/// The text about the rule that the sets, or a tree with this count of edges, break.
 #[derive(Clone, Copy)]
 struct ShapeText<'a> {
     fault: ShapeFault,
@@ -56,29 +54,20 @@ impl Display for ShapeText<'_> {
         let node = |i: u8| NamedNode { nodes, i };
         match self.fault {
             ShapeFault::Quorum(QuorumFault::EmptySet(i)) => {
-                write!(
-                    f,
-                    "the set of {} is empty, expected that it has the node itself",
-                    node(i)
-                )
+                write!(f, "the set of {} is empty", node(i))?;
+                f.write_str(", expected that it has the node itself")
             }
             ShapeFault::Quorum(QuorumFault::NotOwnMember(i)) => {
                 write!(f, "the set of {} lacks the node itself", node(i))
             }
             ShapeFault::Quorum(QuorumFault::Apart(i, j)) => {
-                write!(
-                    f,
-                    "the sets of {} and of {} have no node in common",
-                    node(i),
-                    node(j)
-                )?;
-                f.write_str(", expected that any two do")
+                write!(f, "the sets of {} and of {}", node(i), node(j))?;
+                f.write_str(" have no node in common, expected that any two do")
             }
             ShapeFault::Quorum(QuorumFault::NoPlane(n)) => {
                 write!(f, "there is no plane of {n} nodes, expected 7, 13 or 21")?;
                 f.write_str("; a grid has rows times cols")
             }
-            ShapeFault::Quorum(_) => f.write_str("these are no sets of the nodes"),
             ShapeFault::Tree(TreeFault::BadEdge(_)) => {
                 f.write_str("this edge joins a node with itself")
             }
@@ -90,12 +79,11 @@ impl Display for ShapeText<'_> {
             ShapeFault::Tree(TreeFault::NotJoined(i)) => {
                 write!(f, "no way leads from {} to {}", node(i), node(0))
             }
-            ShapeFault::Tree(_) => f.write_str("these are no edges of the nodes"),
+            _ => f.write_str("this is no shape of the nodes"),
         }
     }
 }
 
-/// A node by its name and its number.
 #[derive(Clone, Copy)]
 struct NamedNode<'a> {
     nodes: &'a [&'a str],
@@ -109,16 +97,16 @@ impl Display for NamedNode<'_> {
     }
 }
 
-/// Reports the first edge between two nodes that earlier edges connect, if there is one.
-pub(crate) fn report_cycle(
-    report: &mut Report,
-    document: &Document<'_>,
+/// Adds the first edge between two nodes that earlier edges connect. Returns whether there is one.
+pub(crate) fn add_cycle(
+    report: &mut JsonReport<'_>,
+    plan: Spot<'_, '_>,
     nodes: &[&str],
 ) -> Result<bool, AllocError> {
     let alloc = report.alloc();
     // of each node, the number of its part: nodes that earlier edges connect are in one
     let mut parts: Vec<usize> = (0..nodes.len()).collect(alloc)?;
-    let edges = Spot::root("", &document.root).key("edges");
+    let edges = plan.key("edges");
     for k in 0..edges.len() {
         let edge = edges.item(k);
         let (first, second) = (edge.item(0).text(), edge.item(1).text());
@@ -127,7 +115,7 @@ pub(crate) fn report_cycle(
             let text = format!(in alloc;
                 "this edge makes a cycle, since earlier edges connect {first} and {second}"
             )?;
-            document.report_at(report, edge, text.as_str())?;
+            report.add(edge, text.as_str())?;
             return Ok(true);
         }
     }

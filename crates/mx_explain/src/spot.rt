@@ -5,7 +5,6 @@ use std::alloc::{AllocError, Global};
 use std::fmt;
 use std::fmt::Display;
 
-/// A step into a value: to the member of this key, or else to an item.
 #[derive(Clone, Copy)]
 struct Step {
     key: Option<&'static str>,
@@ -13,13 +12,10 @@ struct Step {
     index: Option<usize>,
 }
 
-/// A place in a value of JSON.
 #[derive(Clone, Copy)]
 pub(crate) struct Spot<'v, 'a> {
-    /// What messages call the outermost value.
     whole: &'static str,
     steps: [Option<Step>; 4],
-    /// What stands there.
     pub(crate) value: Option<&'v Value<'a>>,
 }
 
@@ -32,27 +28,29 @@ impl<'v, 'a> Spot<'v, 'a> {
         }
     }
 
-    pub(crate) fn key(self, key: &'static str) -> Self {
-        let found = self.member_of(key);
-        let index = found.map(|(index, _)| index);
-        let key = Some(key);
-        self.then(Step { key, index }, found.map(|(_, value)| value))
-    }
-
-    pub(crate) fn item(self, i: usize) -> Self {
-        let (key, index) = (None, Some(i));
-        self.then(Step { key, index }, self.item_of(i))
-    }
-
-    fn then(mut self, step: Step, value: Option<&'v Value<'a>>) -> Self {
-        if let Some(free) = self.steps.iter_mut().find(|step| step.is_none()) {
-            *free = Some(step);
-        }
-        self.value = value;
+    pub(crate) fn named(mut self, whole: &'static str) -> Self {
+        self.whole = whole;
         self
     }
 
-    /// Returns the value of the member of this key, the last one if several have it, and its index.
+    pub(crate) fn key(self, key: &'static str) -> Self {
+        self.then(Some(key), self.member_of(key))
+    }
+
+    pub(crate) fn item(self, i: usize) -> Self {
+        self.then(None, self.item_of(i))
+    }
+
+    fn then(mut self, key: Option<&'static str>, found: Option<(usize, &'v Value<'a>)>) -> Self {
+        let index = found.map(|(index, _)| index);
+        if let Some(free) = self.steps.iter_mut().find(|step| step.is_none()) {
+            *free = Some(Step { key, index });
+        }
+        self.value = found.map(|(_, value)| value);
+        self
+    }
+
+    /// Of several members with this key, returns the last.
     fn member_of(&self, key: &str) -> Option<(usize, &'v Value<'a>)> {
         let Some(Value::Object(members)) = self.value else {
             return None;
@@ -62,14 +60,14 @@ impl<'v, 'a> Spot<'v, 'a> {
         Some((index, value))
     }
 
-    fn item_of(&self, i: usize) -> Option<&'v Value<'a>> {
+    fn item_of(&self, i: usize) -> Option<(usize, &'v Value<'a>)> {
         let Some(Value::Array(items)) = self.value else {
             return None;
         };
-        items.get(i)
+        Some((i, items.get(i)?))
     }
 
-    /// Returns how many items an array has, and 0 for other values.
+    /// Returns 0 for a value that is no array.
     pub(crate) fn len(&self) -> usize {
         match self.value {
             Some(Value::Array(items)) => items.len(),
@@ -77,7 +75,7 @@ impl<'v, 'a> Spot<'v, 'a> {
         }
     }
 
-    /// Returns the text of a string, or an empty one for other values.
+    /// Returns an empty text for a value that is no string.
     pub(crate) fn text(&self) -> &'a str {
         self.value.and_then(Value::as_str).unwrap_or("")
     }
@@ -124,7 +122,6 @@ pub(crate) fn offset_of(
     Ok(reader.offset())
 }
 
-/// Goes on to the member or the item of this index in the object or array that comes next.
 fn enter(reader: &mut Reader<'_>, index: usize) -> Option<()> {
     let is_object = matches!(reader.next()?, Token::BeginObject);
     for _ in 0..index {
