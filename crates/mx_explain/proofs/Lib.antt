@@ -1,2 +1,3 @@
 pub mod ExplainLemmas
+mod ReportLemmas
 pub mod TellsLemmas

@@ -1,6 +1,6 @@
 -- What standard output gets of an explanation.
 use Rattle.std.proofs.Common.{◌≡◌, ◌≢◌, ◌∙◌, ◌⊎◌, ℕ, Bool, true, false, suc, [], ◌∷◌, Result, Ok, Err, ap, refl, inl, inr, arith}
-use Rattle.std.specs.Prelude.{IfOk, OnOk}
+use Rattle.std.specs.Prelude.{◌↔◌, IfOk, IsErr, is_ok}
 use Rattle.std.specs.Io.KnownBytes.{Appends, Keeps}
 use Rattle.mx_plan.specs.Text.{Text}
 use Rattle.mx_io.specs.Outputs.{Held}
@@ -12,8 +12,8 @@ use Rattle.mx_cli.proofs.OutputLemmas.{Appends-keeps, Appends-nil, Keeps-refl}
 use Rattle.mx_scripts.specs.declared.script_error.ScriptError.{ScriptError}
 use Rattle.mx_scripts.specs.declared.script_error.ScriptError.TheVariants as script_error
 use Rattle.mx_scripts.specs.Ended.{ClosesScript}
-use Rattle.mx_explain.specs.Reports.{last_line, nothing_at_fault}
-use Rattle.mx_explain.specs.Explained.{Prints, PrintsReport, TellsLines}
+use Rattle.mx_explain.specs.Reports.{AreShown, last_line, nothing_at_fault}
+use Rattle.mx_explain.specs.Explained.{Prints, TellsLines}
 
 -- ---- what is printed
 
@@ -35,20 +35,16 @@ prints_nothing T old new e keeps = ([], nil_of old new keeps, tt, no_line)
 pub prints_none : (T : Type 0) {E : Type 0} (old : Held) (e : E) → Prints {T = T} old old (Err e)
 prints_none T old e = prints_nothing T old old e (Keeps-refl old)
 
-prints_ok : (E : Type 0) {T : Type 0} (old new : Held) (v : T) → PrintsReport old new false → Prints {E = E} old new (Ok v)
-prints_ok E old new v p = (p.0, p.1, p.2, p.3.1 refl)
+-- a report is printed of a run that ended
+pub prints_ended : (T E : Type 0) (old new : Held) (text : Text) (ended : Result T E) → Appends old new text → AreShown text
+    → ((last_line text ≡ nothing_at_fault) ↔ (is_ok ended ≡ true)) → Prints old new ended
+prints_ended T E old new text (Ok v) a p last = (text, a, p, last.1 refl)
+prints_ended T E old new text (Err e) a p last = (text, a, p, λ q. absurd (let bad : false ≡ true = last.0 q in cc))
 
-prints_err : (T : Type 0) {E : Type 0} (old new : Held) (e : E) → PrintsReport old new true → Prints {T = T} old new (Err e)
-prints_err T old new e p = (p.0, p.1, p.2, λ last. absurd (let bad : true ≡ false = p.3.0 last in cc))
-
--- a report without faults is printed of a run that succeeds
-pub after_ok : (E : Type 0) {F T : Type 0} (r : Result F CommandError) (old new : Held) (v : T) → OnOk r (PrintsReport old new false) → OnOk r (Prints {E = E} old new (Ok v))
-after_ok E (Ok f) old new v p = prints_ok E old new v p
-after_ok E (Err s) old new v p = tt
-
-pub after_err : (T : Type 0) {F E : Type 0} (r : Result F CommandError) (old new : Held) (e : E) → OnOk r (PrintsReport old new true) → OnOk r (Prints {T = T} old new (Err e))
-after_err T (Ok f) old new e p = prints_err T old new e p
-after_err T (Err s) old new e p = tt
+-- nothing is printed of a run that is not told
+pub prints_untold : (T E : Type 0) (old : Held) (ended : Result T E) → IsErr ended → Prints old old ended
+prints_untold T E old (Ok v) h = absurd h
+prints_untold T E old (Err e) h = prints_none T old e
 
 -- ---- how it is closed
 

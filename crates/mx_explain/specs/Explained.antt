@@ -1,6 +1,6 @@
 -- The status of an explanation, and what standard error gets: the same as for the check, the replay
 -- or the script. And what standard output gets.
-use Rattle.std.specs.Prelude.{◌≡◌, ◌≢◌, ◌⊎◌, ◌↔◌, ◌&&◌, ℕ, Bool, false, true, Option, Result, IfSome, MatchResult}
+use Rattle.std.specs.Prelude.{◌≡◌, ◌≢◌, ◌⊎◌, ◌&&◌, ℕ, Bool, false, Option, Result, IfSome, MatchResult}
 use Rattle.std.specs.Io.KnownBytes.{Appends}
 use Rattle.mx_cli.specs.Words.{Request}
 use Rattle.mx_plan.specs.Text.{Text}
@@ -41,13 +41,6 @@ ExplainsRequest takes_out takes_err told (script names) old new status =
 -- all bytes never refuses
 abbrev pub FailsToPrint : Bool → CommandError → Type 0
 FailsToPrint takes_all end = (end ≡ Memory) ⊎ ((end ≡ Writer) × (takes_all ≡ false))
-
--- A report was printed: printable lines. The last is `nothing is at fault` exactly if the files are
--- well.
-abbrev pub PrintsReport : Held → Held → Bool → Type 0
-PrintsReport old new is_well =
-    (text : Text) × Appends old new text × AreShown text
-    × ((last_line text ≡ nothing_at_fault) ↔ (is_well ≡ true))
 
 -- What was printed about the files: printable lines. The last is `nothing is at fault` exactly if
 -- the command succeeds.

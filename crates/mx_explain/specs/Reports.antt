@@ -38,7 +38,7 @@ pub record IsReport (text : Text) : Type 0 where
 
 -- a line about this file is added, and the earlier ones stay
 abbrev pub AddsLine : Text → Text → Text → Text → Type 0
-AddsLine file message old new = new ≡ old ++ line_text file message ++ 10 ∷ []
+AddsLine file message old new = new ≡ old ++ (line_text file message ++ 10 ∷ [])
 
 -- ---- texts
 
@@ -47,7 +47,7 @@ nothing_at_fault = codes "nothing is at fault"
 
 -- the lines of a report without faults, and one that says so
 abbrev pub report_text : Text → Text
-report_text lines = lines ++ nothing_at_fault ++ 10 ∷ []
+report_text lines = lines ++ (nothing_at_fault ++ 10 ∷ [])
 
 -- the last complete line of a text that goes on after the complete line `last` and the start
 -- `begun` of the next one

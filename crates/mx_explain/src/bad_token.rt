@@ -6,88 +6,63 @@ use arrayvec::ArrayVec;
 use json::{Scratch, Value, is_valid};
 use std::alloc::{AllocError, Global};
 
-/// The greatest number of brackets that may be open at once.
 const MAX_DEPTH: usize = 127;
 
-/// How many characters are shown at most of a text that does not fit.
 const MAX_SHOWN: usize = 24;
 
 const STRING: &str =
     "a text in one line without control characters, each \\ of which begins an escape of a whole character";
 
-/// Why a text is not JSON.
 #[derive(Clone, Copy)]
 enum Cause {
-    /// This is expected here.
     Expected(&'static str),
-    /// What these words say stands here.
     Stands(&'static str),
-    /// The text ends here, before what opens at this byte is closed.
+    /// The text ends before what opens at this byte is closed.
     Cut(usize),
 }
 
-/// The byte of a text at which it stops being JSON.
-#[derive(Clone, Copy)]
-struct BadToken {
-    offset: usize,
-    cause: Cause,
-}
-
-/// Reports the first token by which a text is not JSON.
-pub(crate) fn report_bad_token(report: &mut Report, part: &Part<'_>) -> Result<(), AllocError> {
+/// Reports the first token by which a text is not JSON. Returns whether there is one.
+pub(crate) fn report_bad_token(report: &mut Report, part: &Part<'_>) -> Result<bool, AllocError> {
     let alloc = report.alloc();
-    let (text, is_utf8) = valid_start(part.text);
-    let bad = match first_bad_token(alloc, text)? {
-        Some(bad) if is_utf8 || bad.offset < text.len() => bad,
-        None if is_utf8 => return Ok(()),
-        _ => BadToken {
-            offset: text.len(),
-            cause: Cause::Stands("bytes that are not UTF-8 stand here"),
-        },
+    let end = match str::from_utf8(part.text) {
+        Ok(text) => text.len(),
+        Err(e) => e.valid_up_to(),
     };
-    let said = match bad.cause {
+    let text = str::from_utf8(part.text.get(..end).unwrap_or(&[])).unwrap_or("");
+    let (offset, cause) = match first_bad_token(alloc, text)? {
+        Some((offset, cause)) if end == part.text.len() || offset < end => (offset, cause),
+        None if end == part.text.len() => return Ok(false),
+        _ => (
+            text.len(),
+            Cause::Stands("bytes that are not UTF-8 stand here"),
+        ),
+    };
+    let mut message = String::from_str(alloc, " not JSON: ")?;
+    match cause {
         Cause::Expected(expected) => {
-            let rest = shown_of(rest_of(text, bad.offset));
-            format!(in alloc; "expected {expected} where this stands: {rest}")?
+            write!(message, "expected {expected} where this stands: ")?;
+            let line = rest_of(text, offset).lines().next().unwrap_or("");
+            for character in line.chars().take(MAX_SHOWN) {
+                message.push(character)?;
+            }
         }
-        Cause::Stands(words) => String::from_str(alloc, words)?,
+        Cause::Stands(words) => message.push_str(words)?,
         Cause::Cut(opened) => {
             let opened = part.location(opened);
-            format!(in alloc; "the text ends here, and what opens at {opened} is not closed")?
-        }
-    };
-    let message = format!(in alloc; " not JSON: {}", said.as_str())?;
-    report.add_at(part, bad.offset, message.as_str())
-}
-
-/// Returns the longest prefix that is UTF-8, and whether that is the whole text.
-fn valid_start(text: &[u8]) -> (&str, bool) {
-    match str::from_utf8(text) {
-        Ok(text) => (text, true),
-        Err(e) => {
-            let start = text.get(..e.valid_up_to()).unwrap_or(&[]);
-            (str::from_utf8(start).unwrap_or(""), false)
+            write!(
+                message,
+                "the text ends here, and what opens at {opened} is not closed"
+            )?;
         }
     }
-}
-
-/// Returns the first line of a text, as far as it is shown.
-fn shown_of(text: &str) -> &str {
-    let line = text.lines().next().unwrap_or("");
-    if line.is_empty() {
-        return "the end of the line";
-    }
-    match line.char_indices().nth(MAX_SHOWN) {
-        Some((end, _)) => line.get(..end).unwrap_or(line),
-        None => line,
-    }
+    report.add_at(part, offset, message.as_str())?;
+    Ok(true)
 }
 
 fn rest_of(text: &str, offset: usize) -> &str {
     text.get(offset..).unwrap_or("")
 }
 
-/// What may come next in a text.
 #[derive(Clone, Copy, PartialEq, Eq)]
 enum Next {
     Value,
@@ -99,7 +74,6 @@ enum Next {
     AfterValue,
 }
 
-/// How far a text was read.
 #[derive(Drop)]
 struct Scanner {
     next: Next,
@@ -107,12 +81,11 @@ struct Scanner {
     open: ArrayVec<(u8, usize), MAX_DEPTH>,
 }
 
-/// Returns the first token that does not fit, if there is one. Each has a byte or more, which
-/// bounds the loop.
-fn first_bad_token(alloc: Global, text: &str) -> Result<Option<BadToken>, AllocError> {
+/// Returns the first token that does not fit and its byte. Each has a byte or more, which bounds
+/// the loop.
+fn first_bad_token(alloc: Global, text: &str) -> Result<Option<(usize, Cause)>, AllocError> {
     if text.starts_with("\u{feff}") {
-        let cause = Cause::Stands("a byte order mark stands here");
-        return Ok(Some(BadToken { offset: 0, cause }));
+        return Ok(Some((0, Cause::Stands("a byte order mark stands here"))));
     }
     let mut scratch = Scratch::new(alloc);
     let mut scanner = Scanner {
@@ -124,18 +97,14 @@ fn first_bad_token(alloc: Global, text: &str) -> Result<Option<BadToken>, AllocE
         let rest = rest_of(text, offset).trim_start_matches(is_blank);
         offset = text.len().saturating_sub(rest.len());
         let token = token_of(rest);
-        let is_good = is_valid(token, &mut scratch)?;
-        match scanner.take(token, is_good, offset) {
-            Some(Cause::Cut(opened)) => {
-                return Ok(Some(BadToken {
-                    offset: text.len(),
-                    cause: Cause::Cut(opened),
-                }));
-            }
-            Some(cause) => return Ok(Some(BadToken { offset, cause })),
-            None if token.is_empty() => return Ok(None),
-            None => offset = offset.saturating_add(token.len()),
+        let is_value = is_valid(token, &mut scratch)?;
+        match scanner.take(token, is_value, offset) {
+            Ok(_) if token.is_empty() => return Ok(None),
+            Ok(next) => scanner.next = next,
+            Err(Cause::Cut(opened)) => return Ok(Some((text.len(), Cause::Cut(opened)))),
+            Err(cause) => return Ok(Some((offset, cause))),
         }
+        offset = offset.saturating_add(token.len());
     }
     Ok(None)
 }
@@ -173,13 +142,15 @@ fn ends_word(character: char) -> bool {
 }
 
 impl Scanner {
-    /// Takes the token at the byte `offset`, or returns why it may not come next. `is_good` says
-    /// whether it is a value.
-    fn take(&mut self, token: &str, is_good: bool, offset: usize) -> Option<Cause> {
-        let next = match (token, self.next) {
-            ("", _) => return self.end(),
-            ("{", Next::Value | Next::ValueOrSquare) => self.open(b'{', offset),
-            ("[", Next::Value | Next::ValueOrSquare) => self.open(b'[', offset),
+    /// Takes the token at the byte `offset`, an empty one at the end of the text. Returns what may
+    /// come next.
+    fn take(&mut self, token: &str, is_value: bool, offset: usize) -> Result<Next, Cause> {
+        match (token, self.next) {
+            ("", _) => self.end(),
+            ("{", Next::Value | Next::ValueOrSquare) => self.open(b'{', offset, Next::KeyOrCurly),
+            ("[", Next::Value | Next::ValueOrSquare) => {
+                self.open(b'[', offset, Next::ValueOrSquare)
+            }
             ("}", Next::KeyOrCurly | Next::AfterValue) => self.close(b'{'),
             ("]", Next::ValueOrSquare | Next::AfterValue) => self.close(b'['),
             (":", Next::Colon) => Ok(Next::Value),
@@ -189,35 +160,27 @@ impl Scanner {
                 None => Err(self.misfit()),
             },
             (_, Next::Colon | Next::AfterValue) => Err(self.misfit()),
-            _ if token.starts_with("\"") && !is_good => Err(bad_string(token, offset)),
-            (_, Next::Key | Next::KeyOrCurly) if token.starts_with("\"") => Ok(Next::Colon),
-            (_, Next::Value | Next::ValueOrSquare) if is_good => after_value(token),
+            _ if token.starts_with("\"") && !is_value => Err(bad_string(token, offset)),
+            (_, Next::Key | Next::KeyOrCurly) if is_value && token.starts_with("\"") => Ok(
+                Next::Colon,
+            ),
+            (_, Next::Value | Next::ValueOrSquare) if is_value => after_value(token),
             _ => Err(self.misfit()),
-        };
-        match next {
-            Ok(next) => {
-                self.next = next;
-                None
-            }
-            Err(cause) => Some(cause),
         }
     }
 
-    fn end(&self) -> Option<Cause> {
+    fn end(&self) -> Result<Next, Cause> {
         match (self.open.as_slice().last(), self.next) {
-            (Some((_, opened)), _) => Some(Cause::Cut(*opened)),
-            (None, Next::AfterValue) => None,
-            _ => Some(Cause::Stands("the text ends here, expected a value")),
+            (Some((_, opened)), _) => Err(Cause::Cut(*opened)),
+            (None, Next::AfterValue) => Ok(Next::AfterValue),
+            _ => Err(Cause::Stands("the text ends here, expected a value")),
         }
     }
 
-    fn open(&mut self, bracket: u8, offset: usize) -> Result<Next, Cause> {
-        if self.open.try_push((bracket, offset)).is_err() {
-            return Err(Cause::Stands("brackets nest deeper than 127 here"));
-        }
-        match bracket {
-            b'{' => Ok(Next::KeyOrCurly),
-            _ => Ok(Next::ValueOrSquare),
+    fn open(&mut self, bracket: u8, offset: usize, next: Next) -> Result<Next, Cause> {
+        match self.open.try_push((bracket, offset)) {
+            Ok(()) => Ok(next),
+            Err(_) => Err(Cause::Stands("brackets nest deeper than 127 here")),
         }
     }
 

@@ -35,14 +35,12 @@ impl<R: Files + Input> DetailedSource for Streams<'_, R> {
     }
 }
 
-/// A name, and the bytes that were read of it.
 #[derive(Drop)]
 pub(crate) struct Entry {
     name: String,
     bytes: Vec<u8>,
 }
 
-/// A source that keeps what `bytes` reads, until `fetched` takes it.
 #[derive(Drop)]
 pub(crate) struct CachedSource<'s, S: Source + DetailedSource> {
     pub(crate) source: &'s mut S,
@@ -73,7 +71,6 @@ impl<'s, S: Source + DetailedSource> DetailedSource for CachedSource<'s, S> {
     }
 }
 
-/// Keeps a copy of the bytes that were read under a name.
 fn keep(
     alloc: Global,
     entries: &mut Vec<Entry>,
@@ -86,7 +83,6 @@ fn keep(
     Ok(())
 }
 
-/// Returns the index of the entry that has the bytes read under a name.
 fn index_of(entries: &[Entry], name: &str) -> Option<usize>
     ensures within { IfSome result (λ index. index < length entries.now) }
 {

@@ -1,116 +1,113 @@
 //! What is wrong in a list of events.
 
-use crate::bad_token::report_bad_token;
-use crate::document::{Document, Wrong, index_in, items_of, text_of};
+use crate::json_report::{JsonReport, Wrong, read_value};
 use crate::location::Part;
-use crate::path::Path;
-use crate::plan_fault::NUMBER;
-use crate::report::Report;
+use crate::notes::Notes;
+use crate::plan_fault::{NODE, NUMBER, wrong_word};
+use crate::report::{Report, ReportResult};
 use crate::script_lines::add_meant;
-use json::Scratch;
+use crate::spot::Spot;
+use json::{Scratch, Value};
+use mx_cli::Fault;
 use mx_events::{ArgumentKind, EventKind};
 use mx_lines::{FirstWords, Listed, Names};
 use mx_plan::{Place, Plan, PlanFault};
-use std::alloc::AllocError;
 
-/// Reports the fault of a list of events.
+/// Reports the refused events of a list, and its fault, if it has one.
 pub(crate) fn explain_events(
     report: &mut Report,
     part: Part<'_>,
     plan: &Plan,
-    fault: PlanFault,
-) -> Result<(), AllocError> {
-    if let PlanFault::NotJson = fault {
-        return report_bad_token(report, &part);
-    }
-    let mut scratch = Scratch::new(report.alloc());
-    let Some(document) = Document::read(report, part, &mut scratch)? else {
+    notes: &Notes,
+) -> ReportResult {
+    notes.add_refused(report, &part)?;
+    let Some(fault) = notes.fault else {
         return Ok(());
     };
-    let path = Path::whole("events");
+    let mut scratch = Scratch::new(report.alloc());
+    let Some(events) = read_value(report, &part, &mut scratch)? else {
+        return Ok(());
+    };
+    let events = Spot::root("events", &events);
+    let mut report = JsonReport { report, part };
     match fault {
-        PlanFault::NotPlan(Place::Event(1_000_000)) => {
-            document.report_wrong(report, &Wrong::of(path, "at most 1000000 events"))
+        Fault::NoParcel(k) => {
+            add_unsent(&mut report, events.item(k as usize).item(1), notes.sent)
         }
-        PlanFault::NotPlan(Place::Event(k)) | PlanFault::UnknownName(Place::Event(k)) => {
-            report_event(report, &document, plan, path.item(k as usize))
+        Fault::BadText(PlanFault::NotPlan(Place::Event(1_000_000))) => {
+            report.add_wrong(&Wrong::of(events, "at most 1000000 events"))
         }
+        Fault::BadText(
+            PlanFault::NotPlan(Place::Event(k)) | PlanFault::UnknownName(Place::Event(k)),
+        ) => add_event(&mut report, events.item(k as usize), plan),
         _ => {
             let expected = "an array of events, as [[\"ask\",NODE],[\"deliver\",0]]";
-            document.report_wrong(report, &Wrong::of(path, expected))
+            report.add_wrong(&Wrong::of(events, expected))
         }
     }
 }
 
-/// Reports the first value that is wrong in the event at a path, in the order of the text.
-fn report_event(
-    report: &mut Report,
-    document: &Document<'_>,
-    plan: &Plan,
-    path: Path,
-) -> Result<(), AllocError> {
+fn add_unsent(report: &mut JsonReport<'_>, parcel: Spot<'_, '_>, sent: u64) -> ReportResult {
     let alloc = report.alloc();
-    let items = items_of(path.find(&document.root).1);
-    let Some((first, arguments)) = items.split_first() else {
+    let mut expected = String::from_str(alloc, "a parcel that was sent before: ")?;
+    match sent.checked_sub(1) {
+        Some(last) => write!(expected, "there are {sent}, from 0 to {last}")?,
+        None => expected.push_str("there is none yet")?,
+    }
+    report.add_wrong(&Wrong::of(parcel, expected.as_str()))
+}
+
+/// Adds the first value that is wrong in an event, in the order of the text.
+fn add_event(report: &mut JsonReport<'_>, event: Spot<'_, '_>, plan: &Plan) -> ReportResult {
+    let alloc = report.alloc();
+    let Some(count) = event.len().checked_sub(1) else {
         let expected = "an array of a word and its arguments, as [\"ask\",NODE]";
-        return document.report_wrong(report, &Wrong::of(path, expected));
+        return report.add_wrong(&Wrong::of(event, expected));
     };
-    let word = text_of(Some(first));
-    let Some(kind) = EventKind::of_word(word) else {
-        return report_word(report, document, word, path.item(0));
+    let Some(kind) = EventKind::of_word(event.item(0).text()) else {
+        return add_word(report, event.item(0));
     };
-    let (wanted, count) = (kind.arguments().len(), arguments.len());
+    let (word, wanted) = (kind.word(), kind.arguments().len());
     if wanted != count {
         let noun = if wanted == 1 { "argument" } else { "arguments" };
         let text = format!(in alloc; "`{word}` takes {wanted} {noun}, got {count}")?;
-        return document.report_at(report, path, text.as_str());
+        return report.add(event, text.as_str());
     }
     let nodes = plan.node_names(alloc)?;
     let registers = plan.register_names(alloc)?;
-    for (i, (kind, value)) in kind.arguments().iter().zip(arguments).enumerate() {
-        let path = path.item(i.saturating_add(1));
-        let (is_right, wrong) = match kind {
-            ArgumentKind::Node => {
-                let is_node = index_in(text_of(Some(value)), nodes.as_slice()).is_some();
-                (is_node, Wrong::node(path, nodes.as_slice()))
-            }
-            ArgumentKind::Register => {
-                let known = registers.as_slice();
-                let expected = "a register of the plan";
-                let is_register = index_in(text_of(Some(value)), known).is_some();
-                (
-                    is_register,
-                    Wrong {
-                        path,
-                        expected,
-                        known,
-                    },
-                )
-            }
-            _ => (value.as_u64().is_some(), Wrong::of(path, NUMBER)),
-        };
-        if !is_right {
-            return document.report_wrong(report, &wrong);
+    for (i, kind) in kind.arguments().iter().enumerate() {
+        let spot = event.item(i.saturating_add(1));
+        let wrong = wrong_argument(spot, *kind, nodes.as_slice(), registers.as_slice());
+        if let Some(wrong) = wrong {
+            return report.add_wrong(&wrong);
         }
     }
     Ok(())
 }
 
-/// Reports a word that no event has, and the words of events.
-fn report_word(
-    report: &mut Report,
-    document: &Document<'_>,
-    word: &str,
-    path: Path,
-) -> Result<(), AllocError> {
+fn wrong_argument<'w, 'a>(
+    spot: Spot<'w, 'a>,
+    kind: ArgumentKind,
+    nodes: &'w [&'w str],
+    registers: &'w [&'w str],
+) -> Option<Wrong<'w, 'a>> {
+    match kind {
+        ArgumentKind::Node => wrong_word(spot, NODE, nodes),
+        ArgumentKind::Register => wrong_word(spot, "a register of the plan", registers),
+        _ if spot.value.and_then(Value::as_u64).is_some() => None,
+        _ => Some(Wrong::of(spot, NUMBER)),
+    }
+}
+
+fn add_word(report: &mut JsonReport<'_>, spot: Spot<'_, '_>) -> ReportResult {
     let alloc = report.alloc();
     let known = FirstWords::OfEvents.listed(alloc)?;
     let mut expected = format!(in alloc; "{}", Listed(known.as_slice()))?;
-    add_meant(word, known.as_slice(), &mut expected)?;
-    let wrong = Wrong {
-        path,
-        expected: expected.as_str(),
-        known: known.as_slice(),
-    };
-    document.report_wrong(report, &wrong)
+    add_meant(spot.text(), known.as_slice(), &mut expected)?;
+    let (expected, known) = (expected.as_str(), known.as_slice());
+    report.add_wrong(&Wrong {
+        spot,
+        expected,
+        known,
+    })
 }

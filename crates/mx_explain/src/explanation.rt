@@ -1,13 +1,12 @@
 //! `explain`: from words, named bytes and two outputs to an exit status.
 
-ghost use Rattle.std.specs.Prelude.{◌≡◌, ◌&&◌, IsSome, IfSome, IfOk, IfErr, OnErr, OnOk, None, true};
+ghost use Rattle.std.specs.Prelude.{◌≡◌, ◌&&◌, IsErr, IsSome, IfSome, IfOk, None, false, true};
 ghost use Rattle.mx_cli.specs.Words.{request_of, texts_of};
 ghost use Rattle.mx_cli.specs.Reports.{Answers, seen};
 ghost use Rattle.mx_cli.specs.Closed.{IsRunStatus, PassesOn};
 ghost use Rattle.mx_commands.specs.Ran.{RanOf};
-ghost use Rattle.mx_explain.specs.Asked.{explain_line, explain_request_of, request_asked};
-ghost use Rattle.mx_explain.specs.Explained.{Explains, ExplainsRequest, FailsToPrint, Prints, TellsLines};
-ghost use Rattle.std.specs.Io.KnownBytes.{Keeps};
+ghost use Rattle.mx_explain.specs.Asked.{explain_line, request_asked};
+ghost use Rattle.mx_explain.specs.Explained.{Explains, ExplainsRequest, Prints, TellsLines};
 
 use crate::cached_source::{CachedSource, DetailedSource};
 use crate::files::{Second, print_files};
@@ -24,9 +23,7 @@ use std::alloc::Global;
 /// exit status:
 ///
 /// - that of the check, the replay or the script that it explains: 0, 1 or 5;
-/// - 0 if help was requested;
-/// - 1 if an output failed;
-/// - 2 for wrong arguments.
+/// - 0 if help was requested, 1 if an output failed, 2 for wrong arguments.
 pub fn explain<S: Source + DetailedSource, O: Output, E: Output>(
     alloc: Global,
     words: &[&str],
@@ -46,39 +43,20 @@ pub fn explain<S: Source + DetailedSource, O: Output, E: Output>(
     ensures answers { Answers explain_line (texts_of words.entry.now) (O.takes_all out.old)
         (seen O.Output E.Output out.old err.old) (seen O.Output E.Output out.new err.new) result }
 {
+    let entries = Vec::new(alloc);
+    let mut cached = CachedSource { source, entries };
     match parse(alloc, words) {
-        Ok(Some(request)) => explain_cached(alloc, &request, source, out, err),
+        Ok(Some(ExplainRequest::Run(request))) => {
+            explain_request(alloc, &request, &mut cached, out, err)
+        }
+        Ok(Some(ExplainRequest::Script(names))) => {
+            explain_script(alloc, &names, &mut cached, out, err)
+        }
         Ok(None) => 2,
         Err(e) => refuse(alloc, &e, out, err),
     }
 }
 
-/// Explains what was asked for, and returns the exit status. What a run has read is not read again.
-fn explain_cached<S: Source + DetailedSource, O: Output, E: Output>(
-    alloc: Global,
-    request: &ExplainRequest<'_>,
-    source: &mut S,
-    out: &mut O,
-    err: &mut E,
-) -> u8
-    ensures explains { ExplainsRequest (O.takes_all out.old) (E.takes_all err.old)
-        (S.told source.old) (explain_request_of request.now)
-        (E.written err.old) (E.written err.new) result }
-    ensures told { TellsLines (O.takes_all out.old && E.takes_all err.old) (O.written out.old)
-        (O.written out.new) (E.written err.old) (E.written err.new) result }
-    ensures passed { PassesOn (E.written err.old) (E.written err.new) (O.keeps_back out.new)
-        result }
-    ensures status { IsRunStatus result }
-{
-    let entries = Vec::new(alloc);
-    let mut cached = CachedSource { source, entries };
-    match request {
-        ExplainRequest::Run(request) => explain_request(alloc, request, &mut cached, out, err),
-        ExplainRequest::Script(names) => explain_script(alloc, names, &mut cached, out, err),
-    }
-}
-
-/// Explains a check or a replay, and returns the exit status.
 fn explain_request<S: Source + DetailedSource, O: Output, E: Output>(
     alloc: Global,
     request: &Request<'_>,
@@ -114,7 +92,15 @@ fn carry_out_and_explain<S: Source + DetailedSource, O: Output>(
 {
     let mut notes = Notes::new(alloc);
     let ended = run(alloc, request, source, &mut notes);
-    print_end(alloc, request, &ended, &notes, source, out)?;
+    if let Err(CommandError::Fault(fault)) = &ended {
+        notes.fault = Some(*fault);
+    }
+    let second = match request {
+        Request::Replay(_) => Second::Events(&notes),
+        Request::Check(_) | Request::Asks(_) | Request::Explore(_) => Second::Nothing,
+    };
+    let (names, is_told) = (names_in(request), is_told(&ended));
+    print_files(alloc, &names, &second, &ended, is_told, source, out)?;
     ended
 }
 
@@ -137,29 +123,9 @@ fn run<S: Source>(
     }
 }
 
-/// Prints what is wrong in the files of a request that ended as `ended` says. Prints nothing if
-/// memory ran out.
-fn print_end<S: Source + DetailedSource, O: Output>(
-    alloc: Global,
-    request: &Request<'_>,
-    ended: &Result<u8, CommandError>,
-    notes: &Notes,
-    source: &mut S,
-    out: &mut O,
-) -> Result<(), CommandError>
-    ensures fails { IfErr result (FailsToPrint (O.takes_all out.old)) }
-    ensures prints { OnOk result (Prints (O.written out.old) (O.written out.new) ended.now) }
-    ensures same { OnErr result (Keeps (O.written out.old) (O.written out.new)) }
-    ensures stays { O.takes_all out.new ≡ O.takes_all out.old }
+/// Returns whether it is told how a run ended: not if memory ran out.
+fn is_told(ended: &Result<u8, CommandError>) -> bool
+    ensures { result ≡ false → IsErr ended.now }
 {
-    let names = names_in(request);
-    let second = match request {
-        Request::Replay(_) => Second::Events(notes),
-        Request::Check(_) | Request::Asks(_) | Request::Explore(_) => Second::Nothing,
-    };
-    match ended {
-        Ok(_) => print_files(alloc, &names, &second, true, source, out),
-        Err(CommandError::Fault(_)) => print_files(alloc, &names, &second, false, source, out),
-        Err(_) => Ok(()),
-    }
+    matches!(ended, Ok(_) | Err(CommandError::Fault(_)))
 }

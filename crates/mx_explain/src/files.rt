@@ -1,82 +1,72 @@
 //! What is wrong in the files that a check, a replay or a script reads.
 
-ghost use Rattle.std.specs.Prelude.{◌≡◌, IfErr, OnErr, OnOk};
+ghost use Rattle.std.specs.Prelude.{◌≡◌, IfErr, IsErr, OnErr, OnOk, false};
 ghost use Rattle.std.specs.Io.KnownBytes.{Keeps};
-ghost use Rattle.mx_explain.specs.Explained.{FailsToPrint, PrintsReport};
+ghost use Rattle.mx_explain.specs.Explained.{FailsToPrint, Prints};
 
 use crate::cached_source::DetailedSource;
 use crate::event_fault::explain_events;
 use crate::location::Part;
 use crate::notes::Notes;
 use crate::plan_fault::explain_plan;
-use crate::report::Report;
+use crate::report::{Report, ReportResult};
 use crate::script_lines::explain_lines;
 use mx_cli::{CommandError, Names, are_dashes, split_line};
 use mx_io::{Output, Refusal, Source};
 use mx_plan::Plan;
 use std::alloc::{AllocError, Global};
 
-/// What comes with a plan, as a second file or in the rest of standard input.
 #[derive(Clone, Copy)]
 pub(crate) enum Second<'a> {
     Nothing,
-    /// Events, with the notes of their replay.
     Events(&'a Notes),
-    /// A script, with the notes of its run.
     Script(&'a Notes),
 }
 
-/// Prints what is wrong in the files of these names. If all is well (`is_well`), these are warnings
-/// alone, and that nothing is at fault.
-pub(crate) fn print_files<S: Source + DetailedSource, O: Output>(
+/// Prints what is wrong in the files of a run that ended as `ended` says; nothing if that is not
+/// told. If it ended well, these are warnings alone, and that nothing is at fault.
+pub(crate) fn print_files<T: Drop, F: Drop, S: Source + DetailedSource, O: Output>(
     alloc: Global,
     names: &Names<'_>,
     second: &Second<'_>,
-    is_well: bool,
+    ended: &Result<T, F>,
+    is_told: bool,
     source: &mut S,
     out: &mut O,
 ) -> Result<(), CommandError>
+    requires { is_told ≡ false → IsErr ended.now }
     ensures fails { IfErr result (FailsToPrint (O.takes_all out.old)) }
-    ensures prints { OnOk result (PrintsReport (O.written out.old) (O.written out.new) is_well) }
+    ensures prints { OnOk result (Prints (O.written out.old) (O.written out.new) ended.now) }
     ensures same { OnErr result (Keeps (O.written out.old) (O.written out.new)) }
     ensures stays { O.takes_all out.new ≡ O.takes_all out.old }
 {
+    if !is_told {
+        return Ok(());
+    }
     let mut report = Report::new(alloc);
     explain_files(&mut report, names, second, source)?;
-    let text = report.into_text(is_well)?;
+    let text = report.into_text(ended.is_ok())?;
     out.put(text.as_bytes())?;
     Ok(())
 }
 
-/// Reports what is wrong in a plan, and in what comes with it, if the plan has no fault.
 fn explain_files<S: Source + DetailedSource>(
     report: &mut Report,
     names: &Names<'_>,
     second: &Second<'_>,
     source: &mut S,
-) -> Result<(), AllocError> {
+) -> ReportResult {
     let Some(text) = fetched(report, names.plan, source)? else {
         return Ok(());
     };
-    if !are_dashes(names) || matches!(second, Second::Nothing) {
-        return explain_two(report, names, second, text.as_slice(), source);
+    if are_dashes(names) && !matches!(second, Second::Nothing) {
+        let (line, rest) = split_line(text.as_slice());
+        return match explain_plan(report, Part::of(names.plan, line, 0))? {
+            Some(plan) => explain_rest(report, second, &plan, Part::of(names.events, rest, 1)),
+            None => Ok(()),
+        };
     }
-    let (line, rest) = split_line(text.as_slice());
-    let Some(plan) = explain_plan(report, part_of(names.plan, line, 0))? else {
-        return Ok(());
-    };
-    explain_second(report, second, &plan, part_of(names.events, rest, 1))
-}
-
-/// Reports what is wrong in a plan with this text, and in what comes with it in a second file.
-fn explain_two<S: Source + DetailedSource>(
-    report: &mut Report,
-    names: &Names<'_>,
-    second: &Second<'_>,
-    text: &[u8],
-    source: &mut S,
-) -> Result<(), AllocError> {
-    let Some(plan) = explain_plan(report, part_of(names.plan, text, 0))? else {
+    let Some(plan) = explain_plan(report, Part::of(names.plan, text.as_slice(), 0))? else {
         return Ok(());
     };
     if let Second::Nothing = second {
@@ -84,33 +74,22 @@ fn explain_two<S: Source + DetailedSource>(
     }
     match fetched(report, names.events, source)? {
         Some(text) => {
-            explain_second(
-                report,
-                second,
-                &plan,
-                part_of(names.events, text.as_slice(), 0),
-            )
+            let part = Part::of(names.events, text.as_slice(), 0);
+            explain_rest(report, second, &plan, part)
         }
         None => Ok(()),
     }
 }
 
-fn part_of<'a>(file: &'a str, text: &'a [u8], above: usize) -> Part<'a> {
-    Part { file, text, above }
-}
-
-fn explain_second(
+fn explain_rest(
     report: &mut Report,
     second: &Second<'_>,
     plan: &Plan,
     part: Part<'_>,
-) -> Result<(), AllocError> {
+) -> ReportResult {
     match second {
         Second::Nothing => Ok(()),
-        Second::Events(notes) => match notes.bad_events {
-            Some(fault) => explain_events(report, part, plan, fault),
-            None => notes.explain_replay(report, &part),
-        },
+        Second::Events(notes) => explain_events(report, part, plan, notes),
         Second::Script(notes) => {
             explain_lines(report, &part, plan)?;
             notes.explain_script(report, &part)
@@ -118,7 +97,6 @@ fn explain_second(
     }
 }
 
-/// Returns the bytes of a file. If it can't be read, reports the reason, and returns `None`.
 fn fetched<S: Source + DetailedSource>(
     report: &mut Report,
     name: &str,

@@ -4,13 +4,12 @@
 
 mod bad_token;
 mod cached_source;
-mod document;
 mod event_fault;
 mod explanation;
 mod files;
+mod json_report;
 mod location;
 mod notes;
-mod path;
 mod plan_fault;
 mod replay;
 mod report;
@@ -18,6 +17,7 @@ mod request;
 mod script_lines;
 mod scripts;
 mod shape_fault;
+mod spot;
 
 pub use cached_source::DetailedSource;
 pub use explanation::explain;

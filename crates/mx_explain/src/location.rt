@@ -11,16 +11,17 @@ pub(crate) struct Part<'a> {
     pub(crate) above: usize,
 }
 
-impl Part<'_> {
+impl<'a> Part<'a> {
+    pub(crate) fn of(file: &'a str, text: &'a [u8], above: usize) -> Part<'a> {
+        Part { file, text, above }
+    }
+
     pub(crate) fn location(&self, offset: usize) -> Location {
         let mut line = self.above.saturating_add(1);
         let mut column = 1usize;
         for byte in self.text.iter().take(offset) {
             match byte {
-                b'\n' => {
-                    line = line.saturating_add(1);
-                    column = 1;
-                }
+                b'\n' => (line, column) = (line.saturating_add(1), 1),
                 // the rest of a character of several bytes
                 0x80..=0xBF => {}
                 _ => column = column.saturating_add(1),
@@ -29,19 +30,15 @@ impl Part<'_> {
         Location { line, column }
     }
 
-    /// Returns the byte at which a line begins, counted from 1, or the end of the text if there is
-    /// no such line.
+    /// Returns the byte at which a line begins, counted from 1.
     pub(crate) fn offset_of_line(&self, number: u64) -> usize {
-        let mut line = 1u64;
-        for (offset, byte) in self.text.iter().enumerate() {
-            if line == number {
-                return offset;
-            }
-            if *byte == b'\n' {
-                line = line.saturating_add(1);
+        let mut offset = 0usize;
+        for (line, k) in self.text.split(|byte| *byte == b'\n').zip(1u64..) {
+            if k < number {
+                offset = offset.saturating_add(line.len()).saturating_add(1);
             }
         }
-        self.text.len()
+        offset
     }
 }
 

@@ -3,28 +3,23 @@
 ghost use Rattle.mx_commands.specs.Runs.{silent};
 
 use crate::location::Part;
-use crate::path::offset_of;
-use crate::report::{MAX_LINES, Report};
+use crate::report::{MAX_LINES, Report, ReportResult};
+use crate::spot::offset_of;
+use mx_cli::Fault;
 use mx_commands::Sink;
 use mx_events::Event;
-use mx_format::{EventText, Letter, OutcomeText, add_facts_line, add_parcel_line};
+use mx_format::{EventText, Letter, OutcomeText, add_facts_line};
 use mx_knowledge::Knowledge;
-use mx_lines::LineFault;
 use mx_network::Cluster;
 use mx_nodelaws::Exclusion;
-use mx_plan::{Plan, PlanFault};
+use mx_plan::Plan;
 use mx_scripts::{Recorder, RefusedLine, SessionEvent, State};
 use mx_trace::{Cause, Outcome};
 use std::alloc::{AllocError, Global};
 
-/// A message about the event or the line of this number. The text begins with a space.
-#[derive(Drop)]
-struct Note {
-    number: u64,
-    text: String,
-}
+/// The number of an event or a line, and the message about it, which begins with a space.
+type Note = (u64, String);
 
-/// The notes of a run: which events are refused, and what ends it.
 #[derive(Drop)]
 pub(crate) struct Notes {
     alloc: Global,
@@ -32,16 +27,10 @@ pub(crate) struct Notes {
     refused: Vec<Note>,
     /// How many further ones there are.
     more: u64,
-    /// Why the events of a replay can't be read.
-    pub(crate) bad_events: Option<PlanFault>,
-    /// The event of this index delivers the parcel of this number, which was not sent.
-    pub(crate) unsent: Option<(u64, u64)>,
-    /// How many parcels were sent.
-    sent: u64,
+    pub(crate) sent: u64,
+    pub(crate) fault: Option<Fault>,
     /// The line of a script that cannot be done, unless one of its words is wrong.
     bad_line: Option<Note>,
-    /// The parcels under way, if that line names one that is not.
-    parcels: Vec<Note>,
 }
 
 impl<C: Exclusion + Knowledge> Sink<Cluster<C>> for Notes {
@@ -89,18 +78,13 @@ where
 
     fn refused(
         &mut self,
-        plan: &Plan,
+        _plan: &Plan,
         line: &RefusedLine,
-        state: &State<C>,
+        _state: &State<C>,
     ) -> Result<(), AllocError> {
-        if line.is_unread {
-            return Ok(());
-        }
-        let number = line.number;
-        let text = format!(in self.alloc; " {}{}", line.fault, line.message.as_str())?;
-        self.bad_line = Some(Note { number, text });
-        if matches!(line.fault, LineFault::NoParcel | LineFault::NotUnderWay) {
-            self.note_parcels(plan, state, number)?;
+        if !line.is_unread {
+            let text = format!(in self.alloc; " {}{}", line.fault, line.message.as_str())?;
+            self.bad_line = Some((line.number, text));
         }
         Ok(())
     }
@@ -112,11 +96,9 @@ impl Notes {
             alloc,
             refused: Vec::new(alloc),
             more: 0,
-            bad_events: None,
-            unsent: None,
             sent: 0,
+            fault: None,
             bad_line: None,
-            parcels: Vec::new(alloc),
         }
     }
 
@@ -139,85 +121,30 @@ impl Notes {
             return Ok(());
         }
         let text = refusal(self.alloc, plan, cluster, &newest.event, cause)?;
-        self.refused.push(Note { number, text })?;
+        self.refused.push((number, text))?;
         Ok(())
     }
 
-    /// Notes the first parcels under way, the oldest first, or that there is none.
-    fn note_parcels<C: Exclusion>(
-        &mut self,
-        plan: &Plan,
-        state: &State<C>,
-        number: u64,
-    ) -> Result<(), AllocError>
-    where
-        C::Msg: Letter,
-    {
-        for k in 0..state.cluster().sent() {
-            if self.parcels.len() < MAX_LINES && state.is_under_way(k) {
-                let mut shown = String::new(self.alloc);
-                if let Some(parcel) = state.cluster().sent_parcel(k) {
-                    add_parcel_line(plan, k, &parcel, &mut shown)?;
-                }
-                let shown = shown.as_str().trim();
-                let text = format!(in self.alloc; " warning: under way: {shown}")?;
-                self.parcels.push(Note { number, text })?;
+    pub(crate) fn add_refused(&self, report: &mut Report, part: &Part<'_>) -> ReportResult {
+        for (k, text) in &self.refused {
+            let offset = offset_of(self.alloc, part.text, &[*k as usize])?;
+            report.add_at(part, offset, text.as_str())?;
+        }
+        report.count(part.file, self.more)
+    }
+
+    pub(crate) fn explain_script(&self, report: &mut Report, part: &Part<'_>) -> ReportResult {
+        for (number, text) in &self.refused {
+            report.add_at(part, part.offset_of_line(*number), text.as_str())?;
+        }
+        report.count(part.file, self.more)?;
+        match &self.bad_line {
+            Some((number, text)) => {
+                report.add_at(part, part.offset_of_line(*number), text.as_str())
             }
+            None => Ok(()),
         }
-        if self.parcels.is_empty() {
-            let text = String::from_str(self.alloc, " warning: no parcel is under way")?;
-            self.parcels.push(Note { number, text })?;
-        }
-        Ok(())
     }
-
-    /// Reports the notes of a replay, each at its event.
-    pub(crate) fn explain_replay(
-        &self,
-        report: &mut Report,
-        part: &Part<'_>,
-    ) -> Result<(), AllocError> {
-        for note in &self.refused {
-            let offset = offset_of(self.alloc, part.text, &[note.number as usize])?;
-            report.add_at(part, offset, note.text.as_str())?;
-        }
-        report.count(part.file, self.more)?;
-        let Some((k, number)) = self.unsent else {
-            return Ok(());
-        };
-        let sent = self.sent;
-        let known = match sent.checked_sub(1) {
-            Some(last) => format!(in self.alloc; "there are {sent}, from 0 to {last}")?,
-            None => String::from_str(self.alloc, "there is none yet")?,
-        };
-        let known = known.as_str();
-        let text = format!(in self.alloc;
-            " events[{k}][1]: {number} stands here, expected a parcel that was sent before: {known}"
-        )?;
-        let offset = offset_of(self.alloc, part.text, &[k as usize, 1])?;
-        report.add_at(part, offset, text.as_str())
-    }
-
-    /// Reports the notes of a script, each at its line.
-    pub(crate) fn explain_script(
-        &self,
-        report: &mut Report,
-        part: &Part<'_>,
-    ) -> Result<(), AllocError> {
-        add_notes(report, part, self.refused.as_slice())?;
-        report.count(part.file, self.more)?;
-        if let Some(note) = &self.bad_line {
-            report.add_at(part, part.offset_of_line(note.number), note.text.as_str())?;
-        }
-        add_notes(report, part, self.parcels.as_slice())
-    }
-}
-
-fn add_notes(report: &mut Report, part: &Part<'_>, notes: &[Note]) -> Result<(), AllocError> {
-    for note in notes {
-        report.add_at(part, part.offset_of_line(note.number), note.text.as_str())?;
-    }
-    Ok(())
 }
 
 /// Returns the warning that `event`, the newest one of a cluster, is refused for this cause. After

@@ -1,19 +1,14 @@
 //! What is wrong in a plan.
 
-use crate::bad_token::report_bad_token;
-use crate::document::{Document, Wrong, index_in, items_of, text_of};
+use crate::json_report::{JsonReport, Wrong, read_value};
 use crate::location::Part;
-use crate::path::{Path, offset_of};
-use crate::report::{MAX_LINES, Report};
-use crate::shape_fault::{report_cycle, report_shape};
+use crate::report::{MAX_LINES, Report, ReportResult};
+use crate::shape_fault::{add_cycle, add_shape};
+use crate::spot::{Spot, index_in, offset_of};
 use json::{Scratch, Value};
 use mx_lines::{Nearest, Quoted, nearest};
 use mx_plan::{Place, Plan, PlanFault, is_name, read_plan};
-use std::alloc::{AllocError, Global};
-
-const ALGORITHMS: [&str; 3] = ["ricart", "maekawa", "raymond"];
-
-const QUORUM_KINDS: [&str; 3] = ["plane", "grid", "listed"];
+use std::alloc::AllocError;
 
 /// The keys that a plan may have.
 const KEYS: [&str; 8] = [
@@ -27,11 +22,12 @@ const KEYS: [&str; 8] = [
     "holder",
 ];
 
-/// What is expected where a number stands.
+pub(crate) const NODE: &str = "a node of the plan";
+
 pub(crate) const NUMBER: &str = "a whole number of 64 bits without a sign";
 
-/// Reads a plan, and reports its first fault, and the keys that no plan uses. Returns the plan if
-/// it has no fault.
+/// Reads a plan, and reports its first fault, and keys that no plan uses. Returns the plan if it
+/// has no fault.
 pub(crate) fn explain_plan(
     report: &mut Report,
     part: Part<'_>,
@@ -40,187 +36,187 @@ pub(crate) fn explain_plan(
     if let Err(PlanFault::Memory) = read {
         return Err(AllocError);
     }
-    if let Err(PlanFault::NotJson) = read {
-        report_bad_token(report, &part)?;
-        return Ok(None);
-    }
     let mut scratch = Scratch::new(report.alloc());
-    let Some(document) = Document::read(report, part, &mut scratch)? else {
+    let Some(plan) = read_value(report, &part, &mut scratch)? else {
         return Ok(None);
     };
+    let mut report = JsonReport { report, part };
     if let Err(fault) = &read {
-        report_fault(report, &document, *fault)?;
+        add_fault(&mut report, Spot::root("", &plan), *fault)?;
     }
-    warn_of_unknown_keys(report, &document)?;
+    add_unknown_keys(&mut report, &plan)?;
     Ok(read.ok())
 }
 
-fn report_fault(
-    report: &mut Report,
-    document: &Document<'_>,
-    fault: PlanFault,
-) -> Result<(), AllocError> {
-    let nodes = nodes_of(report.alloc(), &document.root)?;
+fn add_fault(report: &mut JsonReport<'_>, plan: Spot<'_, '_>, fault: PlanFault) -> ReportResult {
+    let mut nodes = Vec::new(report.alloc());
+    let names = plan.key("nodes");
+    for i in 0..names.len() {
+        nodes.push(names.item(i).text())?;
+    }
     let nodes = nodes.as_slice();
-    let place = match fault {
-        PlanFault::NotPlan(place) | PlanFault::DoubleName(place) | PlanFault::UnknownName(place) =>
-            { place }
-        PlanFault::BadShape(fault) => return report_shape(report, document, fault, nodes),
-        PlanFault::NotJson | PlanFault::Memory => return Ok(()),
-    };
+    match fault {
+        PlanFault::NotPlan(place) => add_place(report, plan, place, nodes),
+        PlanFault::DoubleName(place) => add_place(report, plan, place, nodes),
+        PlanFault::UnknownName(place) => add_place(report, plan, place, nodes),
+        PlanFault::BadShape(fault) => add_shape(report, plan, fault, nodes),
+        PlanFault::NotJson | PlanFault::Memory => Ok(()),
+    }
+}
+
+/// Adds the first value that is wrong at a place of a plan, in the order of the text.
+fn add_place(
+    report: &mut JsonReport<'_>,
+    plan: Spot<'_, '_>,
+    place: Place,
+    nodes: &[&str],
+) -> ReportResult {
     match place {
-        Place::Holder if report_cycle(report, document, nodes)? => Ok(()),
-        Place::Nodes => report_names(report, document, "nodes", 21),
-        Place::Registers => report_names(report, document, "registers", 32),
-        _ => document.report_wrong(report, &wrong_at(&document.root, place, nodes)),
+        Place::Holder if add_cycle(report, plan, nodes)? => Ok(()),
+        Place::Nodes => add_names(report, plan.key("nodes"), 21),
+        Place::Registers => add_names(report, plan.key("registers"), 32),
+        _ => report.add_wrong(&wrong_at(plan, place, nodes)),
     }
 }
 
-/// Returns the names of the nodes of a plan.
-fn nodes_of<'a>(alloc: Global, plan: &Value<'a>) -> Result<Vec<&'a str>, AllocError> {
-    let mut nodes = Vec::new(alloc);
-    for item in items_of(plan.get("nodes")) {
-        nodes.push(text_of(Some(item)))?;
-    }
-    Ok(nodes)
-}
-
-/// Reports the first value that is wrong in a list of 1 to `most` names, all different.
-fn report_names(
-    report: &mut Report,
-    document: &Document<'_>,
-    key: &'static str,
-    most: usize,
-) -> Result<(), AllocError> {
+fn add_names(report: &mut JsonReport<'_>, list: Spot<'_, '_>, most: usize) -> ReportResult {
     let alloc = report.alloc();
-    let path = Path::whole("").key(key);
-    let names = items_of(document.root.get(key));
-    if names.is_empty() || names.len() > most {
+    if list.len() == 0 || list.len() > most {
         let expected = format!(in alloc; "an array of 1 to {most} names")?;
-        return document.report_wrong(report, &Wrong::of(path, expected.as_str()));
+        return report.add_wrong(&Wrong::of(list, expected.as_str()));
     }
-    for (i, name) in names.iter().enumerate() {
-        let name = text_of(Some(name));
-        if !is_name(name) {
+    for i in 0..list.len() {
+        let name = list.item(i);
+        if !is_name(name.text()) {
             let expected = "a name: 1 to 16 of letters, digits, _ and -";
-            return document.report_wrong(report, &Wrong::of(path.item(i), expected));
+            return report.add_wrong(&Wrong::of(name, expected));
         }
-        if names
-            .iter()
-            .take(i)
-            .any(|earlier| text_of(Some(earlier)) == name)
-        {
-            let text = format!(in alloc; "duplicate name {}", Quoted(name))?;
-            return document.report_at(report, path.item(i), text.as_str());
+        if (0..i).any(|k| list.item(k).text() == name.text()) {
+            let text = format!(in alloc; "duplicate name {}", Quoted(name.text()))?;
+            return report.add(name, text.as_str());
         }
     }
     Ok(())
 }
 
-/// Returns the first value that is wrong at a place of a plan, in the order of the text.
-fn wrong_at<'a>(plan: &Value<'_>, place: Place, nodes: &'a [&'a str]) -> Wrong<'a> {
-    let path = Path::whole("");
+fn wrong_at<'w, 'a>(plan: Spot<'w, 'a>, place: Place, nodes: &'w [&'w str]) -> Wrong<'w, 'a> {
     match place {
         Place::Algorithm => Wrong {
-            path: path.key("algorithm"),
+            spot: plan.key("algorithm"),
             expected: "an algorithm: ricart, maekawa or raymond",
-            known: &ALGORITHMS,
+            known: &["ricart", "maekawa", "raymond"],
         },
-        Place::Sections => Wrong::of(path.key("sections"), "a whole number, 1 to 1000000"),
-        Place::Origin => Wrong::of(path.key("origin"), NUMBER),
-        Place::Quorums => wrong_in_quorums(plan, path.key("quorums"), nodes),
-        Place::Edges => wrong_in_edges(plan, path.key("edges"), nodes),
-        Place::Holder => Wrong::node(path.key("holder"), nodes),
+        Place::Sections => Wrong::of(plan.key("sections"), "a whole number, 1 to 1000000"),
+        Place::Origin => Wrong::of(plan.key("origin"), NUMBER),
+        Place::Quorums => wrong_in_quorums(plan.key("quorums"), nodes),
+        Place::Edges => wrong_in_edges(plan.key("edges"), nodes),
+        Place::Holder => Wrong {
+            spot: plan.key("holder"),
+            expected: NODE,
+            known: nodes,
+        },
         _ => {
             let expected = "an object with algorithm, nodes, registers and sections";
-            Wrong::of(Path::whole("the plan"), expected)
+            Wrong::of(plan.named("the plan"), expected)
         }
     }
 }
 
-fn wrong_in_edges<'a>(plan: &Value<'_>, path: Path, nodes: &'a [&'a str]) -> Wrong<'a> {
-    for (k, edge) in items_of(path.find(plan).1).iter().enumerate() {
-        if items_of(Some(edge)).len() != 2 {
-            return Wrong::of(path.item(k), "an array of two nodes");
+pub(crate) fn wrong_word<'w, 'a>(
+    spot: Spot<'w, 'a>,
+    expected: &'w str,
+    known: &'w [&'w str],
+) -> Option<Wrong<'w, 'a>> {
+    if index_in(spot.text(), known).is_some() {
+        return None;
+    }
+    Some(Wrong {
+        spot,
+        expected,
+        known,
+    })
+}
+
+fn wrong_in_edges<'w, 'a>(edges: Spot<'w, 'a>, nodes: &'w [&'w str]) -> Wrong<'w, 'a> {
+    for k in 0..edges.len() {
+        let edge = edges.item(k);
+        if edge.len() != 2 {
+            return Wrong::of(edge, "an array of two nodes");
         }
-        if let Some(wrong) = wrong_in_nodes(edge, path.item(k), nodes) {
+        if let Some(wrong) = wrong_in_nodes(edge, nodes) {
             return wrong;
         }
     }
-    Wrong::of(path, "an array of edges, each an array of two nodes")
+    Wrong::of(edges, "an array of edges, each an array of two nodes")
 }
 
-/// Returns the first item of an array that is no node, or that the value is no array.
-fn wrong_in_nodes<'a>(value: &Value<'_>, path: Path, nodes: &'a [&'a str]) -> Option<Wrong<'a>> {
-    let Value::Array(items) = value else {
-        return Some(Wrong::of(path, "an array of nodes"));
+fn wrong_in_nodes<'w, 'a>(list: Spot<'w, 'a>, nodes: &'w [&'w str]) -> Option<Wrong<'w, 'a>> {
+    let Some(Value::Array(_)) = list.value else {
+        return Some(Wrong::of(list, "an array of nodes"));
     };
-    let i = items
-        .iter()
-        .position(|item| index_in(text_of(Some(item)), nodes).is_none())?;
-    Some(Wrong::node(path.item(i), nodes))
+    for i in 0..list.len() {
+        let wrong = wrong_word(list.item(i), NODE, nodes);
+        if wrong.is_some() {
+            return wrong;
+        }
+    }
+    None
 }
 
-fn wrong_in_quorums<'a>(plan: &Value<'_>, path: Path, nodes: &'a [&'a str]) -> Wrong<'a> {
-    let Some(Value::Object(_)) = path.find(plan).1 else {
+fn wrong_in_quorums<'w, 'a>(quorums: Spot<'w, 'a>, nodes: &'w [&'w str]) -> Wrong<'w, 'a> {
+    let Some(Value::Object(_)) = quorums.value else {
         let expected = "an object: {\"kind\":\"plane\"}, or of kind grid or listed";
-        return Wrong::of(path, expected);
+        return Wrong::of(quorums, expected);
     };
-    match text_of(path.key("kind").find(plan).1) {
-        "grid" => wrong_in_grid(plan, path),
-        "listed" => wrong_in_sets(plan, path.key("sets"), nodes),
+    match quorums.key("kind").text() {
+        "grid" => wrong_in_grid(quorums),
+        "listed" => wrong_in_sets(quorums.key("sets"), nodes),
         _ => Wrong {
-            path: path.key("kind"),
+            spot: quorums.key("kind"),
             expected: "a kind: plane, grid or listed",
-            known: &QUORUM_KINDS,
+            known: &["plane", "grid", "listed"],
         },
     }
 }
 
-/// Returns the side of a grid that is no number of its places, or the rows if both are.
-fn wrong_in_grid<'a>(plan: &Value<'_>, path: Path) -> Wrong<'a> {
-    for side in [path.key("rows"), path.key("cols")] {
-        match side.find(plan).1.and_then(Value::as_u64) {
+fn wrong_in_grid<'w, 'a>(quorums: Spot<'w, 'a>) -> Wrong<'w, 'a> {
+    for side in [quorums.key("rows"), quorums.key("cols")] {
+        match side.value.and_then(Value::as_u64) {
             Some(1..=21) => {}
             _ => return Wrong::of(side, "a whole number, 1 to 21"),
         }
     }
     let expected = "such rows that rows times cols is the number of nodes";
-    Wrong::of(path.key("rows"), expected)
+    Wrong::of(quorums.key("rows"), expected)
 }
 
-fn wrong_in_sets<'a>(plan: &Value<'_>, path: Path, nodes: &'a [&'a str]) -> Wrong<'a> {
-    let sets = items_of(path.find(plan).1);
-    if sets.len() == nodes.len() {
-        for (i, set) in sets.iter().enumerate() {
-            if let Some(wrong) = wrong_in_nodes(set, path.item(i), nodes) {
-                return wrong;
-            }
+fn wrong_in_sets<'w, 'a>(sets: Spot<'w, 'a>, nodes: &'w [&'w str]) -> Wrong<'w, 'a> {
+    let count = sets.len();
+    for i in 0..count {
+        if let (true, Some(wrong)) = (count == nodes.len(), wrong_in_nodes(sets.item(i), nodes)) {
+            return wrong;
         }
     }
     let expected = "an array with a set for each node, in the order of nodes";
-    Wrong::of(path, expected)
+    Wrong::of(sets, expected)
 }
 
-/// Warns of each key that no plan uses.
-fn warn_of_unknown_keys(report: &mut Report, document: &Document<'_>) -> Result<(), AllocError> {
+/// Warns of keys that no plan uses: of the first `MAX_LINES`.
+fn add_unknown_keys(report: &mut JsonReport<'_>, plan: &Value<'_>) -> ReportResult {
     let alloc = report.alloc();
-    let Value::Object(members) = &document.root else {
+    let Value::Object(members) = plan else {
         return Ok(());
     };
     let mut count = 0usize;
     for (index, (key, _)) in members.iter().enumerate() {
-        if index_in(key, &KEYS).is_some() {
-            continue;
-        }
-        count = count.saturating_add(1);
-        if count <= MAX_LINES {
+        if count < MAX_LINES && index_in(key, &KEYS).is_none() {
             let nearest = Nearest(nearest(alloc, key, &KEYS)?);
             let key = Quoted(key);
             let text = format!(in alloc; " warning: unknown key {key}, ignored{nearest}")?;
-            let offset = offset_of(alloc, document.part.text, &[index])?;
-            report.add_at(&document.part, offset, text.as_str())?;
+            let offset = offset_of(alloc, report.part.text, &[index])?;
+            report.report.add_at(&report.part, offset, text.as_str())?;
+            count = count.saturating_add(1);
         }
     }
-    report.count(document.part.file, count.saturating_sub(MAX_LINES) as u64)
+    Ok(())
 }

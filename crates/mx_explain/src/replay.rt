@@ -7,16 +7,14 @@ ghost use Rattle.mx_commands.specs.Jobs.{report_of_events};
 ghost use Rattle.mx_commands.specs.Ran.{Ran, RanOf};
 
 use crate::notes::Notes;
-use mx_cli::{CommandError, Fault, Names, fetch_both};
+use mx_cli::{CommandError, Names, fetch_both};
 use mx_commands::observe;
-use mx_events::Event;
 use mx_io::Source;
 use mx_plan::{Plan, read_events};
 use std::alloc::Global;
 
-/// Reads the plan, then the events, and replays the events. Prints nothing. Ends as the command
-/// `replay` does over an output that takes all texts: with status 0, with the same fault, or
-/// because memory ran out.
+/// Reads a plan and its events, and replays them. Prints nothing, and ends as `replay` does over an
+/// output that takes all texts.
 pub(crate) fn replay<S: Source>(
     alloc: Global,
     names: &Names<'_>,
@@ -31,7 +29,6 @@ pub(crate) fn replay<S: Source>(
     replay_events(alloc, &both.plan, both.text.as_slice(), notes)
 }
 
-/// Reads the events in `text`, and replays them in the cluster of the plan. Ends as `replay` does.
 fn replay_events(
     alloc: Global,
     plan: &Plan,
@@ -41,30 +38,9 @@ fn replay_events(
     ensures ran { Ran true None None (report_of_events text.now plan.now) result }
     ensures zero { IfOk result (λ status. status ≡ 0) }
 {
-    let events = match read_events(alloc, text, plan) {
-        Ok(events) => events,
-        Err(fault) => {
-            notes.bad_events = Some(fault);
-            return Err(CommandError::from(fault));
-        }
-    };
+    let events = read_events(alloc, text, plan)?;
     match observe(alloc, plan, events.as_slice(), notes) {
         Ok(()) => Ok(0),
-        Err(error) => {
-            notes.unsent = unsent_of(events.as_slice(), &error);
-            Err(error)
-        }
-    }
-}
-
-/// Returns the index of the event that ends a run, and the number of the parcel, if the event
-/// delivers one that was not sent.
-fn unsent_of(events: &[Event], error: &CommandError) -> Option<(u64, u64)> {
-    let CommandError::Fault(Fault::NoParcel(k)) = error else {
-        return None;
-    };
-    match events.get(*k as usize) {
-        Some(Event::Deliver(number)) => Some((*k, *number)),
-        _ => None,
+        Err(error) => Err(error),
     }
 }

@@ -9,10 +9,11 @@ use std::alloc::{AllocError, Global};
 use std::fmt::Display;
 use std::marker::Model;
 
+pub(crate) type ReportResult = Result<(), AllocError>;
+
 /// The greatest number of faults, and of warnings, of one kind that are shown.
 pub(crate) const MAX_LINES: usize = 20;
 
-/// The lines of faults and warnings.
 #[derive(Drop)]
 pub(crate) struct Report {
     alloc: Global,
@@ -45,13 +46,13 @@ impl Report {
         self.alloc
     }
 
-    /// Adds a line about a file.
-    pub(crate) fn add(&mut self, file: &str, message: &str) -> Result<(), AllocError>
+    pub(crate) fn add(&mut self, file: &str, message: &str) -> ReportResult
         ensures ok { OnOk result (AddsLine file.now message.now self.old self.new) }
         ensures err { OnErr result (self.new ≡ self.old) }
     {
         let line = line_of(self.alloc, file, message)?;
-        self.text.push_str(line.as_str())
+        self.text.push_str(line.as_str())?;
+        Ok(())
     }
 
     /// Adds a line about the byte `offset` of a part. The message begins with a space.
@@ -60,14 +61,13 @@ impl Report {
         part: &Part<'_>,
         offset: usize,
         message: D,
-    ) -> Result<(), AllocError> {
+    ) -> ReportResult {
         let location = part.location(offset);
         let text = format!(in self.alloc; "{location}:{message}")?;
         self.add(part.file, text.as_str())
     }
 
-    /// Adds the line that this many faults or warnings are not shown, unless it is none.
-    pub(crate) fn count(&mut self, file: &str, more: u64) -> Result<(), AllocError> {
+    pub(crate) fn count(&mut self, file: &str, more: u64) -> ReportResult {
         if more == 0 {
             return Ok(());
         }
@@ -75,23 +75,21 @@ impl Report {
         self.add(file, text.as_str())
     }
 
-    /// Returns all lines. If the files are well, a last one says `nothing is at fault`.
     pub(crate) fn into_text(mut self, is_well: bool) -> Result<String, AllocError>
         ensures well { IfOk result (λ text. is_well ≡ true
-            → string_bytes text ≡ report_text self.entry) }
+            → string_bytes text ≡ report_text self) }
         ensures printable { IfOk result (λ text. AreShown (string_bytes text)) }
         ensures last { IfOk result (λ text. (last_line (string_bytes text) ≡ nothing_at_fault)
             ↔ (is_well ≡ true)) }
     {
-        if is_well {
-            self.text.push_str("nothing is at fault\n")?;
+        if !is_well {
+            return Ok(self.text);
         }
+        self.text.push_str("nothing is at fault\n")?;
         Ok(self.text)
     }
 }
 
-/// Returns the line `file:message` with a line feed, and the control characters of both texts
-/// escaped.
 fn line_of(alloc: Global, file: &str, message: &str) -> Result<String, AllocError>
     ensures { IfOk result (λ line.
         string_bytes line ≡ line_text file.now message.now ++ 10 ∷ []) }

@@ -9,21 +9,12 @@ use clap::{ArgMatches, Error};
 use mx_cli::{CommandId, Names, Request, is_given, matches_in, text_at};
 use std::alloc::Global;
 
-/// What is to be explained.
 #[derive(Clone, Copy)]
 pub(crate) enum ExplainRequest<'a> {
-    /// A check or a replay.
     Run(Request<'a>),
-    /// A script: the names of its plan and of the script.
     Script(Names<'a>),
 }
 
-/// Parses a command line that begins with `explain`.
-///
-/// # Errors
-///
-/// Returns the error of `clap` for wrong arguments. A request for help is such an error too, with
-/// the text to show.
 pub(crate) fn parse<'a>(
     alloc: Global,
     words: &'a [&'a str],
@@ -44,7 +35,6 @@ fn from_matches<'a>(matches: &ArgMatches<'a>) -> Option<ExplainRequest<'a>>
     }
 }
 
-/// Returns a replay or a script if a second file is named, else a check.
 fn explain_in<'a>(matches: &ArgMatches<'a>) -> Option<ExplainRequest<'a>>
     ensures { option_map explain_request_of result ≡ explain_in (rows_of (found_of matches.now)) }
 {

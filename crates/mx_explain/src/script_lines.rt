@@ -1,18 +1,14 @@
 //! What is wrong in the lines of a script.
 
-use crate::document::index_in;
 use crate::location::Part;
-use crate::report::{MAX_LINES, Report};
-use mx_lines::{Expected, FirstWords, LineError, first_error, message, place_of_word, words_in};
+use crate::report::{MAX_LINES, Report, ReportResult};
+use crate::spot::index_in;
+use mx_lines::{Expected, FirstWords, first_error, message, place_of_word, words_in};
 use mx_plan::Plan;
-use std::alloc::{AllocError, Global};
+use std::alloc::AllocError;
 
 /// Reports the first wrong word of each line of a script; of a text of JSON, that it is no script.
-pub(crate) fn explain_lines(
-    report: &mut Report,
-    part: &Part<'_>,
-    plan: &Plan,
-) -> Result<(), AllocError> {
+pub(crate) fn explain_lines(report: &mut Report, part: &Part<'_>, plan: &Plan) -> ReportResult {
     if let Some(offset) = json_begin(part.text) {
         return report.add_at(
             part,
@@ -23,18 +19,15 @@ pub(crate) fn explain_lines(
     let mut begin = 0usize;
     let mut count = 0u64;
     for line in part.text.split(|byte| *byte == b'\n') {
-        if let Some(wrong) = wrong_in(report.alloc(), plan, line)? {
+        let is_shown = count < MAX_LINES as u64;
+        if report_line(report, part, plan, begin, line, is_shown)? {
             count = count.saturating_add(1);
-            if count <= MAX_LINES as u64 {
-                report_line(report, part, plan, begin, line, &wrong)?;
-            }
         }
         begin = begin.saturating_add(line.len()).saturating_add(1);
     }
     report.count(part.file, count.saturating_sub(MAX_LINES as u64))
 }
 
-/// Returns the byte at which a text of JSON begins that is an array or an object.
 fn json_begin(text: &[u8]) -> Option<usize> {
     let begin = text.iter().position(|byte| !byte.is_ascii_whitespace())?;
     match text.get(begin) {
@@ -43,61 +36,42 @@ fn json_begin(text: &[u8]) -> Option<usize> {
     }
 }
 
-/// What is wrong in a line.
-#[derive(Clone, Copy)]
-enum WrongLine {
-    /// Bytes that are not UTF-8 stand at this byte of the line.
-    NotUtf8(usize),
-    Word(LineError),
-}
-
-fn wrong_in(alloc: Global, plan: &Plan, line: &[u8]) -> Result<Option<WrongLine>, AllocError> {
-    match str::from_utf8(line) {
-        Ok(line) => {
-            let words = words_in(alloc, line)?;
-            Ok(first_error(plan, words.as_slice()).map(WrongLine::Word))
-        }
-        Err(e) => Ok(Some(WrongLine::NotUtf8(e.valid_up_to()))),
-    }
-}
-
-/// Reports what is wrong in a line, which begins at the byte `begin` of the part.
+/// Reports what is wrong in a line that begins at the byte `begin` of the part, if that is to be
+/// shown. Returns whether something is.
 fn report_line(
     report: &mut Report,
     part: &Part<'_>,
     plan: &Plan,
     begin: usize,
     line: &[u8],
-    wrong: &WrongLine,
-) -> Result<(), AllocError> {
-    let error = match wrong {
-        WrongLine::Word(error) => error,
-        WrongLine::NotUtf8(offset) => {
-            let offset = begin.saturating_add(*offset);
-            return report.add_at(part, offset, " bytes that are not UTF-8 stand here");
+    is_shown: bool,
+) -> Result<bool, AllocError> {
+    let alloc = report.alloc();
+    let line = match str::from_utf8(line) {
+        Ok(line) => line,
+        Err(e) => {
+            if is_shown {
+                let offset = begin.saturating_add(e.valid_up_to());
+                report.add_at(part, offset, " bytes that are not UTF-8 stand here")?;
+            }
+            return Ok(true);
         }
     };
-    let line = str::from_utf8(line).unwrap_or("");
-    let place = place_of_word(line, error.word).unwrap_or(0);
-    let text = message_for(report.alloc(), plan, line, error)?;
-    report.add_at(part, begin.saturating_add(place), text.as_str())
-}
-
-/// Returns the message about the wrong word of a line.
-fn message_for(
-    alloc: Global,
-    plan: &Plan,
-    line: &str,
-    error: &LineError,
-) -> Result<String, AllocError> {
     let words = words_in(alloc, line)?;
-    let mut text = message(alloc, plan, FirstWords::OfScripts, words.as_slice(), error)?;
-    if let Expected::Word = error.expected {
-        let word = words.get(error.word).copied().unwrap_or("");
-        let known = FirstWords::OfScripts.listed(alloc)?;
-        add_meant(word, known.as_slice(), &mut text)?;
+    let Some(error) = first_error(plan, words.as_slice()) else {
+        return Ok(false);
+    };
+    if is_shown {
+        let mut text = message(alloc, plan, FirstWords::OfScripts, words.as_slice(), &error)?;
+        if let Expected::Word = error.expected {
+            let word = words.get(error.word).copied().unwrap_or("");
+            let known = FirstWords::OfScripts.listed(alloc)?;
+            add_meant(word, known.as_slice(), &mut text)?;
+        }
+        let place = place_of_word(line, error.word).unwrap_or(0);
+        report.add_at(part, begin.saturating_add(place), text.as_str())?;
     }
-    Ok(text)
+    Ok(true)
 }
 
 /// Words that neither events nor scripts use, each with the word that is meant instead.
@@ -111,7 +85,7 @@ const MEANT: [(&str, &str); 6] = [
 ];
 
 /// Appends which of the known words is meant by a wrong one, if that is known.
-pub(crate) fn add_meant(word: &str, known: &[&str], text: &mut String) -> Result<(), AllocError> {
+pub(crate) fn add_meant(word: &str, known: &[&str], text: &mut String) -> ReportResult {
     for (other, meant) in &MEANT {
         if *other == word && index_in(meant, known).is_some() {
             write!(text, "; \"{meant}\" is meant")?;

@@ -1,10 +1,9 @@
 //! `explain --script`: how a script ends, and what is wrong in its lines.
 
-ghost use Rattle.std.specs.Prelude.{◌≡◌, ◌&&◌, Bool, IfErr, IfOk, OnErr, OnOk};
-ghost use Rattle.std.specs.Io.KnownBytes.{Keeps};
+ghost use Rattle.std.specs.Prelude.{◌≡◌, ◌&&◌, Bool, IfOk, IsErr, false};
 ghost use Rattle.mx_cli.specs.Closed.{IsRunStatus, PassesOn};
 ghost use Rattle.mx_cli.specs.Words.{names_of};
-ghost use Rattle.mx_explain.specs.Explained.{FailsToPrint, Prints, TellsLines};
+ghost use Rattle.mx_explain.specs.Explained.{Prints, TellsLines};
 ghost use Rattle.mx_scripts.specs.Ended.{EndsScript, ScriptsOf};
 
 use crate::cached_source::DetailedSource;
@@ -15,8 +14,6 @@ use mx_io::{Output, Source};
 use mx_scripts::{ScriptError, close_script, file_of_names};
 use std::alloc::Global;
 
-/// Prints what is wrong in a plan and a script, reports how the script ends, and returns the exit
-/// status.
 pub(crate) fn explain_script<S: Source + DetailedSource, O: Output, E: Output>(
     alloc: Global,
     names: &Names<'_>,
@@ -36,8 +33,6 @@ pub(crate) fn explain_script<S: Source + DetailedSource, O: Output, E: Output>(
     close_script(alloc, ended, names, out, err)
 }
 
-/// Runs the lines of a script, and prints what is wrong. Returns how the script ended, or why
-/// printing failed.
 fn end_and_explain<S: Source + DetailedSource, O: Output>(
     alloc: Global,
     names: &Names<'_>,
@@ -52,14 +47,13 @@ fn end_and_explain<S: Source + DetailedSource, O: Output>(
 {
     let mut notes = Notes::new(alloc);
     let ended = end_of(alloc, names, source, &mut notes);
-    match print_end(alloc, names, &ended, &notes, source, out) {
+    let (second, is_told) = (Second::Script(&notes), is_told(&ended));
+    match print_files(alloc, names, &second, &ended, is_told, source, out) {
         Ok(()) => ended,
         Err(stop) => Err(ScriptError::Command(stop)),
     }
 }
 
-/// Runs a script, which notes its events. Returns how the script ends; the file of its events is
-/// dropped.
 fn end_of<S: Source>(
     alloc: Global,
     names: &Names<'_>,
@@ -76,27 +70,12 @@ fn end_of<S: Source>(
     }
 }
 
-/// Prints what is wrong in the files of a script that ended as `ended` says. Prints nothing if
-/// memory ran out.
-fn print_end<S: Source + DetailedSource, O: Output>(
-    alloc: Global,
-    names: &Names<'_>,
-    ended: &Result<u8, ScriptError>,
-    notes: &Notes,
-    source: &mut S,
-    out: &mut O,
-) -> Result<(), CommandError>
-    ensures fails { IfErr result (FailsToPrint (O.takes_all out.old)) }
-    ensures prints { OnOk result (Prints (O.written out.old) (O.written out.new) ended.now) }
-    ensures same { OnErr result (Keeps (O.written out.old) (O.written out.new)) }
-    ensures stays { O.takes_all out.new ≡ O.takes_all out.old }
+/// Returns whether it is told how a script ended: not if memory ran out.
+fn is_told(ended: &Result<u8, ScriptError>) -> bool
+    ensures { result ≡ false → IsErr ended.now }
 {
-    let second = Second::Script(notes);
     match ended {
-        Ok(_) => print_files(alloc, names, &second, true, source, out),
-        Err(ScriptError::AtLine(_) | ScriptError::Command(CommandError::Fault(_))) => {
-            print_files(alloc, names, &second, false, source, out)
-        }
-        Err(ScriptError::Command(_)) => Ok(()),
+        Ok(_) | Err(ScriptError::AtLine(_) | ScriptError::Command(CommandError::Fault(_))) => true,
+        Err(ScriptError::Command(_)) => false,
     }
 }

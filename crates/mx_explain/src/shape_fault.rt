@@ -1,107 +1,89 @@
 //! What is wrong in the arbiter sets or the tree of a plan as a whole.
 
-use crate::document::{Document, index_in, items_of, text_of};
-use crate::path::Path;
-use crate::report::Report;
-use json::Value;
+use crate::json_report::JsonReport;
+use crate::report::ReportResult;
+use crate::spot::{Spot, index_in};
 use mx_lines::Quoted;
 use mx_plan::ShapeFault;
 use mx_quorums::QuorumFault;
 use mx_trees::TreeFault;
-use std::alloc::{AllocError, Global};
+use std::alloc::AllocError;
 use std::fmt;
 use std::fmt::Display;
 
-/// Reports the rule that the arbiter sets or the tree of a plan break; of a tree with a cycle, the
+/// Adds the rule that the arbiter sets or the tree of a plan break; of a tree with a cycle, the
 /// cycle.
-pub(crate) fn report_shape(
-    report: &mut Report,
-    document: &Document<'_>,
+pub(crate) fn add_shape(
+    report: &mut JsonReport<'_>,
+    plan: Spot<'_, '_>,
     fault: ShapeFault,
     nodes: &[&str],
-) -> Result<(), AllocError> {
-    match fault {
-        ShapeFault::Quorum(fault) => report_quorums(report, document, fault, nodes),
-        ShapeFault::Tree(fault) => report_tree(report, document, fault, nodes),
-    }
-}
-
-fn report_quorums(
-    report: &mut Report,
-    document: &Document<'_>,
-    fault: QuorumFault,
-    nodes: &[&str],
-) -> Result<(), AllocError> {
-    let alloc = report.alloc();
-    let quorums = Path::whole("").key("quorums");
-    let set = |i: u8| quorums.key("sets").item(usize::from(i));
-    let (path, text) = match fault {
-        QuorumFault::EmptySet(i) => {
-            let node = NamedNode { nodes, i };
-            let text = format!(in alloc;
-                "the set of {node} is empty, expected that it has the node itself"
-            )?;
-            (set(i), text)
+) -> ReportResult {
+    let (quorums, edges) = (plan.key("quorums"), plan.key("edges"));
+    let spot = match fault {
+        ShapeFault::Quorum(QuorumFault::EmptySet(i) | QuorumFault::NotOwnMember(i)) => {
+            quorums.key("sets").item(usize::from(i))
         }
-        QuorumFault::NotOwnMember(i) => {
-            let node = NamedNode { nodes, i };
-            (
-                set(i),
-                format!(in alloc; "the set of {node} lacks the node itself")?,
-            )
-        }
-        QuorumFault::Apart(i, j) => {
-            let (a, b) = (NamedNode { nodes, i }, NamedNode { nodes, i: j });
-            let text = format!(in alloc;
-                "the sets of {a} and of {b} have no node in common, expected that any two do"
-            )?;
-            (set(j), text)
-        }
-        QuorumFault::NoPlane(n) => {
-            let text = format!(in alloc;
-                "there is no plane of {n} nodes, expected 7, 13 or 21; a grid has rows times cols"
-            )?;
-            (quorums.key("kind"), text)
-        }
-        _ => (
-            quorums,
-            String::from_str(alloc, "these are no sets of the nodes")?,
-        ),
+        ShapeFault::Quorum(QuorumFault::Apart(_, i)) => quorums.key("sets").item(usize::from(i)),
+        ShapeFault::Quorum(QuorumFault::NoPlane(_)) => quorums.key("kind"),
+        ShapeFault::Quorum(_) => quorums,
+        ShapeFault::Tree(TreeFault::BadEdge(k)) => edges.item(k as usize),
+        ShapeFault::Tree(_) if add_cycle(report, plan, nodes)? => return Ok(()),
+        ShapeFault::Tree(_) => edges,
     };
-    document.report_at(report, path, text.as_str())
+    let count = edges.len();
+    let mut text = String::new(report.alloc());
+    text.write(ShapeText {
+        fault,
+        nodes,
+        count,
+    })?;
+    report.add(spot, text.as_str())
 }
 
-fn report_tree(
-    report: &mut Report,
-    document: &Document<'_>,
-    fault: TreeFault,
-    nodes: &[&str],
-) -> Result<(), AllocError> {
-    let alloc = report.alloc();
-    let edges = Path::whole("").key("edges");
-    if let TreeFault::BadEdge(k) = fault {
-        let text = "this edge joins a node with itself";
-        return document.report_at(report, edges.item(k as usize), text);
-    }
-    if report_cycle(report, document, nodes)? {
-        return Ok(());
-    }
-    let text = match fault {
-        TreeFault::WrongCount => {
-            let count = items_of(document.root.get("edges")).len();
-            let wanted = nodes.len().saturating_sub(1);
-            format!(in alloc; "{count} edges stand here, expected {wanted}, one fewer than nodes")?
-        }
-        TreeFault::NotJoined(i) => {
-            let (node, first) = (NamedNode { nodes, i }, NamedNode { nodes, i: 0 });
-            format!(in alloc; "no way leads from {node} to {first}")?
-        }
-        _ => String::from_str(alloc, "these are no edges of the nodes")?,
-    };
-    document.report_at(report, edges, text.as_str())
+#[derive(Clone, Copy)]
+struct ShapeText<'a> {
+    fault: ShapeFault,
+    nodes: &'a [&'a str],
+    count: usize,
 }
 
-/// A node by its name and its number.
+impl Display for ShapeText<'_> {
+    fn fmt<W: fmt::Write>(&self, f: &mut fmt::Formatter<W>) -> fmt::Result {
+        let nodes = self.nodes;
+        let node = |i: u8| NamedNode { nodes, i };
+        match self.fault {
+            ShapeFault::Quorum(QuorumFault::EmptySet(i)) => {
+                write!(f, "the set of {} is empty", node(i))?;
+                f.write_str(", expected that it has the node itself")
+            }
+            ShapeFault::Quorum(QuorumFault::NotOwnMember(i)) => {
+                write!(f, "the set of {} lacks the node itself", node(i))
+            }
+            ShapeFault::Quorum(QuorumFault::Apart(i, j)) => {
+                write!(f, "the sets of {} and of {}", node(i), node(j))?;
+                f.write_str(" have no node in common, expected that any two do")
+            }
+            ShapeFault::Quorum(QuorumFault::NoPlane(n)) => {
+                write!(f, "there is no plane of {n} nodes, expected 7, 13 or 21")?;
+                f.write_str("; a grid has rows times cols")
+            }
+            ShapeFault::Tree(TreeFault::BadEdge(_)) => {
+                f.write_str("this edge joins a node with itself")
+            }
+            ShapeFault::Tree(TreeFault::WrongCount) => {
+                let wanted = nodes.len().saturating_sub(1);
+                write!(f, "{} edges stand here, expected {wanted}", self.count)?;
+                f.write_str(", one fewer than nodes")
+            }
+            ShapeFault::Tree(TreeFault::NotJoined(i)) => {
+                write!(f, "no way leads from {} to {}", node(i), node(0))
+            }
+            _ => f.write_str("this is no shape of the nodes"),
+        }
+    }
+}
+
 #[derive(Clone, Copy)]
 struct NamedNode<'a> {
     nodes: &'a [&'a str],
@@ -115,26 +97,25 @@ impl Display for NamedNode<'_> {
     }
 }
 
-/// Reports the first edge between two nodes that earlier edges connect, if there is one.
-pub(crate) fn report_cycle(
-    report: &mut Report,
-    document: &Document<'_>,
+/// Adds the first edge between two nodes that earlier edges connect. Returns whether there is one.
+pub(crate) fn add_cycle(
+    report: &mut JsonReport<'_>,
+    plan: Spot<'_, '_>,
     nodes: &[&str],
 ) -> Result<bool, AllocError> {
     let alloc = report.alloc();
     // of each node, the number of its part: nodes that earlier edges connect are in one
     let mut parts: Vec<usize> = (0..nodes.len()).collect(alloc)?;
-    for (k, edge) in items_of(document.root.get("edges")).iter().enumerate() {
-        let [first, second] = items_of(Some(edge)) else {
-            continue;
-        };
-        let (first, second) = (text_of(Some(first)), text_of(Some(second)));
+    let edges = plan.key("edges");
+    for k in 0..edges.len() {
+        let edge = edges.item(k);
+        let (first, second) = (edge.item(0).text(), edge.item(1).text());
         if first != second && join(parts.as_mut_slice(), nodes, first, second) == Some(false) {
             let (first, second) = (Quoted(first), Quoted(second));
             let text = format!(in alloc;
                 "this edge makes a cycle, since earlier edges connect {first} and {second}"
             )?;
-            document.report_at(report, Path::whole("").key("edges").item(k), text.as_str())?;
+            report.add(edge, text.as_str())?;
             return Ok(true);
         }
     }

@@ -12,4 +12,4 @@ returns-clause-ends g c = inr (fails_as_error (g.O.Output.takes_all c.args.out.n
 
 pub returns-clause-prints : goal.returns-clause-prints
 returns-clause-prints g c =
-    prints_nothing ℕ (g.O.Output.written c.args.out.now) (g.O.Output.written c.print_end.new.out) (script_error.Command c.in-Err.stop) c.in-Err.ensures.same
+    prints_nothing ℕ (g.O.Output.written c.args.out.now) (g.O.Output.written c.print_files.new.out) (script_error.Command c.in-Err.stop) c.in-Err.ensures.same
