@@ -24,3 +24,6 @@ start_all-requires-after_bounds g c κs within = (search (c.requires-raw), omega
 
 pub report_if_asked-requires : goal.report_if_asked-requires
 report_if_asked-requires g c = search (c.requires-raw)
+
+pub join_all-requires : goal.join_all-requires
+join_all-requires g c = search (c.requires-raw)
