@@ -97,12 +97,20 @@ pub(crate) fn make<R: Threads>(
         turns: if again { 100_000_000 } else { 2_000 },
         settle_every: 1,
     };
-    let left = match call {
-        Call::RunJobs => run(threads, alloc, new.stations, new.jobs, new.links, options).err(),
-        _ => run_stations(threads, alloc, new.stations, new.jobs, new.links, options).err(),
-    };
-    match &left {
-        None => Outcome::Done,
-        Some(left) => outcome_of(left),
+    match call {
+        Call::RunJobs => {
+            let ended = run(threads, alloc, new.stations, new.jobs, new.links, options);
+            match &ended {
+                Ok(_) => Outcome::Done,
+                Err(left) => outcome_of(left),
+            }
+        }
+        _ => {
+            let ended = run_stations(threads, alloc, new.stations, new.jobs, new.links, options);
+            match &ended {
+                Ok(_) => Outcome::Done,
+                Err(left) => outcome_of(left),
+            }
+        }
     }
 }

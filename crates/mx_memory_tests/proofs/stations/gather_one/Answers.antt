@@ -1,4 +1,4 @@
-use Rattle.std.proofs.Common.{◌≡◌, List, [], ◌∷◌, length, arith}
+use Rattle.std.proofs.Common.{rules, ◌≡◌, List, [], ◌∷◌, length, arith}
 use Rattle.mx_stations.specs.Gathered.{OfOneTable}
 use Rattle.mx_stations.specs.Posts.{Post}
 use Rattle.mx_stations.proofs.SameTable.{one_alone}
@@ -11,4 +11,4 @@ alone (s ∷ []) is = one_alone s
 alone (s ∷ t ∷ more) is = absurd (omega (arith, is))
 
 pub gather-requires : goal.gather-requires
-gather-requires c = alone _ c.requires
+gather-requires c = (search rules, alone _ c.requires)
