@@ -12,7 +12,7 @@ ghost use Rattle.mx_live.specs.Workers.{AreDone, AreLeft, orders_in, stations_of
 
 use crate::live_error::LiveError;
 use crate::progress::report_if_asked;
-use crate::threads::{Ended, WorkerConfig, start_all};
+use crate::threads::{Ended, WorkerConfig, join_all, start_all};
 use mx_cli::LiveRequest;
 use mx_io::Output;
 use mx_maekawa::Maekawa;
@@ -131,7 +131,7 @@ where
     let watch = watch_over(stations.as_slice())?;
     let workers = start_all(rt, alloc, plan.nodes(), stations, orders_of(request))?;
     report_if_asked(rt, alloc, request.progress, watch, &workers, err);
-    workers.join_all(rt)
+    join_all(rt, workers)
 }
 
 fn orders_of(request: &LiveRequest<'_>) -> WorkerConfig

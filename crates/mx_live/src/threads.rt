@@ -1,6 +1,7 @@
 //! The threads of a live run, one for each station.
 
 ghost use Rattle.std.specs.Prelude.{◌≡◌, ◌<◌, ◌++◌, [], ◌∷◌, IfOk, OnOk, map};
+ghost use Rattle.std.specs.List.{AllZip};
 ghost use Rattle.mx_live.specs.Workers.{IsLeft, ordered, told, weather_of};
 
 use mx_explorer::Weather;
@@ -131,4 +132,15 @@ where
             Err(AllocError)
         }
     }
+}
+
+/// If memory runs out, what the threads left is dropped. (In its caller, the goals of `join_all` stay open.)
+pub(crate) fn join_all<C: Exclusion, R: Threads>(
+    rt: &R,
+    workers: Workers<C>,
+) -> Result<Vec<Ended<C>>, AllocError>
+    ensures { IfOk result (λ all. AllZip
+        (λ worker ended. IsLeft C.core worker.orders worker.at.value ended) workers all.items) }
+{
+    workers.join_all(rt)
 }

@@ -1,7 +1,10 @@
 //! What the calls are made on.
 
+ghost use Rattle.mx_jobs.specs.Runs.{AreNew};
+ghost use Rattle.mx_ricart.specs.Step.{ricart_core};
+
 use crate::harness::{Outcome, expect};
-use crate::jobs::{NewRun, new_run};
+use crate::jobs::NewRun;
 use crate::nodes::{at_cluster, at_journal, at_member, go_inside, new_member, records_of, settled};
 use crate::stations::{Stations, open, state_of_station};
 use crate::table::{Call, HISTORY, PLAN, Row};
@@ -25,10 +28,9 @@ pub(crate) struct Bench {
     pub(crate) shape: Count,
     pub(crate) plan: Plan,
     journal: Journal,
-    /// Arguments of the next call: records, a journal of them, and new stations.
+    /// Arguments of the next call: records, and a journal of them.
     records: Vec<Record>,
     other: Journal,
-    run: Option<NewRun>,
     pub(crate) member: Member<Ricart>,
     pub(crate) cluster: Cluster<Ricart>,
     /// The events that come to the cluster.
@@ -58,18 +60,11 @@ pub(crate) fn new_bench(alloc: Global) -> Result<Bench> {
         journal: Journal::new(alloc),
         records: Vec::new(alloc),
         other: Journal::new(alloc),
-        run: None,
         member: new_member(alloc)?,
         cluster,
         events,
         stations: open(alloc, 0)?,
     })
-}
-
-/// The stations of a run are used up by it.
-pub(crate) fn renew_run(bench: &mut Bench) -> Result<()> {
-    bench.run = Some(new_run(bench.alloc, &bench.shape)?);
-    Ok(())
 }
 
 /// Returns the state that a refused call leaves as it was.
@@ -126,16 +121,19 @@ fn prepare(bench: &mut Bench, row: Row) -> Result<()> {
     }
     bench.records = records_of(bench.alloc, row.numbers())?;
     bench.other = settled(bench.alloc, row.numbers(), row.upto())?;
-    renew_run(bench)
+    Ok(())
 }
 
 pub(crate) fn make<R: Threads>(
     threads: &R,
     bench: &mut Bench,
+    new: NewRun,
     call: Call,
     row: Row,
     again: bool,
-) -> Outcome {
+) -> Outcome
+    requires { AreNew ricart_core new.stations.items }
+{
     match call {
         Call::Put | Call::PutAll | Call::Merge | Call::Join => {
             at_journal(
@@ -154,10 +152,7 @@ pub(crate) fn make<R: Threads>(
         Call::LeaveAt | Call::TakeIn | Call::Turn | Call::Watch | Call::Gather => {
             bench.stations.make(bench.alloc, call, again)
         }
-        Call::RunJobs | Call::RunStations => match bench.run.take() {
-            Some(new) => jobs::make(threads, bench.alloc, new, call, again),
-            None => Outcome::Wrong,
-        },
+        Call::RunJobs | Call::RunStations => jobs::make(threads, bench.alloc, new, call, again),
         _ => values::make(bench, call, row),
     }
 }

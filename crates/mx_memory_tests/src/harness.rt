@@ -2,7 +2,8 @@
 //! has changed, made again. What a call returns is what its clauses say. A line that cannot be
 //! printed is missing from the program's output, which is compared.
 
-use crate::bench::{Bench, make, renew_run, set_up, state_of};
+use crate::bench::{Bench, make, set_up, state_of};
+use crate::jobs::new_run;
 use crate::table::{Call, Row};
 use anyhow::{Result, bail};
 use std::thread::Threads;
@@ -55,8 +56,9 @@ pub(crate) fn step<R: Threads>(
         return Ok(());
     }
     let before = state_of(bench)?;
+    let new = new_run(bench.alloc, &bench.shape)?;
     let _ = println!(rt; "call {name}");
-    let mut outcome = make(threads, bench, call, row, false);
+    let mut outcome = make(threads, bench, new, call, row, false);
     let _ = println!(rt; "back");
     if outcome == Refused || outcome == Partly {
         let _ = println!(rt; "refused {name}");
@@ -64,8 +66,8 @@ pub(crate) fn step<R: Threads>(
         expect(name, outcome == Partly || state_of(bench)? == before)?;
     }
     if outcome == Refused || outcome == Partly || outcome == Spent {
-        renew_run(bench)?;
-        outcome = make(threads, bench, call, row, true);
+        let new = new_run(bench.alloc, &bench.shape)?;
+        outcome = make(threads, bench, new, call, row, true);
     }
     expect(name, outcome == Done)
 }

@@ -1,5 +1,6 @@
 //! Stations of jobs are run.
 
+ghost use Rattle.std.specs.Prelude.{IfOk};
 ghost use Rattle.mx_jobs.specs.Runs.{AreNew};
 ghost use Rattle.mx_ricart.specs.Step.{ricart_core};
 
@@ -50,13 +51,14 @@ impl Job for Numberer {
 
 #[derive(Drop)]
 pub(crate) struct NewRun {
-    stations: Vec<Station<Ricart>>,
+    pub(crate) stations: Vec<Station<Ricart>>,
     links: Vec<Fair>,
     jobs: Vec<Numberer>,
-    ghost are_new: { AreNew ricart_core stations.items },
 }
 
-pub(crate) fn new_run(alloc: Global, shape: &Count) -> Result<NewRun> {
+pub(crate) fn new_run(alloc: Global, shape: &Count) -> Result<NewRun>
+    ensures { IfOk result (λ new. AreNew ricart_core new.stations.items) }
+{
     let mut jobs = Vec::new(alloc);
     for _node in 0..2 {
         jobs.push(Numberer { left: 2 })?;
@@ -88,7 +90,9 @@ pub(crate) fn make<R: Threads>(
     new: NewRun,
     call: Call,
     again: bool,
-) -> Outcome {
+) -> Outcome
+    requires { AreNew ricart_core new.stations.items }
+{
     let options = RunOptions {
         turns: if again { 100_000_000 } else { 2_000 },
         settle_every: 1,

@@ -13,6 +13,7 @@ ghost use Rattle.mx_scripts.specs.Scripts.{IsOver};
 use crate::faults::InputFault;
 use crate::help::add_words;
 use crate::interpreter::repeat;
+use crate::run_texts::add_events;
 use crate::session::{Session, Setting};
 use crate::undo::{event_count, redo_lines, truncate, undo_lines};
 use crate::views::show;
@@ -20,7 +21,7 @@ use mx_format::Letter;
 use mx_knowledge::Knowledge;
 use mx_lines::{Line, SessionCommand, words_in};
 use mx_nodelaws::Exclusion;
-use mx_scripts::{LineFailure, add_file};
+use mx_scripts::LineFailure;
 use std::alloc::{AllocError, Global};
 use std::str;
 
@@ -51,7 +52,7 @@ where
             Ok(None)
         }
         SessionCommand::Events => {
-            add_file(setting.plan, session.state.cluster().trace(), text)?;
+            add_events(setting.plan, &session.state, text)?;
             Ok(None)
         }
         SessionCommand::Mark => {

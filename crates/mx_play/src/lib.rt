@@ -10,6 +10,7 @@ mod help;
 mod input;
 mod interpreter;
 mod lines;
+mod run_texts;
 mod session;
 mod session_files;
 mod session_run;

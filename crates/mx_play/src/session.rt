@@ -1,6 +1,7 @@
 //! A session: a cluster, and what lines have done to it.
 
 ghost use Rattle.std.specs.Prelude.{◌≡◌, IfOk};
+ghost use Rattle.mx_play.specs.Histories.{first_state};
 ghost use Rattle.mx_play.specs.Sessions.{at_start};
 
 use crate::undo::Undone;
@@ -41,6 +42,13 @@ impl<C: Exclusion> Model for Session<C> {
     } };
 }
 
+pub(crate) fn first_state<C: Exclusion>(setting: &Setting<'_, C>) -> Result<State<C>, AllocError>
+    ensures { IfOk result (λ state.
+        state ≡ first_state C.core setting.now.plan.now setting.now.shape.now) }
+{
+    State::start(setting.alloc, setting.plan, setting.shape)
+}
+
 pub(crate) fn first_session<C: Exclusion>(
     setting: &Setting<'_, C>,
 ) -> Result<Session<C>, AllocError>
@@ -48,7 +56,7 @@ pub(crate) fn first_session<C: Exclusion>(
         session ≡ at_start C.core setting.now.plan.now setting.now.shape.now) }
 {
     Ok(Session {
-        state: State::start(setting.alloc, setting.plan, setting.shape)?,
+        state: first_state(setting)?,
         done: Vec::new(setting.alloc),
         marks: Vec::new(setting.alloc),
         undone: Vec::new(setting.alloc),

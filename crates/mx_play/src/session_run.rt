@@ -13,9 +13,9 @@ use crate::commands::execute;
 use crate::faults::{InputFault, InputFaultLine, message_about};
 use crate::input::{Input, greet, is_end, read_input};
 use crate::lines::{Lines, Listed};
+use crate::run_texts::add_end;
 use crate::session::{Session, Setting};
 use mx_cli::{CommandError, Fault, Named, write_line};
-use mx_commands::{add_closing, verdict_status};
 use mx_format::Letter;
 use mx_io::Output;
 use mx_knowledge::Knowledge;
@@ -222,7 +222,7 @@ where
     ensures zero { IfOk result (λ status. status ≡ 0) }
 {
     let mut text = String::new(setting.alloc);
-    let verdict = add_closing(setting.plan, session.state.cluster(), &mut text)?;
+    let status = add_end(setting.plan, &session.state, &mut text)?;
     out.put(text.as_bytes())?;
-    Ok(verdict_status(verdict))
+    Ok(status)
 }

@@ -6,7 +6,7 @@ ghost use Rattle.mx_play.specs.Sessions.{IsSession};
 ghost use Rattle.mx_play.specs.Turns.{HasRedone, HasUndone};
 
 use crate::faults::InputFault;
-use crate::session::{Session, Setting};
+use crate::session::{Session, Setting, first_state};
 use mx_format::Letter;
 use mx_knowledge::Knowledge;
 use mx_nodelaws::Exclusion;
@@ -118,9 +118,26 @@ pub(crate) fn truncate<C: Exclusion>(
     ensures marks { session.new.marks ≡ session.old.marks }
     ensures undone { session.new.undone ≡ session.old.undone }
 {
-    session.done.truncate(count);
-    session.state = State::start(setting.alloc, setting.plan, setting.shape)?;
-    reapply_all(session.done.as_slice(), &mut session.state)
+    go_back(setting, count, &mut session.state, &mut session.done)
+}
+
+fn go_back<C: Exclusion>(
+    setting: &Setting<'_, C>,
+    count: usize,
+    state: &mut State<C>,
+    done: &mut Vec<SessionEvent>,
+) -> Result<(), AllocError>
+    requires leads { CanLead C.core
+        (first_state C.core setting.now.plan.now setting.now.shape.now)
+        (take count done.old.items) }
+    ensures leads { OnOk result (Leads C.core
+        (first_state C.core setting.now.plan.now setting.now.shape.now)
+        (take count done.old.items) state.new) }
+    ensures done { done.new.items ≡ take count done.old.items }
+{
+    done.truncate(count);
+    *state = first_state(setting)?;
+    reapply_all(done.as_slice(), state)
 }
 
 fn reapply_all<C: Exclusion>(
@@ -180,9 +197,11 @@ fn events_before<C: Exclusion>(session: &Session<C>, line: usize) -> usize
     ensures { result
         ≡ slice_index_or session.now.marks line (length session.now.done) }
 {
-    if line < session.marks.len() {
-        session.marks[line]
-    } else {
-        session.done.len()
-    }
+    mark_at(session.marks.as_slice(), line, event_count(session))
+}
+
+fn mark_at(marks: &[usize], line: usize, all: usize) -> usize
+    ensures { result ≡ slice_index_or marks.now line all }
+{
+    if line < marks.len() { marks[line] } else { all }
 }

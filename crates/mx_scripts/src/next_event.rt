@@ -186,7 +186,7 @@ impl<C: Exclusion> State<C> {
         if self.cluster.trace().len() >= MAX_EVENTS {
             return Err(LineFault::TooMany);
         }
-        if !self.in_flight.can_pass(event, &self.cluster) {
+        if !self.can_pass(event) {
             return Err(LineFault::LinkCut);
         }
         Ok(())

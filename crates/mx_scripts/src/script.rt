@@ -57,7 +57,7 @@ fn file_of_script<C: Exclusion, K: Recorder<State<C>>>(
         ⊎ StopsFrom C.core plan.now state.old.cluster script.now error) }
 {
     do_script(alloc, plan, script, state, recorder)?;
-    let text = file_of(alloc, plan, state.cluster().trace())?;
+    let text = file_of(alloc, plan, state.trace())?;
     Ok(text)
 }
 

@@ -7,7 +7,7 @@ use crate::in_flight::InFlight;
 use crate::script_error::LineFailure;
 use mx_commands::start;
 use mx_lines::LinkChange;
-use mx_network::{Cluster, Event};
+use mx_network::{Cluster, Entry, Event};
 use mx_nodelaws::Exclusion;
 use mx_plan::Plan;
 use std::alloc::{AllocError, Global};
@@ -73,11 +73,23 @@ impl<C: Exclusion> State<C> {
         &self.in_flight
     }
 
+    pub(crate) fn trace(&self) -> &[Entry]
+        ensures { result.now ≡ self.now.cluster.trace }
+    {
+        self.cluster.trace()
+    }
+
     /// Whether the parcel of this number was sent, and neither delivered nor lost.
     pub fn is_under_way(&self, number: u64) -> bool
         ensures { result ≡ is_under_way self.now.fates number }
     {
         self.in_flight.is_under_way(number)
+    }
+
+    pub(crate) fn can_pass(&self, event: &Event) -> bool
+        ensures { result ≡ can_pass self.now.fates self.now.cluster.sent event.now }
+    {
+        self.in_flight.can_pass(event, &self.cluster)
     }
 
     /// Applies an event to the cluster, to a parcel that is under way, or to the links.

@@ -122,13 +122,10 @@ fn are_as_they_were(zero: &Station<Ricart>, one: &Station<Ricart>) -> bool {
         && one.phase() == Phase::Idle
 }
 
-fn leaves(station: &mut Station<Ricart>, number: u64) -> bool
+fn leaves(station: &mut Station<Ricart>) -> bool
     ensures { KeepsTable station.old station.new }
 {
-    match station.leave() {
-        Ok(receipt) => receipt.number == number,
-        Err(_) => false,
-    }
+    station.leave().is_ok()
 }
 
 fn are_gathered_later(
@@ -137,7 +134,7 @@ fn are_gathered_later(
 ) -> Result<bool, AllocError>
     requires { KeepsTable both.0 both.1 }
 {
-    let is_left = are_as_they_were(&both.0, &both.1) && leaves(&mut both.0, 1);
+    let is_left = are_as_they_were(&both.0, &both.1) && leaves(&mut both.0);
     Ok(is_left && are_gathered(alloc, both)?)
 }
 

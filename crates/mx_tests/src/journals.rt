@@ -127,8 +127,9 @@ fn takes_halves(journal: &mut Journal, rest: u64) -> bool {
 }
 
 fn lacks_even(journal: &Journal) -> bool {
-    for (gap, half) in missing(journal, 16).as_slice().iter().zip(1..9) {
-        if gap.first != 2 * half || gap.last != 2 * half {
+    for (gap, half) in missing(journal, 16).as_slice().iter().zip(1u64..9) {
+        let even = half.wrapping_mul(2);
+        if gap.first != even || gap.last != even {
             return false;
         }
     }

@@ -1,6 +1,8 @@
-use Rattle.std.proofs.Common.{◌∙◌, ◌++◌, ap, refl, rules, string_bytes}
+use Rattle.std.proofs.Common.{◌≡◌, ◌∙◌, ◌++◌, ap, arith, length, refl, rules, string_bytes, subst, sym}
+use Rattle.std.proofs.lemmas.Grind.{common_steps}
 use Rattle.mx_plan.specs.Text.{Text}
 use Rattle.mx_format.specs.LetterTexts.{letter_text}
+use Rattle.mx_play.specs.Sessions.{SessionState}
 use Rattle.mx_play.specs.Views.{mark_line}
 use Rattle.mx_play.proofs.TurnLemmas.{executed_line, executed_redo, executed_undo}
 use Rattle.mx_play.proofs.commands.execute.Goals as goal
@@ -8,8 +10,11 @@ use Rattle.mx_play.proofs.commands.execute.Goals as goal
 pub do_line-requires : goal.do_line-requires
 do_line-requires g c = (first_of (search rules, search (rules, c.requires-raw)), (c.requires.is, (rw c.in-Does.is at c.requires.over, c.requires.empty)))
 
-pub show_session-requires : goal.show_session-requires
-show_session-requires g c = (first_of (search rules, search (rules, c.requires-raw)), c.requires.is.members)
+pub show-requires : goal.show-requires
+show-requires g c = (
+  first_of (search rules, search (rules, c.requires-raw), grind (arith, common_steps)),
+  subst (λ (x : SessionState g.row.C.Denot g.row.C-Msg.Denot). length x.state.cluster.members ≡ length c.args.setting.now.plan.now.nodes) (sym c.session.view_is) c.requires.is.members,
+)
 
 pub returns-in-Does-clause-executed : goal.returns-in-Does-clause-executed
 returns-in-Does-clause-executed g c =

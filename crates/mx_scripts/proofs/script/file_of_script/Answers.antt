@@ -12,7 +12,7 @@ use Rattle.mx_scripts.proofs.script.file_of_script.Goals as goal
 pub returns-clause-ok : goal.returns-clause-ok
 returns-clause-ok g c =
     file_from g.C.Exclusion.core c.args.plan.now string_bytes c.args.script.now c.args.state.now.cluster c.args.state.now c.do_script.new.state (Ok c.in_ok-text.text) c.requires.fresh
-    c.requires.empty c.in_ok-do_script.ensures.ok (c.in_ok-text.ensures ∙ ap (λ (t : List Entry). file_text c.args.plan.now (events_of t)) c.trace.ensures.value)
+    c.requires.empty c.in_ok-do_script.ensures.ok (c.in_ok-text.ensures ∙ ap (λ (t : List Entry). file_text c.args.plan.now (events_of t)) c.trace.ensures)
 
 pub returns-in_err-do_script-clause-err : goal.returns-in_err-do_script-clause-err
 returns-in_err-do_script-clause-err g c =

@@ -4,4 +4,4 @@ use Rattle.mx_stations.proofs.SameTable.{act_kept}
 use Rattle.mx_tests.proofs.four_slots.leaves.Goals as goal
 
 pub returns : goal.returns
-returns c = act_kept ricart_core Leave c.leave-left.result c.args.station.now c.leave-left.new.self c.leave-left.ensures.done c.leave-left.ensures.refused
+returns c = act_kept ricart_core Leave c.leave.result c.args.station.now c.leave.new.self c.leave.ensures.done c.leave.ensures.refused
