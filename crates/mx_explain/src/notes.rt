@@ -71,8 +71,9 @@ where
         event: &SessionEvent,
         state: &State<C>,
     ) -> Result<(), AllocError> {
+        let cluster = state.cluster();
         match event {
-            SessionEvent::Happens(_) => self.note_newest(plan, state.cluster(), number),
+            SessionEvent::Happens(_) => self.note_newest(plan, cluster, number),
             SessionEvent::IsLost(_) | SessionEvent::LinksChange(_) => Ok(()),
         }
     }
