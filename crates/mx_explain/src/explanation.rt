@@ -44,9 +44,7 @@ pub fn explain<S: Source + DetailedSource, O: Output, E: Output>(
         (seen O.Output E.Output out.old err.old) (seen O.Output E.Output out.new err.new) result }
 {
     match parse(alloc, words) {
-        Ok(Some(ExplainRequest::Run(request))) => explain_request(
-            alloc, &request, source, out, err,
-        ),
+        Ok(Some(ExplainRequest::Run(run))) => explain_request(alloc, &run, source, out, err),
         Ok(Some(ExplainRequest::Script(names))) => explain_script(alloc, &names, source, out, err),
         Ok(None) => 2,
         Err(e) => refuse(alloc, &e, out, err),
