@@ -1,5 +1,5 @@
 -- The lines of a report, and the last line of its text.
-use Rattle.std.proofs.Common.{◌≡◌, ◌≢◌, ◌∙◌, ◌<◌, ◌≤◌, ◌++◌, ◌==◌, ◌||◌, ◌&&◌, ◌⊎◌, ◌↔◌, ℕ, Bool, true, false, not, cond, ltb, List, [], ◌∷◌, ap, sym, subst, refl, inl, inr, arith, append_assoc, append-nil}
+use Rattle.std.proofs.Common.{◌≡◌, ◌≢◌, ◌∙◌, ◌++◌, ◌==◌, ◌||◌, ◌&&◌, ◌↔◌, ℕ, Bool, true, false, not, cond, ltb, List, [], ◌∷◌, ap, sym, subst, refl, inl, inr, arith, append_assoc, append-nil}
 use Rattle.std.proofs.lemmas.Bool.Decides.{nat_tests}
 use Rattle.mx_plan.specs.Text.{Text}
 use Rattle.mx_lines.specs.Escapes.{ArePrintable, IsPrintable, shown}

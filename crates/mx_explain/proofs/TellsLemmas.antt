@@ -43,7 +43,7 @@ prints_ended T E old new text (Err e) a p last = (text, a, p, λ q. absurd (let 
 
 -- nothing is printed of a run that is not told
 pub prints_untold : (T E : Type 0) (old : Held) (ended : Result T E) → IsErr ended → Prints old old ended
-prints_untold T E old (Ok v) h = absurd h
+prints_untold T E old (Ok v) h = absurd (let bad : false ≡ true = h in cc)
 prints_untold T E old (Err e) h = prints_none T old e
 
 -- ---- how it is closed

@@ -1,5 +1,5 @@
 -- The lines of a report, and its text.
-use Rattle.std.specs.Prelude.{◌≡◌, ◌==◌, ◌||◌, ◌++◌, ◌⊎◌, ℕ, Bool, true, false, List, [], ◌∷◌, codes, if◌then◌else◌}
+use Rattle.std.specs.Prelude.{◌≡◌, ◌==◌, ◌||◌, ◌++◌, ◌⊎◌, Bool, true, false, List, [], ◌∷◌, codes, if◌then◌else◌}
 use Rattle.mx_plan.specs.Text.{Text}
 use Rattle.mx_lines.specs.Escapes.{ArePrintable, IsPrintable, shown}
 

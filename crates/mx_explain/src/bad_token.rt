@@ -8,8 +8,6 @@ use std::alloc::{AllocError, Global};
 
 const MAX_DEPTH: usize = 127;
 
-const MAX_SHOWN: usize = 24;
-
 const STRING: &str =
     "a text in one line without control characters, each \\ of which begins an escape of a whole character";
 
@@ -42,7 +40,7 @@ pub(crate) fn report_bad_token(report: &mut Report, part: &Part<'_>) -> Result<b
         Cause::Expected(expected) => {
             write!(message, "expected {expected} where this stands: ")?;
             let line = rest_of(text, offset).lines().next().unwrap_or("");
-            for character in line.chars().take(MAX_SHOWN) {
+            for character in line.chars().take(24) {
                 message.push(character)?;
             }
         }

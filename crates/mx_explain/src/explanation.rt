@@ -43,15 +43,9 @@ pub fn explain<S: Source + DetailedSource, O: Output, E: Output>(
     ensures answers { Answers explain_line (texts_of words.entry.now) (O.takes_all out.old)
         (seen O.Output E.Output out.old err.old) (seen O.Output E.Output out.new err.new) result }
 {
-    let entries = Vec::new(alloc);
-    let mut cached = CachedSource { source, entries };
     match parse(alloc, words) {
-        Ok(Some(ExplainRequest::Run(request))) => {
-            explain_request(alloc, &request, &mut cached, out, err)
-        }
-        Ok(Some(ExplainRequest::Script(names))) => {
-            explain_script(alloc, &names, &mut cached, out, err)
-        }
+        Ok(Some(ExplainRequest::Run(run))) => explain_request(alloc, &run, source, out, err),
+        Ok(Some(ExplainRequest::Script(names))) => explain_script(alloc, &names, source, out, err),
         Ok(None) => 2,
         Err(e) => refuse(alloc, &e, out, err),
     }
@@ -90,8 +84,10 @@ fn carry_out_and_explain<S: Source + DetailedSource, O: Output>(
     ensures zero { IfOk result (λ status. status ≡ 0) }
     ensures stays { O.takes_all out.new ≡ O.takes_all out.old }
 {
+    let entries = Vec::new(alloc);
+    let mut cached = CachedSource { source, entries };
     let mut notes = Notes::new(alloc);
-    let ended = run(alloc, request, source, &mut notes);
+    let ended = run(alloc, request, &mut cached, &mut notes);
     if let Err(CommandError::Fault(fault)) = &ended {
         notes.fault = Some(*fault);
     }
@@ -100,7 +96,7 @@ fn carry_out_and_explain<S: Source + DetailedSource, O: Output>(
         Request::Check(_) | Request::Asks(_) | Request::Explore(_) => Second::Nothing,
     };
     let (names, is_told) = (names_in(request), is_told(&ended));
-    print_files(alloc, &names, &second, &ended, is_told, source, out)?;
+    print_files(alloc, &names, &second, &ended, is_told, &mut cached, out)?;
     ended
 }
 
@@ -123,7 +119,6 @@ fn run<S: Source>(
     }
 }
 
-/// Returns whether it is told how a run ended: not if memory ran out.
 fn is_told(ended: &Result<u8, CommandError>) -> bool
     ensures { result ≡ false → IsErr ended.now }
 {

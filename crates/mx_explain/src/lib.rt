@@ -1,5 +1,4 @@
-//! `mx explain`: what is wrong in a plan and its events or its script, where it is, and what was
-//! expected there.
+//! `mx explain`: where a plan and its events or script are at fault, and what was expected there.
 #![tactic(auto)]
 
 mod bad_token;

@@ -14,6 +14,7 @@ use mx_network::Cluster;
 use mx_nodelaws::Exclusion;
 use mx_plan::Plan;
 use mx_scripts::{Recorder, RefusedLine, SessionEvent, State};
+use mx_stamps::NodeId;
 use mx_trace::{Cause, Outcome};
 use std::alloc::{AllocError, Global};
 
@@ -70,8 +71,9 @@ where
         event: &SessionEvent,
         state: &State<C>,
     ) -> Result<(), AllocError> {
+        let cluster = state.cluster();
         match event {
-            SessionEvent::Happens(_) => self.note_newest(plan, state.cluster(), number),
+            SessionEvent::Happens(_) => self.note_newest(plan, cluster, number),
             SessionEvent::IsLost(_) | SessionEvent::LinksChange(_) => Ok(()),
         }
     }
@@ -147,8 +149,7 @@ impl Notes {
     }
 }
 
-/// Returns the warning that `event`, the newest one of a cluster, is refused for this cause. After
-/// `not granted` comes what the node knows, in the words that `show` of `mx play` prints.
+/// Returns the warning that `event`, the newest one of a cluster, is refused for this cause.
 fn refusal<C: Exclusion + Knowledge>(
     alloc: Global,
     plan: &Plan,
@@ -161,12 +162,25 @@ fn refusal<C: Exclusion + Knowledge>(
     let outcome = OutcomeText(&outcome);
     let said = EventText { plan, event };
     let mut text = format!(in alloc; " warning: event {index}, {said}: {outcome}")?;
-    if let (Cause::NotGranted, Event::Enter(node)) = (cause, event)
-        && let Some(member) = cluster.member(*node)
-    {
-        let mut line = String::new(alloc);
-        add_facts_line(plan, &member.core().facts(alloc)?, &mut line)?;
-        write!(text, ": {}", line.as_str().trim())?;
+    if let (Cause::NotGranted, Event::Enter(node)) = (cause, event) {
+        add_known(alloc, plan, cluster, *node, &mut text)?;
     }
     Ok(text)
+}
+
+/// Appends what a node knows, in the words that `show` of `mx play` prints.
+fn add_known<C: Exclusion + Knowledge>(
+    alloc: Global,
+    plan: &Plan,
+    cluster: &Cluster<C>,
+    node: NodeId,
+    text: &mut String,
+) -> Result<(), AllocError> {
+    let Some(member) = cluster.member(node) else {
+        return Ok(());
+    };
+    let mut line = String::new(alloc);
+    add_facts_line(plan, &member.core().facts(alloc)?, &mut line)?;
+    text.push_str(": ")?;
+    text.push_str(line.as_str().trim())
 }

@@ -55,22 +55,13 @@ fn add_fault(report: &mut JsonReport<'_>, plan: Spot<'_, '_>, fault: PlanFault) 
         nodes.push(names.item(i).text())?;
     }
     let nodes = nodes.as_slice();
-    match fault {
-        PlanFault::NotPlan(place) => add_place(report, plan, place, nodes),
-        PlanFault::DoubleName(place) => add_place(report, plan, place, nodes),
-        PlanFault::UnknownName(place) => add_place(report, plan, place, nodes),
-        PlanFault::BadShape(fault) => add_shape(report, plan, fault, nodes),
-        PlanFault::NotJson | PlanFault::Memory => Ok(()),
-    }
-}
-
-/// Adds the first value that is wrong at a place of a plan, in the order of the text.
-fn add_place(
-    report: &mut JsonReport<'_>,
-    plan: Spot<'_, '_>,
-    place: Place,
-    nodes: &[&str],
-) -> ReportResult {
+    let place = match fault {
+        PlanFault::NotPlan(place) => place,
+        PlanFault::DoubleName(place) => place,
+        PlanFault::UnknownName(place) => place,
+        PlanFault::BadShape(fault) => return add_shape(report, plan, fault, nodes),
+        PlanFault::NotJson | PlanFault::Memory => return Ok(()),
+    };
     match place {
         Place::Holder if add_cycle(report, plan, nodes)? => Ok(()),
         Place::Nodes => add_names(report, plan.key("nodes"), 21),

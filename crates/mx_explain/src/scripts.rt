@@ -6,7 +6,7 @@ ghost use Rattle.mx_cli.specs.Words.{names_of};
 ghost use Rattle.mx_explain.specs.Explained.{Prints, TellsLines};
 ghost use Rattle.mx_scripts.specs.Ended.{EndsScript, ScriptsOf};
 
-use crate::cached_source::DetailedSource;
+use crate::cached_source::{CachedSource, DetailedSource};
 use crate::files::{Second, print_files};
 use crate::notes::Notes;
 use mx_cli::{CommandError, Names};
@@ -45,10 +45,12 @@ fn end_and_explain<S: Source + DetailedSource, O: Output>(
     ensures zero { IfOk result (λ status. status ≡ 0) }
     ensures stays { O.takes_all out.new ≡ O.takes_all out.old }
 {
+    let entries = Vec::new(alloc);
+    let mut cached = CachedSource { source, entries };
     let mut notes = Notes::new(alloc);
-    let ended = end_of(alloc, names, source, &mut notes);
+    let ended = end_of(alloc, names, &mut cached, &mut notes);
     let (second, is_told) = (Second::Script(&notes), is_told(&ended));
-    match print_files(alloc, names, &second, &ended, is_told, source, out) {
+    match print_files(alloc, names, &second, &ended, is_told, &mut cached, out) {
         Ok(()) => ended,
         Err(stop) => Err(ScriptError::Command(stop)),
     }
@@ -70,7 +72,6 @@ fn end_of<S: Source>(
     }
 }
 
-/// Returns whether it is told how a script ended: not if memory ran out.
 fn is_told(ended: &Result<u8, ScriptError>) -> bool
     ensures { result ≡ false → IsErr ended.now }
 {
