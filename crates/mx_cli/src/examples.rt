@@ -143,7 +143,7 @@ that the writes before it, in order of entry, do not leave (read). The status is
 it is broken. docs/FORMATS.md has all formats.";
 
 pub(crate) const EXPLAIN: &str =
-    "Example: a plan with a letter too few, and an event of a node that isn't there.
+    "Example: a key of a plan and the word of an event, which each lack a letter.
 
   plan.json    {\"algorithm\":\"ricart\",\"nodes\":[\"a\",\"b1\",\"b2\"],\"registers\":[\"count\"],\"sections\":10,\"orgin\":7}
   events.json  [[\"ask\",\"a\"],[\"deliver\",0],[\"entr\",\"a\"],[\"leave\",\"b\"]]
