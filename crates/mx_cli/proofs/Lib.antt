@@ -4,4 +4,4 @@ pub mod OutputLemmas
 pub mod RefusedLemmas
 pub mod ClosedLemmas
 pub mod ReadLemmas
-pub mod NamingLemmas
+pub mod FrameLemmas

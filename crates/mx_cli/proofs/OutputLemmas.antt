@@ -1,5 +1,5 @@
 -- Bytes that are appended in turn.
-use Rattle.std.proofs.Common.{◌≡◌, ◌∙◌, ◌&&◌, inl, inr, Bool, true, false, sym, Option, IfSome, ℕ, List, [], ◌∷◌, ◌++◌, length, take, ap, refl, append_assoc, append-nil, Some, None, subst, arith}
+use Rattle.std.proofs.Common.{◌≡◌, ◌∙◌, inl, Bool, sym, Option, IfSome, ℕ, List, [], ◌∷◌, ◌++◌, length, take, ap, refl, append_assoc, append-nil, Some, None, subst, arith}
 use Rattle.std.specs.Io.KnownBytes.{Appends, Keeps}
 use Rattle.std.specs.List.{concat}
 use Rattle.std.proofs.lemmas.List.{take_all}
@@ -55,19 +55,3 @@ none_some a b texts p = (0, Appends-keeps a a b [] (Appends-nil a) p)
 pub told_ok : (o : Option Text) (takes : Bool) (a b : Held) → IfSome o (Appends a b) → IfSome o (λ text. ReportsFault takes text a b 1)
 told_ok None takes a b h = tt
 told_ok (Some text) takes a b h = inl (refl, h)
-
--- ---- a reported fault
-
-and_right : (t u : Bool) → u ≡ false → (t && u) ≡ false
-and_right true u e = e
-and_right false u e = refl
-
-tells_both : (t u : Bool) (text : Text) (a b : Held) (status : ℕ) → ReportsFault u text a b status → ReportsFault (t && u) text a b status
-tells_both t u text a b status (inl h) = inl h
-tells_both t u text a b status (inr (inl h)) = inr (inl h)
-tells_both t u text a b status (inr (inr h)) = inr (inr (h.0, and_right t u h.1, h.2))
-
--- where another output may have refused too
-pub told_of_both : (o : Option Text) (t u : Bool) (a b : Held) (status : ℕ) → IfSome o (λ text. ReportsFault u text a b status) → IfSome o (λ text. ReportsFault (t && u) text a b status)
-told_of_both None t u a b status h = tt
-told_of_both (Some text) t u a b status h = tells_both t u text a b status h

@@ -5,7 +5,7 @@ use Rattle.mx_plan.specs.Text.{Text}
 use Rattle.mx_cli.specs.declared.faults.Named.TheVariants.{Plan}
 use Rattle.mx_cli.specs.declared.faults.CommandError.{CommandError}
 use Rattle.mx_cli.specs.declared.planning.PlanAndText.{PlanAndText}
-use Rattle.mx_cli.specs.Asked.{AsksBoth, AsksBy, AsksInTurn}
+use Rattle.mx_cli.specs.Asked.{AsksBoth, AsksInTurn}
 use Rattle.mx_cli.specs.Reading.{Fetches, ReadsBoth, is_dash, line_of, plan_told, rest_of, text_told}
 use Rattle.mx_io.specs.Told.{Asks, Telling}
 
@@ -40,11 +40,3 @@ module _ (names : Text × Text) (old new : Option (List Text)) (result : Result 
 
   pub names_asked : (is_dash names.0 && is_dash names.1) ≡ false → AsksInTurn names old new result → AsksBoth names old new result
   names_asked other h = rw other h
-
--- it says nothing of why there is no plan
-asked_so : (b : Bool) (names : Text × Text) (old new : Option (List Text)) (end other : CommandError) → AsksBy b names old new (Err end) → AsksBy b names old new (Err other)
-asked_so true names old new end other h = h
-asked_so false names old new end other h = h
-
-pub asked_otherwise : (names : Text × Text) (old new : Option (List Text)) (end other : CommandError) → AsksBoth names old new (Err end) → AsksBoth names old new (Err other)
-asked_otherwise names old new end other h = asked_so (is_dash names.0 && is_dash names.1) names old new end other h

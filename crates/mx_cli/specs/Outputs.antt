@@ -1,5 +1,5 @@
 -- What a run writes to its output, and whether that output has refused.
-use Rattle.std.specs.Prelude.{◌≡◌, ℕ, List, Bool, true, false, Result, Ok, Err, take, ⊤}
+use Rattle.std.specs.Prelude.{ℕ, List, Bool, true, Result, Ok, Err, take}
 use Rattle.std.specs.Io.KnownBytes.{Appends}
 use Rattle.std.specs.List.{concat}
 use Rattle.mx_plan.specs.Text.{Text}
@@ -24,10 +24,3 @@ refused_after (Err command_error.Memory) before = before
 abbrev pub error_of : OutputFault → CommandError
 error_of output_fault.Refused = command_error.Writer
 error_of output_fault.Memory = command_error.Memory
-
--- the output keeps nothing back, unless the run ended because the output refused or memory ran out
-abbrev pub IsPassedOn : {T : Type 0} → Result T CommandError → Bool → Type 0
-IsPassedOn (Ok t) kept_back = kept_back ≡ false
-IsPassedOn (Err (command_error.Fault fault)) kept_back = kept_back ≡ false
-IsPassedOn (Err command_error.Writer) kept_back = ⊤
-IsPassedOn (Err command_error.Memory) kept_back = ⊤

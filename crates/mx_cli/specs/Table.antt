@@ -98,18 +98,13 @@ replay_app =
     (plan_rule ∷ events_rule ∷ flag_rule (codes "quiet") ∷ text_rule (codes "node")
     ∷ flag_rule (codes "json") ∷ flag_rule (codes "state") ∷ [])
 
--- `explore PLAN --seed S --steps K`, and perhaps `--count` and `--json`
+-- `explore PLAN --seed S --steps K`, and perhaps `--count` and `--json`, or `--walk`, which
+-- `--loss P`, `--repeat P` and `--in-order` need
 abbrev pub explore_app : App
 explore_app =
     app_with (codes "explore")
     (plan_rule ∷ seed_rule ∷ steps_rule ∷ flag_rule (codes "count") ∷ flag_rule (codes "json")
-    ∷ [])
-
--- `explore PLAN --seed S --steps K --walk`, and perhaps `--loss P`, `--repeat P` and `--in-order`
-abbrev pub walk_app : App
-walk_app =
-    app_with (codes "explore")
-    (plan_rule ∷ seed_rule ∷ steps_rule ∷ needed walk_rule ∷ condition_rules)
+    ∷ walk_rule ∷ condition_rules)
 
 -- `live PLAN --sections M`, and perhaps `--seed S`, `--turns T`, `--settle N` and `--progress`
 abbrev pub live_app : App
@@ -156,12 +151,8 @@ explain_app =
 
 abbrev pub command_app : CommandId → App
 command_app id.Check = check_app
-command_app id.CheckJson = check_app
 command_app id.Replay = replay_app
-command_app id.ReplayView = replay_app
 command_app id.Explore = explore_app
-command_app id.ExploreCount = explore_app
-command_app id.ExploreWalk = walk_app
 command_app id.Live = live_app
 command_app id.Draw = draw_app
 command_app id.Script = script_app
@@ -186,22 +177,14 @@ mx_start =
       };
     }
 
--- a command line with these commands added, each by what `made` returns for it
-abbrev pub with_commands : (CommandId → App) → App → List CommandId → App
-with_commands made line [] = line
-with_commands made line (i ∷ ids) = with_commands made (with_subcommand line (made i).top) ids
+-- a command line with these commands added
+abbrev pub with_commands : App → List CommandId → App
+with_commands line [] = line
+with_commands line (i ∷ ids) = with_commands (with_subcommand line (command_app i).top) ids
 
--- the command line of `mx` with these commands
-abbrev pub line_of : List CommandId → App
-line_of = with_commands command_app mx_start
-
--- a command without its arguments: only its name is read
-abbrev pub listed_app : CommandId → App
-listed_app i = new_app (command_app i).top.name
-
--- the command line of the function `command`: three commands with their arguments, and only the
--- names of the others, which other functions run
+-- the command line of `mx`, with all commands
 unfoldable pub mx_app : App
 mx_app =
-    with_commands listed_app (line_of (id.Check ∷ id.Replay ∷ id.Explore ∷ []))
-    (id.Live ∷ id.Draw ∷ id.Script ∷ id.Play ∷ id.Picture ∷ id.Count ∷ id.Judge ∷ id.Explain ∷ [])
+    with_commands mx_start
+    (id.Check ∷ id.Replay ∷ id.Explore ∷ id.Live ∷ id.Draw ∷ id.Script ∷ id.Play ∷ id.Picture
+    ∷ id.Count ∷ id.Judge ∷ id.Explain ∷ [])

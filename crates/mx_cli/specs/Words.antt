@@ -12,11 +12,8 @@ use Rattle.clap.specs.declared.builder.arg.Arg.{Arg}
 use Rattle.clap.specs.declared.builder.command.Command.{Command}
 use Rattle.clap.specs.declared.builder.command.Command.TheViews.{out-Command}
 use Rattle.clap.specs.declared.parser.matches.ArgMatches.{ArgMatches}
-use Rattle.mx_cli.specs.Table.{mx_app}
-use Rattle.mx_cli.specs.declared.words.Exploration.{Exploration}
-use Rattle.mx_cli.specs.declared.words.Names.{Names}
-use Rattle.mx_cli.specs.declared.words.Request.{Request as Given}
-use Rattle.mx_cli.specs.declared.words.Request.TheVariants as given
+use Rattle.mx_cli.specs.declared.request.Exploration.{Exploration}
+use Rattle.mx_cli.specs.declared.request.Names.{Names}
 use Rattle.clap.specs.declared.error.Error.{Error}
 use Rattle.clap.specs.declared.error.kind.ErrorKind.{ErrorKind}
 use Rattle.clap.specs.declared.error.kind.ErrorKind.TheVariants.{DisplayHelp, DisplayVersion}
@@ -52,14 +49,6 @@ texts_of = map (λ word. word.now)
 
 -- ---- what is asked for
 
--- `check PLAN`, without `--asks` and with it; `replay PLAN EVENTS`; `explore PLAN`, with a seed and
--- a number of steps
-pub data Request : Type 0 where
-  check : Text → Request
-  asks : Text → Request
-  replay : Text × Text → Request
-  explore : Text → ℕ → ℕ → Request
-
 -- the names of the plan and of the events
 abbrev pub names_of : Names → Text × Text
 names_of names = (names.plan.now, names.events.now)
@@ -67,13 +56,6 @@ names_of names = (names.plan.now, names.events.now)
 -- the name of the plan, the seed and the number of steps
 abbrev pub explored : Exploration → Text × (ℕ × ℕ)
 explored exploration = (exploration.plan.now, (exploration.seed, exploration.steps))
-
-abbrev pub request_of : Given → Request
-request_of (given.Check plan) = check plan.now
-request_of (given.Asks plan) = asks plan.now
-request_of (given.Replay names) = replay (names_of names)
-request_of (given.Explore exploration) =
-    explore exploration.plan.now exploration.seed exploration.steps
 
 -- the number that a text writes, if it fits in 64 bits
 abbrev pub number_of : Text → Option ℕ
@@ -87,59 +69,12 @@ number_at id rows = option_and_then number_of (one_of id rows)
 abbrev pub is_given : Text → List Row → Bool
 is_given id rows = option_map_or (λ text. bytes_eq text (codes "true")) (first_of id rows) false
 
--- `--quiet`, `--node`, `--json` or `--state` was given
-abbrev pub is_view : List Row → Bool
-is_view rows =
-    is_given (codes "quiet") rows
-    || option_map_or (λ _. true) (first_of (codes "node") rows) false
-    || is_given (codes "json") rows || is_given (codes "state") rows
-
-abbrev pub names_at : List Row → Option (Text × Text)
-names_at rows =
-    option_and_then (λ plan. option_map (λ events. (plan, events))
-    (first_of (codes "EVENTS") rows)) (first_of (codes "PLAN") rows)
-
 -- the plan, the seed and the number of steps that were given
 abbrev pub exploration_at : List Row → Option (Text × (ℕ × ℕ))
 exploration_at rows =
     option_and_then (λ plan. option_and_then (λ seed. option_map (λ steps. (plan, (seed, steps)))
     (number_at (codes "steps") rows)) (number_at (codes "seed") rows))
     (first_of (codes "PLAN") rows)
-
--- a check of a plan, with or without `--asks`
-abbrev pub checking : Bool → Text → Request
-checking with_asks plan = if with_asks then asks plan else check plan
-
--- what `check` asks for, by what was given for its arguments; `None` with `--json`
-abbrev pub check_in : List Row → Option Request
-check_in rows =
-    if is_given (codes "json") rows then None
-    else option_map (checking (is_given (codes "asks") rows)) (first_of (codes "PLAN") rows)
-
--- what `replay` asks for; `None` with `--quiet`, `--node`, `--json` or `--state`
-abbrev pub replay_in : List Row → Option Request
-replay_in rows = if is_view rows then None else option_map replay (names_at rows)
-
--- what `explore` asks for; `None` with `--count` or `--json`
-abbrev pub explore_in : List Row → Option Request
-explore_in rows =
-    if is_given (codes "count") rows || is_given (codes "json") rows then None
-    else option_map (λ e. explore e.0 e.1.0 e.1.1) (exploration_at rows)
-
--- what the command that was met asks for, by what was given for its arguments
-abbrev pub request_in : Option (Text × List Row) → Option Request
-request_in None = None
-request_in (Some p) =
-    if bytes_eq p.0 (codes "check") then check_in p.1
-    else if bytes_eq p.0 (codes "replay") then replay_in p.1
-    else if bytes_eq p.0 (codes "explore") then explore_in p.1
-    else None
-
--- what is read from the arguments of the subcommand of this name, if it was met
-abbrev pub by_name : {X : Type 0} → Text → (List Row → Option X) → Option (Text × List Row)
-    → Option X
-by_name name read None = None
-by_name name read (Some p) = if bytes_eq p.0 name then read p.1 else None
 
 -- the value, if there are no faults; else `None`
 abbrev pub where_none : {X : Type 0} → Kinds → Option X → Option X
@@ -167,14 +102,6 @@ abbrev pub Asks : {T X : Type 0} → (T → X) → App → List Text → Option 
 Asks value line words wanted result =
     MatchResult result (λ request. (fault_of line words ≡ []) × (option_map value request ≡ wanted))
     (HasKind (fault_of line words))
-
--- what the words ask for, if they have no fault and ask for a command of `Request`
-unfoldable pub request_asked : List Text → Option Request
-request_asked words = asked_of mx_app request_in words
-
--- the words have no fault, and ask for no command of `Request`
-abbrev pub AskNothing : List Text → Type 0
-AskNothing words = (fault_of mx_app words ≡ []) × (request_asked words ≡ None)
 
 -- ---- words that are no command
 

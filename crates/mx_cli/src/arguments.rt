@@ -29,12 +29,6 @@ pub(crate) struct Argument {
     pub(crate) help: &'static str,
 }
 
-impl Argument {
-    pub(crate) fn has_value(&self) -> bool {
-        matches!(self.kind, ArgumentKind::Text | ArgumentKind::Number(_))
-    }
-}
-
 const MAX_STEPS: u64 = MAX_EVENTS as u64;
 
 /// The greatest value of `--loss` and `--repeat`, which count out of 256.
@@ -152,14 +146,6 @@ pub(crate) const WALK: Argument = Argument {
     name: "walk",
     kind: ArgumentKind::Flag,
     is_required: false,
-    help: "Draws with purpose: parcels arrive, and nodes enter and leave",
-};
-
-/// `--walk` of `explore` in its form `ExploreWalk`, which requires it.
-pub(crate) const WALK_WANTED: Argument = Argument {
-    name: "walk",
-    kind: ArgumentKind::Flag,
-    is_required: true,
     help: "Draws with purpose: parcels arrive, and nodes enter and leave",
 };
 

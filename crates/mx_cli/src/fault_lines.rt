@@ -6,7 +6,7 @@ ghost use Rattle.mx_cli.specs.Words.{names_of};
 
 use crate::faults::{Fault, Named};
 use crate::first_line::are_dashes;
-use crate::words::Names;
+use crate::request::Names;
 use std::fmt;
 
 /// The line that reports a fault, given the names of the plan and the events.

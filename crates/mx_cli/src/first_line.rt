@@ -4,7 +4,7 @@ ghost use Rattle.std.specs.Prelude.{◌≡◌, ◌≤◌, ◌==◌, ◌&&◌, le
 ghost use Rattle.std.specs.List.{before_first, after_first, position_or_len};
 ghost use Rattle.mx_cli.specs.Reading.{is_dash};
 
-use crate::words::Names;
+use crate::request::Names;
 
 /// Whether both names are `-`, which is standard input.
 pub fn are_dashes(names: &Names<'_>) -> bool

@@ -78,18 +78,24 @@ its algorithm, as `show` of `mx play` does. An object of JSON tells it too. They
   mx replay plan.json events.json --node a --json
   mx replay plan.json events.json --quiet --state";
 
-pub(crate) const EXPLORE_EXAMPLE: &str = "Example: a thousand steps drawn from the seed 1.
+pub(crate) const EXPLORE_EXAMPLE: &str =
+    "Example: a thousand steps drawn from the seed 1; and a walk in which a quarter of the parcels are lost.
 
-  plan.json    {\"algorithm\":\"ricart\",\"nodes\":[\"a\",\"b\",\"c\"],\"registers\":[\"count\"],\"sections\":10}
+  plan.json    {\"algorithm\":\"ricart\",\"nodes\":[\"a\",\"b\",\"c\"],\"registers\":[\"count\"],\"sections\":1000}
 
   mx explore plan.json --seed 1 --steps 1000
+  mx explore plan.json --seed 1 --steps 1000 --walk --loss 64
 
 The events are asking, entering, reading, writing, leaving, cancelling, ticking, wanting, settling,
 restarting and the delivery of one of the newest 64 parcels. The first line counts the steps, how often a
 node entered, and the parcels that were sent; the last line is the verdict. With --count the counts of
-`mx count` stand between them, and with --json each line is an object of JSON. With --walk the events are those of `mx draw .. --walk`, so that nodes come to
-enter; `mx explore --walk --help` tells of its options. `mx check --help` tells what a plan is; docs/FORMATS.md
-has all formats.";
+`mx count` stand between them, and with --json each line is an object of JSON.
+
+With --walk the events are those of `mx draw .. --walk` from the same seed, steps and options, so that nodes
+come to enter: most steps deliver a parcel that is under way, and in the others a node does what it can. With
+--in-order, the oldest parcel under way from and to the same nodes is delivered in place of the one that was
+drawn. --count and --json do not go with --walk. `mx check --help` tells what a plan is; docs/FORMATS.md has
+all formats.";
 
 pub(crate) const LIVE_EXAMPLE: &str =
     "Example: three nodes, each in a thread of its own, add 1 to a register in three sections each.

@@ -1,35 +1,39 @@
-//! What every command does before and after its own work: it parses its arguments, by one table of
-//! all commands, reads its plan from a source, and reports wrong arguments, a fault, or that memory
-//! ran out.
+//! What every command does before and after its own work. One reader turns words into a request, by
+//! one table of all commands. One frame reads the plan and the text that comes with it, lets a
+//! command print, flushes, and writes the line of a fault. A command sees no words, no source and no
+//! standard error.
 #![tactic(auto)]
 
 mod arguments;
+mod command;
 mod examples;
 mod fault_lines;
 mod faults;
+mod files;
 mod first_line;
-mod forms;
+mod frame;
 mod help;
 mod line;
-mod live_words;
-mod not_json;
 mod planning;
+mod printing;
+mod reader;
 mod report;
-mod status;
+mod request;
+mod stop;
 mod table;
-mod words;
 
+pub use command::Command;
 pub use fault_lines::FaultLine;
 pub use faults::{CommandError, Fault, Named};
+pub use files::Files;
 pub use first_line::{are_dashes, split_line};
-pub use forms::{command_in, takes_value};
-pub use line::matches_in;
-pub use live_words::{LiveRequest, parse_live};
-pub use not_json::{error_named, fetch_named, naming};
+pub use frame::{close, front, run_files, unread_for};
 pub use planning::{PlanAndText, fetch, fetch_both, fetch_plan, plan_in};
-pub use report::{refuse, report_fault, report_memory, write_line};
-pub use status::{close, close_with, is_refused};
-pub use table::CommandId;
-pub use words::{
-    Exploration, Names, Request, exploration_at, is_given, names_at, number_at, parse, text_at,
+pub use printing::{print, print_line};
+pub use reader::parse;
+pub use report::{refuse, report_fault, report_memory, report_misfit, write_line};
+pub use request::{
+    Conditions, Exploration, LiveRequest, Misfit, Names, PictureOptions, Request, ViewOptions,
 };
+pub use stop::{Stop, stop_with};
+pub use table::is_explained;

@@ -1,13 +1,13 @@
-//! The command lines by which `clap` parses words, made from the table of commands.
+//! The command line by which `clap` parses words, made from the table of commands.
 
 ghost use Rattle.std.specs.Prelude.{◌≡◌, IfOk};
 ghost use Rattle.clap.specs.Words.{App, app_of, new_app};
-ghost use Rattle.mx_cli.specs.Table.{app_of_row, command_app, line_of, listed_app, mx_app, mx_start, with_commands};
+ghost use Rattle.mx_cli.specs.Table.{app_of_row, mx_app, mx_start, with_commands};
 ghost use Rattle.mx_cli.specs.Words.{Finds, IsCommand, IsLine, IsReadable, texts_of};
 
 use crate::arguments::clap_argument;
 use crate::help;
-use crate::table::{CommandId, CommandRow, LISTED, READ, row_of};
+use crate::table::{COMMANDS, CommandId, CommandRow, row_of};
 use clap::{ArgMatches, Command, Error};
 use std::alloc::{AllocError, Global};
 
@@ -49,7 +49,7 @@ fn with_commands<'a>(
     ids: &[CommandId],
 ) -> Result<Command<'a>, AllocError>
     ensures { IfOk result (λ made. app_of made
-        ≡ with_commands command_app (app_of line.entry) ids.now) }
+        ≡ with_commands (app_of line.entry) ids.now) }
 {
     let mut line = line;
     for id in ids {
@@ -58,35 +58,19 @@ fn with_commands<'a>(
     Ok(line)
 }
 
-fn with_listed<'a>(
-    alloc: Global,
-    line: Command<'a>,
-    ids: &[CommandId],
-) -> Result<Command<'a>, AllocError>
-    ensures { IfOk result (λ made. app_of made
-        ≡ with_commands listed_app (app_of line.entry) ids.now) }
-{
-    let mut line = line;
-    for id in ids {
-        line = line.subcommand(listed_row(alloc, row_of(*id)))?;
-    }
-    Ok(line)
-}
-
-fn line_of<'a>(alloc: Global, ids: &[CommandId]) -> Result<Command<'a>, AllocError>
-    ensures { IfOk result (λ line. app_of line ≡ line_of ids.now) }
-{
-    with_commands(alloc, start_line(alloc)?, ids)
-}
-
-/// Returns the command line of `mx_commands::command`, which reads the commands of `READ` and only
-/// lists those of `LISTED`.
+/// Returns the command line of `mx`.
 pub(crate) fn whole_line<'a>(alloc: Global) -> Result<Command<'a>, AllocError>
     ensures { IfOk result (IsLine mx_app) }
 {
-    with_listed(alloc, line_of(alloc, &READ)?, &LISTED)
+    with_commands(alloc, start_line(alloc)?, &COMMANDS)
 }
 
+/// Parses words by a command line.
+///
+/// # Errors
+///
+/// Returns the error of `clap` for wrong arguments. A request for help is such an error too, with
+/// the text to show.
 pub(crate) fn matches_of<'a>(
     line: Command<'a>,
     words: &'a [&'a str],
@@ -95,21 +79,4 @@ pub(crate) fn matches_of<'a>(
     ensures { (app : App) → app_of line.entry ≡ app → Finds app (texts_of words.entry.now) result }
 {
     line.try_get_matches_from(words)
-}
-
-/// Parses words by the command line of `mx` with these commands alone.
-///
-/// # Errors
-///
-/// Returns the error of `clap` for wrong arguments. A request for help is such an error too, with
-/// the text to show.
-pub fn matches_in<'a>(
-    alloc: Global,
-    ids: &[CommandId],
-    words: &'a [&'a str],
-) -> Result<ArgMatches<'a>, Error>
-    requires { IsReadable (line_of ids.now) }
-    ensures { Finds (line_of ids.entry.now) (texts_of words.entry.now) result }
-{
-    matches_of(line_of(alloc, ids)?, words)
 }

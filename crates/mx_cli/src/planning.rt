@@ -9,7 +9,7 @@ ghost use Rattle.mx_cli.specs.Words.{names_of};
 
 use crate::faults::{CommandError, Fault, Named};
 use crate::first_line::{are_dashes, split_line};
-use crate::words::Names;
+use crate::request::Names;
 use mx_io::{Source, SourceFault};
 use mx_plan::{Plan, read_plan};
 use std::alloc::Global;

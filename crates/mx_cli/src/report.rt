@@ -10,11 +10,41 @@ ghost use Rattle.mx_cli.specs.Reports.{Answers, Helps, MayReport, RunsOut, Repor
 
 use crate::fault_lines::FaultLine;
 use crate::faults::Fault;
-use crate::words::Names;
+use crate::request::{Misfit, Names};
 use clap::error::ErrorKind;
 use mx_io::{Output, OutputFault};
 use std::alloc::Global;
 use std::fmt::Display;
+
+const DRAW_WITHOUT_WALK: &str = "error: the following required arguments were not provided:
+  --walk
+
+Usage: mx draw --seed <seed> --steps <steps> --walk <PLAN>
+
+For more information, try '--help'.
+";
+
+const EXPLORE_WITHOUT_WALK: &str = "error: the following required arguments were not provided:
+  --walk
+
+Usage: mx explore --seed <seed> --steps <steps> --walk <PLAN>
+
+For more information, try '--help'.
+";
+
+const WALK_WITH_COUNT: &str = "error: unexpected argument '--count' found
+
+Usage: mx explore --seed <seed> --steps <steps> --walk <PLAN>
+
+For more information, try '--help'.
+";
+
+const WALK_WITH_JSON: &str = "error: unexpected argument '--json' found
+
+Usage: mx explore --seed <seed> --steps <steps> --walk <PLAN>
+
+For more information, try '--help'.
+";
 
 /// Writes the help that was requested to `out`, or what is wrong with the arguments to `err`.
 /// Returns the exit status.
@@ -30,6 +60,20 @@ pub fn refuse<O: Output, E: Output>(alloc: Global, e: &clap::Error, out: &mut O,
         ErrorKind::DisplayHelp | ErrorKind::DisplayVersion => show(alloc, e, out, err),
         _ => report_usage(alloc, e, err),
     }
+}
+
+/// Writes which options do not go together, and returns the exit status 2.
+pub fn report_misfit<E: Output>(misfit: Misfit, err: &mut E) -> u8
+    ensures { result ≡ 2 }
+{
+    let text = match misfit {
+        Misfit::DrawWithoutWalk => DRAW_WITHOUT_WALK,
+        Misfit::ExploreWithoutWalk => EXPLORE_WITHOUT_WALK,
+        Misfit::WalkWithCount => WALK_WITH_COUNT,
+        Misfit::WalkWithJson => WALK_WITH_JSON,
+    };
+    let _ = err.put(text.as_bytes());
+    2
 }
 
 /// Writes the line of a fault, and returns the exit status: 1, or 5 if memory ran out.

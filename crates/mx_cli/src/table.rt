@@ -6,24 +6,15 @@ ghost use Rattle.mx_cli.specs.Table.{app_of_row, command_app};
 use crate::arguments::{
     ASKS, Argument, COUNT_TOO, EVENTS, EVENTS_OR_SCRIPT, FIRST_SCRIPT, FROM, IN_ORDER, IS_SCRIPT,
     JSON, LETTERS, LINK_SEED, LOSS, NODE, PICTURE_NODE, PLAN, PROGRESS, QUIET, REPEAT, SCRIPT,
-    SECTIONS, SEED, SETTLE, STATE, STEPS, TO, TRACE, TURNS, WALK, WALK_WANTED,
+    SECTIONS, SEED, SETTLE, STATE, STEPS, TO, TRACE, TURNS, WALK,
 };
 use crate::{examples, help};
 
-/// A command, or a form of a command that a function of its own runs.
-#[derive(Clone, Copy, Debug, PartialEq, Eq)]
-pub enum CommandId {
+#[derive(Clone, Copy)]
+pub(crate) enum CommandId {
     Check,
-    /// `check` with `--json`.
-    CheckJson,
     Replay,
-    /// `replay` with `--quiet`, `--node`, `--json` or `--state`.
-    ReplayView,
     Explore,
-    /// `explore` with `--count` or `--json`.
-    ExploreCount,
-    /// `explore` with `--walk`.
-    ExploreWalk,
     Live,
     Draw,
     Script,
@@ -40,13 +31,15 @@ pub(crate) struct CommandRow {
     pub(crate) about: &'static str,
     pub(crate) arguments: &'static [Argument],
     pub(crate) example: &'static str,
+    /// Whether `explain` tells where the faults of its files stand.
+    pub(crate) is_explained: bool,
 }
 
-/// The commands that `mx_commands::command` runs.
-pub(crate) const READ: [CommandId; 3] = [CommandId::Check, CommandId::Replay, CommandId::Explore];
-
-/// The other commands, which functions of their own run. `mx_commands::command` only lists them.
-pub(crate) const LISTED: [CommandId; 8] = [
+/// All commands, in the order of the help.
+pub(crate) const COMMANDS: [CommandId; 11] = [
+    CommandId::Check,
+    CommandId::Replay,
+    CommandId::Explore,
     CommandId::Live,
     CommandId::Draw,
     CommandId::Script,
@@ -62,6 +55,7 @@ static CHECK: CommandRow = CommandRow {
     about: "Checks a plan and prints a summary",
     arguments: &[PLAN, ASKS, JSON],
     example: help::CHECK_EXAMPLE,
+    is_explained: true,
 };
 
 static REPLAY: CommandRow = CommandRow {
@@ -69,20 +63,17 @@ static REPLAY: CommandRow = CommandRow {
     about: "Runs the events of a file and prints each outcome, each parcel sent, and the nodes at the end",
     arguments: &[PLAN, EVENTS, QUIET, NODE, JSON, STATE],
     example: help::REPLAY_EXAMPLE,
+    is_explained: true,
 };
 
 static EXPLORE: CommandRow = CommandRow {
     name: "explore",
     about: "Runs random events from a seed and checks the run",
-    arguments: &[PLAN, SEED, STEPS, COUNT_TOO, JSON],
+    arguments: &[
+        PLAN, SEED, STEPS, COUNT_TOO, JSON, WALK, LOSS, REPEAT, IN_ORDER,
+    ],
     example: help::EXPLORE_EXAMPLE,
-};
-
-static EXPLORE_WALK: CommandRow = CommandRow {
-    name: "explore",
-    about: "Runs a random walk from a seed and checks the run",
-    arguments: &[PLAN, SEED, STEPS, WALK_WANTED, LOSS, REPEAT, IN_ORDER],
-    example: examples::WALK,
+    is_explained: true,
 };
 
 static LIVE: CommandRow = CommandRow {
@@ -90,6 +81,7 @@ static LIVE: CommandRow = CommandRow {
     about: "Runs each node in a thread and prints their merged journal",
     arguments: &[PLAN, SECTIONS, LINK_SEED, TURNS, SETTLE, PROGRESS],
     example: help::LIVE_EXAMPLE,
+    is_explained: true,
 };
 
 static DRAW: CommandRow = CommandRow {
@@ -97,6 +89,7 @@ static DRAW: CommandRow = CommandRow {
     about: "Prints random events from a seed as a file for `replay`",
     arguments: &[PLAN, SEED, STEPS, WALK, LOSS, REPEAT, IN_ORDER],
     example: examples::DRAW,
+    is_explained: false,
 };
 
 static SCRIPTED: CommandRow = CommandRow {
@@ -104,6 +97,7 @@ static SCRIPTED: CommandRow = CommandRow {
     about: "Prints the events of a script as a file for `replay`",
     arguments: &[PLAN, SCRIPT],
     example: examples::SCRIPT,
+    is_explained: false,
 };
 
 static PLAY: CommandRow = CommandRow {
@@ -111,6 +105,7 @@ static PLAY: CommandRow = CommandRow {
     about: "Runs the lines of a script as they are typed and prints each outcome",
     arguments: &[PLAN, FIRST_SCRIPT],
     example: examples::PLAY,
+    is_explained: false,
 };
 
 static PICTURE: CommandRow = CommandRow {
@@ -118,6 +113,7 @@ static PICTURE: CommandRow = CommandRow {
     about: "Draws a run as an SVG in which time goes down",
     arguments: &[PLAN, EVENTS, FROM, TO, PICTURE_NODE, LETTERS],
     example: examples::PICTURE,
+    is_explained: false,
 };
 
 static COUNT: CommandRow = CommandRow {
@@ -125,6 +121,7 @@ static COUNT: CommandRow = CommandRow {
     about: "Counts the letters, refusals and waits of a run",
     arguments: &[PLAN, EVENTS, JSON],
     example: examples::COUNT,
+    is_explained: false,
 };
 
 static JUDGE: CommandRow = CommandRow {
@@ -132,6 +129,7 @@ static JUDGE: CommandRow = CommandRow {
     about: "Judges the trace of a run, whichever program wrote it",
     arguments: &[PLAN, TRACE],
     example: examples::JUDGE,
+    is_explained: false,
 };
 
 static EXPLAIN: CommandRow = CommandRow {
@@ -139,16 +137,16 @@ static EXPLAIN: CommandRow = CommandRow {
     about: "Explains what is wrong in a plan, its events or a script, and where",
     arguments: &[PLAN, EVENTS_OR_SCRIPT, IS_SCRIPT],
     example: examples::EXPLAIN,
+    is_explained: false,
 };
 
 pub(crate) fn row_of(id: CommandId) -> &'static CommandRow
     ensures { app_of_row result.now ≡ command_app id }
 {
     match id {
-        CommandId::Check | CommandId::CheckJson => &CHECK,
-        CommandId::Replay | CommandId::ReplayView => &REPLAY,
-        CommandId::Explore | CommandId::ExploreCount => &EXPLORE,
-        CommandId::ExploreWalk => &EXPLORE_WALK,
+        CommandId::Check => &CHECK,
+        CommandId::Replay => &REPLAY,
+        CommandId::Explore => &EXPLORE,
         CommandId::Live => &LIVE,
         CommandId::Draw => &DRAW,
         CommandId::Script => &SCRIPTED,
@@ -158,4 +156,11 @@ pub(crate) fn row_of(id: CommandId) -> &'static CommandRow
         CommandId::Judge => &JUDGE,
         CommandId::Explain => &EXPLAIN,
     }
+}
+
+/// Whether `explain` tells where the faults of this command's files stand.
+pub fn is_explained(name: &str) -> bool {
+    COMMANDS
+        .iter()
+        .any(|id| row_of(*id).name == name && row_of(*id).is_explained)
 }

@@ -2,5 +2,5 @@ pub mod RunLemmas
 pub mod SinkLemmas
 pub mod EventLemmas
 pub mod ExploreLemmas
-pub mod JobLemmas
+pub mod ReplayLemmas
 pub mod CommandLemmas

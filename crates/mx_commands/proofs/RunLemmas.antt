@@ -27,7 +27,7 @@ use Rattle.mx_io.specs.declared.output.OutputFault.{OutputFault}
 use Rattle.mx_io.specs.declared.output.OutputFault.TheVariants as output_fault
 use Rattle.mx_format.specs.EventTexts.{event_line}
 use Rattle.mx_format.specs.ParcelTexts.{parcel_lines}
-use Rattle.mx_cli.proofs.OutputLemmas.{some_keeps}
+use Rattle.mx_cli.proofs.OutputLemmas.{Keeps-refl, none_some, some_keeps}
 use Rattle.mx_commands.specs.Runs.{Report, Texts, at_rest, after_texts, whole, ends_with, event_lines, text_of, stepped, report_from, NamesNodes, AllNameNodes}
 use Rattle.mx_io.specs.Outputs.{Held, refused_by}
 use Rattle.mx_cli.specs.Outputs.{AppendsSome, refused_after, error_of}
@@ -190,3 +190,12 @@ refused_on output_fault.Memory b = refl
 pub stops_taken : {G : Type 0} (k : ℕ) (wanted : Result G StepFault) (s : CommandError) (b : Bool) → StopsAt k wanted s → b ≡ refused_after {T = ℕ} (Err s) b
 stops_taken k wanted s b (inl memory) = subst (λ (x : CommandError). b ≡ refused_after {T = ℕ} (Err x) b) (sym memory) refl
 stops_taken k wanted s b (inr none) = subst (λ (x : CommandError). b ≡ refused_after {T = ℕ} (Err x) b) (sym none.0) refl
+
+-- ---- memory
+
+ran_out : (t : Bool) (a : Held) (r : Report) → Ran t a a r (Err command_error.Memory)
+ran_out t a r = none_some a a r.texts (Keeps-refl a)
+
+-- memory ran out before any event
+pub ran_short : (t : Bool) (a : Held) (r : Report) (result : Result ℕ CommandError) → IsErrAnd result (λ s. s ≡ command_error.Memory) → Ran t a a r result
+ran_short t a r result out = subst (λ (res : Result ℕ CommandError). Ran t a a r res) (sym (err_is result command_error.Memory out)) (ran_out t a r)

@@ -1,5 +1,5 @@
 -- What a sink prints does not change how a run ends.
-use Rattle.std.proofs.Common.{◌≡◌, ◌∙◌, ◌+◌, ℕ, Bool, true, false, List, [], ◌∷◌, None, Result, Ok, Err, refl, subst, sym}
+use Rattle.std.proofs.Common.{◌≡◌, ◌∙◌, ◌+◌, ℕ, Bool, true, false, List, [], ◌∷◌, None, Result, Ok, Err, refl}
 use Rattle.mx_nodelaws.specs.Core.{Core}
 use Rattle.mx_ricart.specs.Step.{ricart_core}
 use Rattle.mx_maekawa.specs.Step.{maekawa_core}
@@ -8,12 +8,11 @@ use Rattle.mx_events.specs.declared.event.Event.{Event}
 use Rattle.mx_network.specs.Step.{ClusterState, step_of}
 use Rattle.mx_network.specs.declared.faults.StepFault.{StepFault}
 use Rattle.mx_plan.specs.Fields.{Fields}
-use Rattle.mx_plan.specs.declared.faults.PlanFault.{PlanFault}
 use Rattle.mx_plan.specs.declared.shape.Shape.{Shape}
 use Rattle.mx_plan.specs.declared.shape.Shape.TheVariants.{Ricart, Maekawa, Raymond}
 use Rattle.mx_cli.specs.declared.faults.CommandError.{CommandError}
 use Rattle.mx_cli.specs.declared.faults.CommandError.TheVariants as command_error
-use Rattle.mx_commands.specs.Jobs.{run_by, where_read}
+use Rattle.mx_commands.specs.Jobs.{run_by}
 use Rattle.mx_commands.specs.Ran.{Ran, StopsAs}
 use Rattle.mx_commands.specs.Runs.{Report, Texts, at_rest, report_from, stepped}
 use Rattle.mx_commands.specs.Sinks.{TextsBy, replay_lines, report_by}
@@ -47,21 +46,3 @@ pub stops_alike : (texts : TextsBy) (p : Fields) (es : List Event) (shape : Shap
 stops_alike texts p es shape (command_error.Fault fault) ran = end_alike (replay_lines p) texts p es shape ∙ ran.0
 stops_alike texts p es shape command_error.Writer ran = absurd (let bad : true ≡ false = ran.0 in cc)
 stops_alike texts p es shape command_error.Memory ran = tt
-
--- a run about which only the end is known
-pub ran_as : (t : Bool) (r : Report) (s : CommandError) → StopsAs r s → Ran t None None r (Err s)
-ran_as t r (command_error.Fault fault) h = (h, tt)
-ran_as t r command_error.Writer h = absurd h
-ran_as t r command_error.Memory h = (0, tt)
-
--- the same for events that were read
-pub ran_read : (t : Bool) (p : Fields) (wanted : Result (List Event) PlanFault) (es : List Event) (s : CommandError) → wanted ≡ Ok es
-    → StopsAs (run_by p p.shape es) s → Ran t None None (where_read wanted (run_by p p.shape)) (Err s)
-ran_read t p wanted es s is h =
-    subst (λ (w : Result (List Event) PlanFault). Ran t None None (where_read w (run_by p p.shape)) (Err s)) (sym is) (ran_as t (run_by p p.shape es) s h)
-
--- and for one that reached its end
-pub ran_whole : (t : Bool) (p : Fields) (wanted : Result (List Event) PlanFault) (es : List Event) (status : ℕ) → wanted ≡ Ok es
-    → (run_by p p.shape es).end ≡ None → Ran t None None (where_read wanted (run_by p p.shape)) (Ok status)
-ran_whole t p wanted es status is h =
-    subst (λ (w : Result (List Event) PlanFault). Ran t None None (where_read w (run_by p p.shape)) (Ok status)) (sym is) (h, tt)

@@ -1,20 +1,16 @@
 //! Runs the words of a command line over named bytes and two outputs, and returns the exit status.
 
-ghost use Rattle.std.specs.Prelude.{◌≡◌, ◌&&◌, Err, IsSome, IfSome, IfOk};
+ghost use Rattle.std.specs.Prelude.{◌≡◌, IfSome};
 ghost use Rattle.mx_cli.specs.Table.{mx_app};
-ghost use Rattle.mx_cli.specs.Words.{texts_of, names_of, request_asked, request_of, AskNothing};
-ghost use Rattle.mx_cli.specs.Outputs.{IsPassedOn, refused_after};
-ghost use Rattle.mx_commands.specs.Jobs.{names_in};
-ghost use Rattle.mx_cli.specs.Closed.{IsRunStatus};
-ghost use Rattle.mx_commands.specs.Ran.{RanOf, Runs};
+ghost use Rattle.mx_cli.specs.Words.{texts_of};
+ghost use Rattle.mx_cli.specs.Requests.{AskNothing, request_asked, request_of, view_of};
 ghost use Rattle.mx_cli.specs.Reports.{Answers, Declines, seen};
+ghost use Rattle.mx_commands.specs.Commands.{Does, is_view};
 
-use crate::check_plan::{check, check_asks};
-use crate::exploration::explore;
-use crate::replays::replay;
-use mx_cli::{
-    CommandError, Names, Request, is_refused, parse, refuse, report_fault, report_memory,
-};
+use crate::check_plan::Check;
+use crate::exploration::Explore;
+use crate::replays::Replay;
+use mx_cli::{Files, Request, ViewOptions, front, parse, refuse};
 use mx_io::{Output, Source};
 use std::alloc::Global;
 
@@ -29,97 +25,91 @@ pub fn command<S: Source, O: Output, E: Output>(
     out: &mut O,
     err: &mut E,
 ) -> u8
-    ensures runs { IfSome (request_asked (texts_of words.entry.now)) (λ request.
-        Runs (O.takes_all out.old && E.takes_all err.old) (S.told source.old) request
+    ensures does { IfSome (request_asked (texts_of words.entry.now)) (λ request.
+        Does (S.told source.old) request (O.takes_all out.old) (E.takes_all err.old)
         (seen O.Output E.Output out.old err.old) (seen O.Output E.Output out.new err.new) result) }
-    ensures status { IsSome (request_asked (texts_of words.entry.now)) → IsRunStatus result }
     ensures answers { Answers mx_app (texts_of words.entry.now) (O.takes_all out.old)
         (seen O.Output E.Output out.old err.old) (seen O.Output E.Output out.new err.new) result }
     ensures other { AskNothing (texts_of words.entry.now) → Declines
         (seen O.Output E.Output out.old err.old) (seen O.Output E.Output out.new err.new) result }
 {
     match parse(alloc, words) {
-        Ok(Some(request)) => run_request(alloc, &request, source, out, err),
+        Ok(Some(request)) => carry_out(alloc, &request, source, out, err),
         Ok(None) => 2,
         Err(e) => refuse(alloc, &e, out, err),
     }
 }
 
-fn run_request<S: Source, O: Output, E: Output>(
+/// Runs `check`, `replay` or `explore` without options, or `check --asks`. For all other requests,
+/// writes nothing and returns 2.
+fn carry_out<S: Source, O: Output, E: Output>(
     alloc: Global,
     request: &Request<'_>,
     source: &mut S,
     out: &mut O,
     err: &mut E,
 ) -> u8
-    ensures runs { Runs (O.takes_all out.old && E.takes_all err.old)
-        (S.told source.old) (request_of request.now)
+    ensures does { Does (S.told source.old) (request_of request.now)
+        (O.takes_all out.old) (E.takes_all err.old)
         (seen O.Output E.Output out.old err.old) (seen O.Output E.Output out.new err.new) result }
-    ensures status { IsRunStatus result }
-{
-    match carry_out_and_flush(alloc, request, source, out) {
-        Ok(status) => status,
-        Err(CommandError::Fault(fault)) => report_fault(alloc, fault, &names_in(request), err),
-        Err(CommandError::Writer) => 1,
-        Err(CommandError::Memory) => report_memory(err),
-    }
-}
-
-/// Returns the names of a plan and its events for messages about faults. If a request has no
-/// events, both are the name of the plan.
-pub fn names_in<'a>(request: &Request<'a>) -> Names<'a>
-    ensures { names_of result ≡ names_in (request_of request.now) }
 {
     match request {
-        Request::Check(plan) => Names { plan, events: plan },
-        Request::Asks(plan) => Names { plan, events: plan },
-        Request::Replay(names) => *names,
-        Request::Explore(exploration) => Names {
-            plan: exploration.plan,
-            events: exploration.plan,
-        },
+        Request::Check {
+            plan,
+            has_asks,
+            is_json,
+        } => {
+            if *is_json {
+                return 2;
+            }
+            let check = Check {
+                has_asks: *has_asks,
+            };
+            front(alloc, &check, &Files::alone(plan), source, out, err)
+        }
+        Request::Replay(names, view) => {
+            if is_view(view) {
+                return 2;
+            }
+            front(alloc, &Replay, &Files::both(names, false), source, out, err)
+        }
+        Request::Explore {
+            exploration,
+            has_counts,
+            is_json,
+        } => {
+            if *has_counts || *is_json {
+                return 2;
+            }
+            let explore = Explore {
+                seed: exploration.seed,
+                steps: exploration.steps,
+            };
+            front(
+                alloc,
+                &explore,
+                &Files::alone(exploration.plan),
+                source,
+                out,
+                err,
+            )
+        }
+        Request::ExploreWalk(_, _)
+        | Request::Live(_)
+        | Request::Draw(_, _)
+        | Request::Script(_)
+        | Request::Play { .. }
+        | Request::Picture(_, _)
+        | Request::Count { .. }
+        | Request::Judge(_)
+        | Request::Explain { .. }
+        | Request::Misfit(_) => 2,
     }
 }
 
-/// Carries out a request, and flushes the output, unless that has refused. An error of flushing is
-/// returned in place of an earlier error.
-fn carry_out_and_flush<S: Source, O: Output>(
-    alloc: Global,
-    request: &Request<'_>,
-    source: &mut S,
-    out: &mut O,
-) -> Result<u8, CommandError>
-    ensures ran { RanOf (O.takes_all out.old) (O.written out.old) (O.written out.new)
-        (S.told source.old) (request_of request.now) result }
-    ensures refused { O.has_refused out.new ≡ refused_after result (O.has_refused out.old) }
-    ensures passed { IsPassedOn result (O.keeps_back out.new) }
-    ensures zero { IfOk result (λ status. status ≡ 0) }
+/// Whether a replay is shown in another way than without options.
+pub fn is_view(view: &ViewOptions<'_>) -> bool
+    ensures { result ≡ is_view (view_of view.now) }
 {
-    let ended = carry_out(alloc, request, source, out);
-    if is_refused(&ended) {
-        return ended;
-    }
-    out.flush()?;
-    ended
-}
-
-/// Carries out a request, and returns the status. The output is not flushed.
-pub fn carry_out<S: Source, O: Output>(
-    alloc: Global,
-    request: &Request<'_>,
-    source: &mut S,
-    out: &mut O,
-) -> Result<u8, CommandError>
-    ensures ran { RanOf (O.takes_all out.old) (O.written out.old) (O.written out.new)
-        (S.told source.old) (request_of request.now) result }
-    ensures refused { O.has_refused out.new ≡ refused_after result (O.has_refused out.old) }
-    ensures zero { IfOk result (λ status. status ≡ 0) }
-    ensures stays { O.takes_all out.new ≡ O.takes_all out.old }
-{
-    match request {
-        Request::Check(plan) => check(alloc, plan, source, out),
-        Request::Asks(plan) => check_asks(alloc, plan, source, out),
-        Request::Replay(names) => replay(alloc, names, source, out),
-        Request::Explore(exploration) => explore(alloc, exploration, source, out),
-    }
+    view.is_quiet || view.node.is_some() || view.is_json || view.has_state
 }

@@ -1,63 +1,62 @@
 //! `explore`: events drawn from a seed, and the verdict on their trace.
 
-ghost use Rattle.std.specs.Prelude.{◌≡◌, ◌+◌, ◌<◌, ◌++◌, length, string_bytes, IfOk, OnOk};
+ghost use Rattle.std.specs.Prelude.{◌≡◌, ◌++◌, length, string_bytes, IfOk, OnOk};
 ghost use Rattle.std.specs.List.{count_by};
-ghost use Rattle.mx_cli.specs.Words as wants;
-ghost use Rattle.mx_cli.specs.Outputs.{refused_after};
-ghost use Rattle.mx_commands.specs.Runs.{whole};
+ghost use Rattle.mx_cli.specs.Printing.{IsWhole};
 ghost use Rattle.mx_commands.specs.Explored.{after_drawn, after_placed, explored_text, is_entry, or_stay, summary_by, summary_text};
 ghost use Rattle.mx_explorer.specs.Place.{place_of};
 ghost use Rattle.mx_network.specs.Step.{step_of};
-ghost use Rattle.mx_commands.specs.Ran.{Ran, RanOf, verdict_status};
 
 use crate::by_shape;
-use crate::check_plan::print;
 use crate::verdicts::{VerdictLine, verdict_status};
-use mx_cli::{CommandError, Exploration, fetch_plan};
+use mx_cli::{Command, Stop, print};
 use mx_explorer::{Verdict, judge, place, schedule};
 use mx_format::ExploredLine;
-use mx_io::{Output, Source};
+use mx_io::Output;
 use mx_network::{Cluster, Entry, Event, Outcome, StepFault};
 use mx_nodelaws::Exclusion;
 use mx_plan::Plan;
 use std::alloc::{AllocError, Global};
 
-pub(crate) fn explore<S: Source, O: Output>(
-    alloc: Global,
-    exploration: &Exploration<'_>,
-    source: &mut S,
-    out: &mut O,
-) -> Result<u8, CommandError>
-    ensures ran { RanOf (O.takes_all out.old) (O.written out.old) (O.written out.new)
-        (S.told source.old) (wants.explore exploration.now.plan.now exploration.now.seed exploration.now.steps) result }
-    ensures refused { O.has_refused out.new ≡ refused_after result (O.has_refused out.old) }
-    ensures zero { IfOk result (λ status. status ≡ 0) }
-    ensures stays { O.takes_all out.new ≡ O.takes_all out.old }
-{
-    let plan = fetch_plan(alloc, source, exploration.plan)?;
-    explore_plan(alloc, &plan, exploration.seed, exploration.steps, out)
+/// `explore`, without options: random events from a seed.
+#[derive(Clone, Copy)]
+pub struct Explore {
+    pub seed: u64,
+    /// How many events are drawn.
+    pub steps: u64,
 }
 
-fn explore_plan<O: Output>(
+impl Command for Explore {
+    ghost reports = { λ c p _. IsWhole (explored_text p c.seed c.steps) 0 };
+
+    fn run<O: Output>(
+        &self,
+        alloc: Global,
+        plan: &Plan,
+        _text: &[u8],
+        out: &mut O,
+    ) -> Result<u8, Stop> {
+        let mut text = String::new(alloc);
+        match add_exploration(alloc, plan, self.seed, self.steps, &mut text) {
+            Ok(verdict) => print(text.as_bytes(), verdict_status(verdict), out),
+            Err(_) => Err(Stop::Memory),
+        }
+    }
+}
+
+fn add_exploration(
     alloc: Global,
     plan: &Plan,
     seed: u64,
     steps: u64,
-    out: &mut O,
-) -> Result<u8, CommandError>
-    ensures ran { Ran (O.takes_all out.old) (O.written out.old) (O.written out.new)
-        (whole (explored_text plan.now seed steps)) result }
-    ensures refused { O.has_refused out.new ≡ refused_after result (O.has_refused out.old) }
-    ensures zero { IfOk result (λ status. status ≡ 0) }
-    ensures stays { O.takes_all out.new ≡ O.takes_all out.old }
+    text: &mut String,
+) -> Result<Verdict, AllocError>
+    ensures text { OnOk result (string_bytes text.new
+        ≡ string_bytes text.old ++ explored_text plan.now seed steps) }
+    ensures sound { IfOk result (λ verdict. verdict ≡ Verdict.Sound) }
 {
     let events = schedule(alloc, seed, steps, plan)?;
-    let mut text = String::new(alloc);
-    let verdict = add_summary_of(alloc, plan, events.as_slice(), &mut text)?;
-    match print(text.as_bytes(), out) {
-        Ok(_) => Ok(verdict_status(verdict)),
-        Err(error) => Err(error),
-    }
+    add_summary_of(alloc, plan, events.as_slice(), text)
 }
 
 fn add_summary_of(

@@ -16,13 +16,14 @@ mod sink;
 mod verdict_json;
 mod verdicts;
 
-pub use check_plan::print;
+pub use check_plan::Check;
 pub use cluster_lines::{add_nodes, add_parcels};
-pub use command_line::{carry_out, command, names_in};
+pub use command_line::{command, is_view};
 pub use driver::drive;
-pub use exploration::{entries_in, happen, is_entry};
+pub use exploration::{Explore, entries_in, happen, is_entry};
 pub use lines::{Lines, add_closing};
 pub use observation::{NullOutput, observe};
+pub use replays::{Replay, ended_as};
 pub use runs::{newest, start};
 pub use sink::{Running, Sink};
 pub use verdicts::{VerdictLine, add_verdict, verdict_status};

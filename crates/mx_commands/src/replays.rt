@@ -1,47 +1,42 @@
-//! `replay`: the plan is read, then the events, and the events happen one after another.
+//! `replay`: the events of a text happen one after another.
 
-ghost use Rattle.std.specs.Prelude.{◌≡◌, IfOk};
-ghost use Rattle.mx_cli.specs.Words.{names_of};
-ghost use Rattle.mx_cli.specs.Words as wants;
-ghost use Rattle.mx_cli.specs.Outputs.{refused_after};
-ghost use Rattle.mx_commands.specs.Jobs.{report_of_events};
-ghost use Rattle.mx_commands.specs.Ran.{Ran, RanOf};
+ghost use Rattle.std.specs.Prelude.{◌≡◌};
+ghost use Rattle.mx_commands.specs.Commands.{IsReplay, ended_as};
 
 use crate::driver::drive;
 use crate::lines::Lines;
-use mx_cli::{CommandError, Names, fetch_both};
-use mx_io::{Output, Source};
+use mx_cli::{Command, CommandError, Stop};
+use mx_io::Output;
 use mx_plan::{Plan, read_events};
 use std::alloc::Global;
 
-pub(crate) fn replay<S: Source, O: Output>(
-    alloc: Global,
-    names: &Names<'_>,
-    source: &mut S,
-    out: &mut O,
-) -> Result<u8, CommandError>
-    ensures ran { RanOf (O.takes_all out.old) (O.written out.old) (O.written out.new)
-        (S.told source.old) (wants.replay (names_of names.now)) result }
-    ensures refused { O.has_refused out.new ≡ refused_after result (O.has_refused out.old) }
-    ensures zero { IfOk result (λ status. status ≡ 0) }
-    ensures stays { O.takes_all out.new ≡ O.takes_all out.old }
-{
-    let both = fetch_both(alloc, source, names)?;
-    replay_events(alloc, &both.plan, both.text.as_slice(), out)
+/// `replay`, without options.
+#[derive(Clone, Copy)]
+pub struct Replay;
+
+impl Command for Replay {
+    ghost reports = { λ _ p text. IsReplay p text };
+
+    fn run<O: Output>(
+        &self,
+        alloc: Global,
+        plan: &Plan,
+        text: &[u8],
+        out: &mut O,
+    ) -> Result<u8, Stop> {
+        match read_events(alloc, text, plan) {
+            Ok(events) => ended_as(drive(alloc, plan, events.as_slice(), &mut Lines, out)),
+            Err(fault) => Err(Stop::from(fault)),
+        }
+    }
 }
 
-fn replay_events<O: Output>(
-    alloc: Global,
-    plan: &Plan,
-    text: &[u8],
-    out: &mut O,
-) -> Result<u8, CommandError>
-    ensures ran { Ran (O.takes_all out.old) (O.written out.old) (O.written out.new)
-        (report_of_events text.now plan.now) result }
-    ensures refused { O.has_refused out.new ≡ refused_after result (O.has_refused out.old) }
-    ensures zero { IfOk result (λ status. status ≡ 0) }
-    ensures stays { O.takes_all out.new ≡ O.takes_all out.old }
+/// Returns how a run ended, as a command ends.
+pub fn ended_as(ended: Result<u8, CommandError>) -> Result<u8, Stop>
+    ensures { result ≡ ended_as ended }
 {
-    let events = read_events(alloc, text, plan)?;
-    drive(alloc, plan, events.as_slice(), &mut Lines, out)
+    match ended {
+        Ok(status) => Ok(status),
+        Err(error) => Err(Stop::from(error)),
+    }
 }

@@ -4,20 +4,16 @@ use Rattle.std.specs.Prelude.{OnOk}
 use Rattle.std.specs.Bool.{⊤}
 use Rattle.std.specs.List.{count_by}
 use Rattle.std.specs.declared.alloc.AllocError.{AllocError}
-use Rattle.mx_nodelaws.specs.Core.{Core}
-use Rattle.mx_events.specs.declared.event.Event.{Event}
 use Rattle.mx_member.specs.declared.parcel.Parcel.{Parcel}
 use Rattle.mx_network.specs.Step.{ClusterState}
 use Rattle.mx_trace.specs.declared.outcome.Entry.{Entry}
 use Rattle.mx_explorer.specs.declared.verdict.Verdict.{Verdict}
 use Rattle.mx_explorer.specs.declared.verdict.Verdict.TheVariants.{Sound}
 use Rattle.mx_plan.specs.Text.{Text}
-use Rattle.mx_plan.specs.Fields.{Fields}
 use Rattle.mx_format.specs.Lines.{each_text}
-use Rattle.mx_cli.specs.declared.faults.CommandError.{CommandError}
 use Rattle.mx_commands.specs.Explored.{is_entry}
 use Rattle.mx_commands.specs.VerdictLines.{verdict_text}
-use Rattle.mx_count.specs.Counted.{AddsCounts, Leads, cluster_text, counts_text, details_text, first_text}
+use Rattle.mx_count.specs.Counted.{cluster_text, details_text, first_text}
 use Rattle.mx_count.specs.Counts.{all_parcels_text, all_refusals_text, parcels_text, tallies_text, times_text}
 use Rattle.mx_count.specs.Waits.{longest_wait}
 use Rattle.mx_count.specs.Kinds.{gossip_names, is_under, letter_names, other_names}
@@ -126,10 +122,3 @@ pub with_counts : (is_json : Bool) (t t1 t2 t3 a b : Text) (v : Verdict) → v �
     → t3 ≡ t ++ (a ++ b ++ verdict_text is_json Sound)
 with_counts is_json t t1 t2 t3 a b v sound first second third =
     joined t t2 t3 (a ++ b) (verdict_text is_json Sound) (joined t t1 t2 a b first second) (third ∙ ap (λ (x : Verdict). t2 ++ verdict_text is_json x) sound)
-
--- counts that were appended after events that lead to this cluster
-pub counted_after : {H S M : Type 0} (core : Core H S M) (kind_text : M → Text) (words : List Text) (options : Options) (p : Fields) (es : List Event) (start g : ClusterState S M)
-    (old new : Text) (r : Result ℕ CommandError) → Leads options.source core start es g → OnOk r (new ≡ old ++ counts_text kind_text words options p (length es) g)
-    → OnOk r (AddsCounts core kind_text words options p es start old new)
-counted_after {H} {S} {M} core kind_text words options p es start g old new (Ok status) leads is = (g, leads, is)
-counted_after {H} {S} {M} core kind_text words options p es start g old new (Err end) leads is = tt

@@ -1,5 +1,4 @@
 pub mod CountLemmas
 pub mod CountedLemmas
-pub mod ListedLemmas
 pub mod MeasureLemmas
 pub mod PrintedLemmas

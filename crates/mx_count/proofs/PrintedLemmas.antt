@@ -1,42 +1,54 @@
--- What was printed, of what was read.
-use Rattle.std.proofs.Common.{◌≡◌, ℕ, Bool, List, Option, Some, None, Ok, IfSome, refl, subst, sym}
-use Rattle.std.specs.Io.KnownBytes.{Keeps}
+-- What is printed of counts, from what was read, drawn or run.
+use Rattle.std.proofs.Common.{◌≡◌, ◌⊎◌, ◌<◌, ℕ, Bool, List, Option, Some, None, Result, Err, IfSome, ap, inl, inr, length, refl, slice_get, subst, sym, take}
+use Rattle.std.specs.Prelude.{IsErr, is_err}
+use Rattle.mx_nodelaws.specs.Core.{Core}
 use Rattle.mx_events.specs.declared.event.Event.{Event}
+use Rattle.mx_network.specs.Step.{ClusterState, IsFaultOf, RunsTo, step_of}
+use Rattle.mx_network.specs.declared.faults.StepFault.{StepFault}
+use Rattle.mx_network.specs.declared.faults.StepFault.TheVariants as step_fault
 use Rattle.mx_plan.specs.Text.{Text}
 use Rattle.mx_plan.specs.Fields.{Fields}
 use Rattle.mx_plan.specs.Events.{events_at}
-use Rattle.mx_commands.specs.Explored.{schedule_of}
-use Rattle.mx_cli.specs.declared.planning.PlanAndText.{PlanAndText}
-use Rattle.mx_cli.specs.Reading.{IsPlanOf, ReadsBoth, plan_told, text_told}
-use Rattle.mx_io.specs.Outputs.{Held}
-use Rattle.mx_io.specs.Told.{Telling}
-use Rattle.mx_cli.proofs.OutputLemmas.{Appends-keeps}
-use Rattle.mx_count.specs.Listed.{AreEventsOf, Lists, PrintsCountsOf, PrintsListed, options_of}
+use Rattle.mx_plan.specs.declared.faults.PlanFault.{PlanFault}
+use Rattle.mx_plan.specs.declared.faults.PlanFault.TheVariants as plan_fault
+use Rattle.mx_cli.specs.Printing.{Prints, Sight, ends, has_fault, stop_at}
+use Rattle.mx_cli.specs.declared.faults.Fault.TheVariants.{BadText, NoParcel}
+use Rattle.mx_cli.specs.declared.stop.Stop.{Stop}
+use Rattle.mx_cli.proofs.FrameLemmas.{fault_prints, memory_prints, text_prints}
+use Rattle.mx_count.specs.Counted.{StopsWith, stop_of_step}
+use Rattle.mx_count.specs.Printed.{IsCount, IsCountFrom, IsCountRead}
+use Rattle.mx_count.specs.declared.counted_run.EventSource.TheVariants.{Given}
 use Rattle.mx_count.specs.declared.counted_run.Options.{Options}
-use Rattle.mx_count.specs.declared.counted_run.EventSource.TheVariants.{Drawn}
-use Rattle.mx_count.specs.CountWords.{Request, given, drawn}
-use Rattle.mx_count.specs.Printed.{PrintsCounts, options_in}
 
--- the schedule was counted
-pub drawn_printed : (a b : Held) (told : Text → Option Telling) (name : Text) (seed steps : ℕ) (is_json is_brief : Bool) (p : Fields) → IsPlanOf (told name) p
-    → PrintsCountsOf (options_of Drawn is_json is_brief) p (schedule_of p seed steps) a b → PrintsCounts told (drawn name seed steps is_json is_brief) a b
-drawn_printed a b told name seed steps is_json is_brief p read h = (p, schedule_of p seed steps, (read, refl), h)
+-- ---- events that stop
 
--- ---- two names
+-- the wanted result is a fault, unless memory ran out
+fails : {G : Type 0} (wanted : Event → Result G StepFault) (fault : StepFault) (o : Option Event) → (fault ≡ step_fault.Memory → ⊥)
+    → IfSome o (λ e. IsFaultOf (wanted e) fault) → IfSome o (λ e. IsErr (wanted e))
+fails {G} wanted fault None other h = tt
+fails {G} wanted fault (Some e) other (inl memory) = absurd (other memory.0)
+fails {G} wanted fault (Some e) other (inr is) = ap is_err is
 
-listed_of : (o : Option Telling) (p : Fields) (bytes : Text) (es : List Event) → IfSome o (λ telling. telling ≡ Some bytes) → events_at p bytes ≡ Ok es → AreEventsOf o p es
-listed_of None p bytes es is read = tt
-listed_of (Some telling) p bytes es is read = subst (λ (t : Telling). Lists p t es) (sym is) read
+module _ {H S M : Type 0} (core : Core H S M) (start : ClusterState S M) (es : List Event) where
+  -- given events stop at event k
+  pub run_stops : (g : ClusterState S M) (k : ℕ) (fault : StepFault) → k < length es → RunsTo core start (take k es) g → IfSome (slice_get es k) (λ e. IsFaultOf (step_of core g e) fault)
+      → StopsWith Given core start es (stop_of_step k fault)
+  run_stops g k step_fault.Memory below runs why = inl refl
+  run_stops g k step_fault.NoNode below runs why = inr (k, refl, (below, (g, runs, fails (step_of core g) step_fault.NoNode (slice_get es k) (λ is. cc) why)))
+  run_stops g k step_fault.NoParcel below runs why = inr (k, refl, (below, (g, runs, fails (step_of core g) step_fault.NoParcel (slice_get es k) (λ is. cc) why)))
 
--- the plan and the events of two names were read
-pub given_printed : (a b : Held) (told : Text → Option Telling) (names : Text × Text) (is_json : Bool) (both : PlanAndText) → ReadsBoth (plan_told told names) (text_told told names) (Ok both)
-    → PrintsListed is_json both.plan both.text.items a b → PrintsCounts told (given names is_json) a b
-given_printed a b told names is_json both read h = (both.plan, h.0, (read.0, listed_of (text_told told names) both.plan both.text.items h.0 read.1 h.1), h.2)
+  -- no counts
+  pub count_stops : (kind_text : M → Text) (words : List Text) (options : Options) (p : Fields) (o : Sight) (s : Stop) → StopsWith options.source core start es s
+      → Prints (IsCountFrom core kind_text words options p es start) o o (Err s)
+  count_stops kind_text words options p o s (inl memory) = rw memory (memory_prints (IsCountFrom core kind_text words options p es start) o)
+  count_stops kind_text words options p o s (inr stops) =
+      rw stops.1 (fault_prints (IsCountFrom core kind_text words options p es start) (NoParcel stops.0) o (inr (stops.0, stops.2, refl)))
 
--- ---- what was kept back is passed on
+-- ---- a text without events
 
-counts_keep : (options : Options) (p : Fields) (es : List Event) (a b c : Held) → PrintsCountsOf options p es a b → Keeps b c → PrintsCountsOf options p es a c
-counts_keep options p es a b c h same = (h.0, h.1, Appends-keeps a b c h.0 h.2 same)
-
-pub printed_keeps : (told : Text → Option Telling) (request : Request) (a b c : Held) → PrintsCounts told request a b → Keeps b c → PrintsCounts told request a c
-printed_keeps told request a b c h same = (h.0, h.1, h.2, counts_keep (options_in request) h.0 h.1 a b c h.3 same)
+module _ (is_json : Bool) (p : Fields) (text : Text) (fault : PlanFault) (o : Sight) (s : Stop) where
+  pub no_count : (events_at p text ≡ Err fault) ⊎ (fault ≡ plan_fault.Memory) → s ≡ stop_at fault → Prints (IsCount is_json p text) o o (Err s)
+  no_count (inl read) is =
+      text_prints (IsCount is_json p text) o s fault
+      (inl (subst (λ (t : Result (List Event) PlanFault). IsCountRead is_json p t (ends (has_fault (BadText fault)))) (sym read) refl)) is
+  no_count (inr out) is = text_prints (IsCount is_json p text) o s fault (inr out) is

@@ -1,119 +1,116 @@
-//! The command `count`, with its files read from a source and its texts printed to two outputs.
+//! `count`, and `explore` with `--count` or `--json`: the counts of a run of events.
 
-ghost use Rattle.std.specs.Prelude.{◌≡◌, IsSome, IfSome, IfOk};
-ghost use Rattle.mx_cli.specs.Words.{names_of, texts_of};
-ghost use Rattle.mx_cli.specs.Reports.{Answers, seen};
-ghost use Rattle.mx_cli.specs.Closed.{IsRunStatus, PassesOn};
-ghost use Rattle.mx_count.specs.CountWords.{request_asked, request_of, count_line};
-ghost use Rattle.mx_count.specs.CountWords as wants;
-ghost use Rattle.mx_count.specs.Printed.{PrintsCounts};
+ghost use Rattle.mx_format.specs.Parts.{word_by};
+ghost use Rattle.mx_cli.specs.Printing.{Prints, sight};
+ghost use Rattle.mx_count.specs.Printed.{IsCount, IsCountBy, IsCountFrom, IsExploreCount};
 
-use crate::counted_run::{EventSource, Options};
-use crate::printed_counts::{count_listed, count_schedule};
-use crate::words::{Request, parse};
-use mx_cli::{
-    CommandError, Exploration, Named, Names, close, fetch_named, fetch_plan, naming, refuse,
-};
-use mx_io::{Output, Source};
+use crate::counted_run::{EventSource, Options, add_counts, apply_events};
+use mx_cli::{Command, Stop, print};
+use mx_commands::by_shape;
+use mx_explorer::schedule;
+use mx_format::Letter;
+use mx_io::Output;
+use mx_network::{Cluster, Event};
+use mx_nodelaws::Exclusion;
+use mx_plan::{Plan, read_events};
 use std::alloc::Global;
 
-/// Runs `count`, or `explore` with `--count` or `--json`, and prints the counts of a run. `words`
-/// is the command line without the program's name. Returns the exit status.
-pub fn count<S: Source, O: Output, E: Output>(
-    alloc: Global,
-    words: &[&str],
-    source: &mut S,
-    out: &mut O,
-    err: &mut E,
-) -> u8
-    ensures printed { IfSome (request_asked (texts_of words.entry.now)) (λ request.
-        result ≡ 0
-        → PrintsCounts (S.told source.old) request (O.written out.old) (O.written out.new)) }
-    ensures passed { IsSome (request_asked (texts_of words.entry.now))
-        → PassesOn (E.written err.old) (E.written err.new) (O.keeps_back out.new) result }
-    ensures status { IsSome (request_asked (texts_of words.entry.now)) → IsRunStatus result }
-    ensures answers { Answers count_line (texts_of words.entry.now) (O.takes_all out.old)
-        (seen O.Output E.Output out.old err.old) (seen O.Output E.Output out.new err.new) result }
-{
-    match parse(alloc, words) {
-        Ok(Some(request)) => count_and_close(alloc, &request, source, out, err),
-        Ok(None) => 2,
-        Err(e) => refuse(alloc, &e, out, err),
+/// `count`: counts a run of the events that the text lists.
+#[derive(Clone, Copy)]
+pub struct Count {
+    pub is_json: bool,
+}
+
+impl Command for Count {
+    ghost reports = { λ c p text. IsCount c.is_json p text };
+
+    fn run<O: Output>(
+        &self,
+        alloc: Global,
+        plan: &Plan,
+        text: &[u8],
+        out: &mut O,
+    ) -> Result<u8, Stop> {
+        let options = Options {
+            source: EventSource::Given,
+            is_json: self.is_json,
+            has_counts: true,
+        };
+        match read_events(alloc, text, plan) {
+            Ok(events) => print_counts(alloc, plan, events.as_slice(), options, out),
+            Err(fault) => Err(Stop::from(fault)),
+        }
     }
 }
 
-fn count_and_close<S: Source, O: Output, E: Output>(
-    alloc: Global,
-    request: &Request<'_>,
-    source: &mut S,
-    out: &mut O,
-    err: &mut E,
-) -> u8
-    ensures printed { result ≡ 0 → PrintsCounts (S.told source.old) (request_of request.now)
-        (O.written out.old) (O.written out.new) }
-    ensures passed { PassesOn (E.written err.old) (E.written err.new) (O.keeps_back out.new)
-        result }
-    ensures status { IsRunStatus result }
-{
-    let ended = count_request(alloc, request, source, out);
-    close(alloc, ended, &request.names(), out, err)
+/// `explore` with `--count` or `--json`: counts a run of events drawn from a seed.
+#[derive(Clone, Copy)]
+pub struct ExploreCount {
+    pub seed: u64,
+    /// How many events are drawn.
+    pub steps: u64,
+    /// Whether more is printed than the numbers of events, sections and parcels, and the verdict.
+    pub has_counts: bool,
+    pub is_json: bool,
 }
 
-fn count_request<S: Source, O: Output>(
-    alloc: Global,
-    request: &Request<'_>,
-    source: &mut S,
-    out: &mut O,
-) -> Result<u8, CommandError>
-    ensures printed { IfOk result (λ _. PrintsCounts (S.told source.old) (request_of request.now)
-        (O.written out.old) (O.written out.new)) }
-    ensures zero { IfOk result (λ status. status ≡ 0) }
-{
-    match request {
-        Request::Given { names, is_json } => count_given(alloc, names, *is_json, source, out),
-        Request::Drawn {
-            exploration,
-            is_json,
-            is_brief,
-        } => count_drawn(alloc, exploration, *is_json, *is_brief, source, out),
+impl Command for ExploreCount {
+    ghost reports = { λ c p text. IsExploreCount c.seed c.steps c.has_counts c.is_json p text };
+
+    fn run<O: Output>(
+        &self,
+        alloc: Global,
+        plan: &Plan,
+        _text: &[u8],
+        out: &mut O,
+    ) -> Result<u8, Stop> {
+        let options = Options {
+            source: EventSource::Drawn,
+            is_json: self.is_json,
+            has_counts: self.has_counts,
+        };
+        match schedule(alloc, self.seed, self.steps, plan) {
+            Ok(events) => print_counts(alloc, plan, events.as_slice(), options, out),
+            Err(_) => Err(Stop::Memory),
+        }
     }
 }
 
-fn count_given<S: Source, O: Output>(
+fn print_counts<O: Output>(
     alloc: Global,
-    names: &Names<'_>,
-    is_json: bool,
-    source: &mut S,
+    plan: &Plan,
+    events: &[Event],
+    options: Options,
     out: &mut O,
-) -> Result<u8, CommandError>
-    ensures printed { IfOk result (λ _.
-        PrintsCounts (S.told source.old) (wants.given (names_of names.now) is_json)
-        (O.written out.old) (O.written out.new)) }
-    ensures zero { IfOk result (λ status. status ≡ 0) }
+) -> Result<u8, Stop>
+    ensures prints { Prints (IsCountBy options plan.now events.now plan.now.shape)
+        (sight O.Output out.old) (sight O.Output out.new) result }
 {
-    let both = fetch_named(alloc, source, names)?;
-    let ended = count_listed(alloc, &both.plan, both.text.as_slice(), is_json, out);
-    naming(ended, Named::Events)
+    by_shape!(
+        alloc,
+        plan,
+        |cluster| print_counts_after(alloc, plan, cluster, events, options, out)
+    )
 }
 
-fn count_drawn<S: Source, O: Output>(
+fn print_counts_after<C: Exclusion, O: Output>(
     alloc: Global,
-    exploration: &Exploration<'_>,
-    is_json: bool,
-    is_brief: bool,
-    source: &mut S,
+    plan: &Plan,
+    mut cluster: Cluster<C>,
+    events: &[Event],
+    options: Options,
     out: &mut O,
-) -> Result<u8, CommandError>
-    ensures printed { IfOk result (λ _. PrintsCounts (S.told source.old)
-        (wants.drawn exploration.now.plan.now exploration.now.seed exploration.now.steps is_json
-        is_brief) (O.written out.old) (O.written out.new)) }
-    ensures zero { IfOk result (λ status. status ≡ 0) }
+) -> Result<u8, Stop>
+where
+    C::Msg: Letter,
+    ensures prints { Prints (IsCountFrom C.core (word_by C.Msg.parts) C.Msg.words options plan.now
+        events.now cluster) (sight O.Output out.old) (sight O.Output out.new) result }
 {
-    let plan = fetch_plan(alloc, source, exploration.plan)?;
-    let options = Options {
-        source: EventSource::Drawn,
-        is_json,
-        is_brief,
-    };
-    count_schedule(alloc, &plan, exploration, options, out)
+    apply_events(&mut cluster, events, options.source)?;
+    let mut text = String::new(alloc);
+    let steps = events.len() as u64;
+    match add_counts(alloc, plan, &cluster, steps, options, &mut text) {
+        Ok(status) => print(text.as_bytes(), status, out),
+        Err(_) => Err(Stop::Memory),
+    }
 }

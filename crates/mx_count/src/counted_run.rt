@@ -1,9 +1,9 @@
 //! Runs events, and counts their parcels, refusals and waits.
 
-ghost use Rattle.std.specs.Prelude.{◌≡◌, ◌++◌, IfOk, OnOk, string_bytes};
+ghost use Rattle.std.specs.Prelude.{◌≡◌, ◌++◌, IfErr, IfOk, OnOk, string_bytes};
 ghost use Rattle.mx_format.specs.Parts.{word_by};
 ghost use Rattle.mx_count.specs.Counts.{tallies_text, times_text};
-ghost use Rattle.mx_count.specs.Counted.{AddsCounts, AddsCountsBy, Leads, all_nodes_text, cluster_text, counts_text, details_text, first_text};
+ghost use Rattle.mx_count.specs.Counted.{Leads, StopsWith, all_nodes_text, cluster_text, counts_text, details_text, first_text, stop_of_step};
 
 use crate::kinds::Group;
 use crate::measures::Measure;
@@ -13,8 +13,8 @@ use crate::refusal_counts::add_refusal_counts;
 use crate::spread::add_measure;
 use crate::tallies::{add_counts_end, add_first_tally, add_share, add_tally_line};
 use crate::waits::longest_wait;
-use mx_cli::{CommandError, Fault};
-use mx_commands::{add_verdict, by_shape, entries_in, happen, verdict_status};
+use mx_cli::{Fault, Stop};
+use mx_commands::{add_verdict, entries_in, happen, verdict_status};
 use mx_explorer::judge;
 use mx_format::json::{NumberStart, add_number};
 use mx_format::{ExploredLine, Letter};
@@ -36,52 +36,17 @@ pub(crate) enum EventSource {
 pub(crate) struct Options {
     pub(crate) source: EventSource,
     pub(crate) is_json: bool,
-    /// Whether only the numbers of events, sections and parcels are printed, and the verdict.
-    pub(crate) is_brief: bool,
+    /// Whether more is printed than the numbers of events, sections and parcels, and the verdict.
+    pub(crate) has_counts: bool,
 }
 
-pub(crate) fn add_counts_of(
-    alloc: Global,
-    plan: &Plan,
-    events: &[Event],
-    options: Options,
-    text: &mut String,
-) -> Result<u8, CommandError>
-    ensures text { OnOk result (AddsCountsBy options plan.now events.now
-        (string_bytes text.old) (string_bytes text.new) plan.now.shape) }
-    ensures zero { IfOk result (λ status. status ≡ 0) }
-{
-    by_shape!(
-        alloc,
-        plan,
-        |cluster| add_counts_after(alloc, plan, cluster, events, options, text)
-    )
-}
-
-fn add_counts_after<C: Exclusion>(
-    alloc: Global,
-    plan: &Plan,
-    mut cluster: Cluster<C>,
-    events: &[Event],
-    options: Options,
-    text: &mut String,
-) -> Result<u8, CommandError>
-where
-    C::Msg: Letter,
-    ensures text { OnOk result (AddsCounts C.core (word_by C.Msg.parts) C.Msg.words options
-        plan.now events.now cluster (string_bytes text.old) (string_bytes text.new)) }
-    ensures zero { IfOk result (λ status. status ≡ 0) }
-{
-    apply_events(&mut cluster, events, options.source)?;
-    add_counts(alloc, plan, &cluster, events.len() as u64, options, text)
-}
-
-fn apply_events<C: Exclusion>(
+pub(crate) fn apply_events<C: Exclusion>(
     cluster: &mut Cluster<C>,
     events: &[Event],
     source: EventSource,
-) -> Result<(), CommandError>
-    ensures { OnOk result (Leads source C.core cluster.old events.now cluster.new) }
+) -> Result<(), Stop>
+    ensures ok { OnOk result (Leads source C.core cluster.old events.now cluster.new) }
+    ensures err { IfErr result (StopsWith source C.core cluster.old events.now) }
 {
     match source {
         EventSource::Given => {
@@ -95,23 +60,23 @@ fn apply_events<C: Exclusion>(
     }
 }
 
-fn stop_at(stopped: RunFault) -> CommandError {
+fn stop_at(stopped: RunFault) -> Stop
+    ensures { result ≡ stop_of_step stopped.index stopped.fault }
+{
     match stopped.fault {
-        StepFault::Memory => CommandError::Memory,
-        StepFault::NoNode | StepFault::NoParcel => CommandError::Fault(Fault::NoParcel(
-            stopped.index,
-        )),
+        StepFault::Memory => Stop::Memory,
+        StepFault::NoNode | StepFault::NoParcel => Stop::Fault(Fault::NoParcel(stopped.index)),
     }
 }
 
-fn add_counts<C: Exclusion>(
+pub(crate) fn add_counts<C: Exclusion>(
     alloc: Global,
     plan: &Plan,
     cluster: &Cluster<C>,
     steps: u64,
     options: Options,
     text: &mut String,
-) -> Result<u8, CommandError>
+) -> Result<u8, AllocError>
 where
     C::Msg: Letter,
     ensures text { OnOk result (string_bytes text.new ≡ string_bytes text.old
@@ -184,10 +149,10 @@ where
     ensures { OnOk result (string_bytes text.new ≡ string_bytes text.old
         ++ details_text (word_by C.Msg.parts) C.Msg.words options cluster.now entered) }
 {
-    if options.is_brief {
-        return Ok(());
+    if options.has_counts {
+        return add_tallies(alloc, cluster, options.is_json, entered, text);
     }
-    add_tallies(alloc, cluster, options.is_json, entered, text)
+    Ok(())
 }
 
 fn add_tallies<C: Exclusion>(
@@ -236,8 +201,8 @@ where
     ensures { OnOk result (string_bytes text.new ≡ string_bytes text.old
         ++ all_nodes_text options plan.now cluster.now) }
 {
-    if options.is_brief {
-        return Ok(());
+    if options.has_counts {
+        return add_node_counts(plan, cluster, options.is_json, text);
     }
-    add_node_counts(plan, cluster, options.is_json, text)
+    Ok(())
 }

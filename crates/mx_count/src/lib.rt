@@ -9,11 +9,9 @@ mod kinds;
 mod measures;
 mod node_counts;
 mod parcel_counts;
-mod printed_counts;
 mod refusal_counts;
 mod spread;
 mod tallies;
 mod waits;
-mod words;
 
-pub use count_command::count;
+pub use count_command::{Count, ExploreCount};

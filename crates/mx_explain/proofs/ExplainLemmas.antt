@@ -1,138 +1,111 @@
--- How an explanation ends, from how the check or the replay ends.
-use Rattle.std.proofs.Common.{◌≡◌, ◌∙◌, ◌⊎◌, ℕ, Bool, true, false, [], Option, Some, None, Result, Ok, Err, ap, subst, sym, refl, inl, inr}
-use Rattle.std.specs.Prelude.{◌&&◌, IfSome, IfOk}
+-- How what is explained ends, and what is printed of it.
+use Rattle.std.proofs.Common.{◌≡◌, ℕ, Bool, true, false, List, Option, Some, None, Result, Ok, Err, IfSome, ap, append-nil, inl, inr, refl, subst, sym}
+use Rattle.std.specs.Prelude.{◌↔◌, is_ok, string_bytes, ⊤}
 use Rattle.std.specs.Io.KnownBytes.{Appends, Keeps}
-use Rattle.mx_cli.specs.Words.{Request}
+use Rattle.mx_events.specs.declared.event.Event.{Event}
 use Rattle.mx_plan.specs.Text.{Text}
-use Rattle.mx_cli.specs.declared.faults.Fault.{Fault}
-use Rattle.mx_cli.specs.declared.faults.CommandError.{CommandError}
-use Rattle.mx_cli.specs.declared.faults.CommandError.TheVariants as command_error
+use Rattle.mx_plan.specs.Fields.{Fields}
+use Rattle.mx_plan.specs.Events.{events_at}
+use Rattle.mx_io.specs.Outputs.{Held, refused_by}
 use Rattle.mx_io.specs.Told.{Telling}
 use Rattle.mx_io.specs.declared.output.OutputFault.{OutputFault}
 use Rattle.mx_io.specs.declared.output.OutputFault.TheVariants as output_fault
-use Rattle.mx_io.specs.Outputs.{Held}
-use Rattle.mx_cli.specs.Outputs.{error_of}
-use Rattle.mx_commands.specs.Runs.{Report}
-use Rattle.mx_commands.specs.Jobs.{HoldsOfReport, Job, job_of, names_in}
-use Rattle.mx_commands.specs.Ran.{EndsEarly, Ran, RanOf, end_text, status_of}
-use Rattle.mx_cli.specs.Reports.{MayReport}
-use Rattle.mx_cli.specs.Closed.{Closes, FallsShort}
-use Rattle.mx_commands.proofs.JobLemmas.{of_jobs}
-use Rattle.mx_cli.proofs.OutputLemmas.{Appends-keeps, Appends-nil}
-use Rattle.mx_scripts.specs.declared.script_error.ScriptError.TheVariants as script_error
-use Rattle.mx_scripts.specs.Ended.{EndsScript, IsFileOfNames, IsPrintError}
-use Rattle.mx_scripts.proofs.EndedLemmas.{short_script}
-use Rattle.mx_explain.specs.Asked.{ExplainRequest, run, script}
-use Rattle.mx_explain.specs.Explained.{EndsAs, Explains, ExplainsRequest, FailsToPrint}
+use Rattle.mx_cli.specs.Frames.{IsReportOf, end_for, report_for}
+use Rattle.mx_cli.specs.Printing.{Course, End, Prints, Report, ShowsOne, Sight, comes_to, course_of, has_fault, has_line, has_status, is_refused, is_short, refused_on, stop_as, stop_of}
+use Rattle.mx_cli.specs.Reading.{IsPlanOf}
+use Rattle.mx_cli.specs.declared.faults.CommandError.{CommandError}
+use Rattle.mx_cli.specs.declared.faults.CommandError.TheVariants as command_error
+use Rattle.mx_cli.specs.declared.stop.Stop.{Stop}
+use Rattle.mx_cli.specs.declared.stop.Stop.TheVariants as stop
+use Rattle.mx_cli.proofs.FrameLemmas.{prints_as}
+use Rattle.mx_commands.specs.Commands.{IsReplay}
+use Rattle.mx_commands.specs.Jobs.{run_by}
+use Rattle.mx_commands.specs.Ran.{StopsAs}
+use Rattle.mx_commands.specs.Runs.{Report as Lines}
+use Rattle.mx_commands.proofs.ReplayLemmas.{IsAs, driven, is_replay}
+use Rattle.mx_explain.specs.Explained.{IsExplanation, IsTextReport, IsToldOf, is_told, null_output, told_as}
+use Rattle.mx_explain.specs.Reports.{AreShown, last_line, nothing_at_fault}
 
--- ---- a run of which nobody reads what it prints
+-- ---- a run of which nothing is printed
 
-true_is_false : {P : Type 0} → true ≡ false → P
-true_is_false h = absurd (let bad : true ≡ false = h in cc)
+-- why a run of events stops
+stops : (r : Lines) (e : CommandError) → StopsAs r e → Prints (IsAs r) null_output null_output (Err (stop_as e))
+stops r (command_error.Fault fault) h = driven null_output null_output r (Err (command_error.Fault fault)) (h, tt) refl tt refl
+stops r command_error.Writer h = absurd h
+stops r command_error.Memory h = driven null_output null_output r (Err command_error.Memory) (0, tt) refl tt refl
 
-early_for : (t : Bool) (res : Result ℕ CommandError) → EndsEarly true res → EndsEarly t res
-early_for t (Ok v) h = h
-early_for t (Err (command_error.Fault f)) h = h
-early_for t (Err command_error.Writer) h = true_is_false h
-early_for t (Err command_error.Memory) h = h
+module _ (p : Fields) (text : Text) (es : List Event) (read : events_at p text ≡ Ok es) where
+  -- a run of these events
+  replayed : (res : Result ℕ Stop) → Prints (IsAs (run_by p p.shape es)) null_output null_output res → Prints (IsReplay p text) null_output null_output res
+  replayed res h = prints_as (IsAs (run_by p p.shape es)) (IsReplay p text) (is_replay p text es read) null_output null_output res h
 
-ran_for : (t : Bool) (r : Report) (res : Result ℕ CommandError) → Ran true None None r res → Ran t None None r res
-ran_for t r (Ok v) h = h
-ran_for t r (Err (command_error.Fault f)) h = h
-ran_for t r (Err command_error.Writer) h = true_is_false h.0
-ran_for t r (Err command_error.Memory) h = h
+  pub replay_ends : (run_by p p.shape es).end ≡ None → Prints (IsReplay p text) null_output null_output (Ok 0)
+  replay_ends end = replayed (Ok 0) (driven null_output null_output (run_by p p.shape es) (Ok 0) (end, tt) refl refl refl)
 
--- what holds of an output that takes all holds of any
-pub ran_of_for : (t : Bool) (told : Text → Option Telling) (request : Request) (res : Result ℕ CommandError) → RanOf true None None told request res → RanOf t None None told request res
-ran_of_for t told request res h =
-    of_jobs (job_of told request) (EndsEarly true res × Keeps None None) (EndsEarly t res × Keeps None None) (λ r. Ran true None None r res) (λ r. Ran t None None r res)
-    (λ x. (early_for t res x.0, x.1)) (λ r. ran_for t r res) h
+  pub replay_stops : (e : CommandError) (s : Stop) → StopsAs (run_by p p.shape es) e → s ≡ stop_as e → Prints (IsReplay p text) null_output null_output (Err s)
+  replay_stops e s h is = rw is (replayed (Err (stop_as e)) (stops (run_by p p.shape es) e h))
 
-early_of : (t : Bool) (s : CommandError) → FailsToPrint t s → EndsEarly t (Err s)
-early_of t (command_error.Fault f) (inl h) = absurd (let bad : ◌≡◌ {A = CommandError} (command_error.Fault f) command_error.Memory = h in cc)
-early_of t (command_error.Fault f) (inr h) = absurd (let bad : ◌≡◌ {A = CommandError} (command_error.Fault f) command_error.Writer = h.0 in cc)
-early_of t command_error.Writer (inl h) = absurd (let bad : ◌≡◌ {A = CommandError} command_error.Writer command_error.Memory = h in cc)
-early_of t command_error.Writer (inr h) = h.1
-early_of t command_error.Memory h = tt
+-- ---- its files
 
-some_early : (o : Option Job) (X : Type 0) (P : Report → Type 0) → X → IfSome o (λ job. X ⊎ HoldsOfReport job P)
-some_early None X P x = tt
-some_early (Some job) X P x = inl x
+same_end : (e : End) → end_for false e ≡ e
+same_end (has_status status) = refl
+same_end (has_fault fault) = refl
+same_end (has_line line) = refl
 
--- an explanation that is not printed
-pub ran_unprinted : (t : Bool) (told : Text → Option Telling) (request : Request) (s : CommandError) → FailsToPrint t s → RanOf t None None told request (Err s)
-ran_unprinted t told request s h = some_early (job_of told request) (EndsEarly t (Err s) × Keeps None None) (λ r. Ran t None None r (Err s)) (early_of t s h, tt)
+-- the report names no text that is not JSON: a replay is not told which it is, and each script is
+same_report : (b : Bool) (p : Fields) (text : Text) (r : Report) → IsTextReport b p text r → r ≡ report_for b r
+same_report false p text r h = ap (λ (e : End). let q : Report = record { texts = r.texts; end = e } in q) (sym (same_end r.end))
+same_report true p text r (inl h) = subst (λ (q : Report). q ≡ report_for true q) (sym h.2) refl
+same_report true p text r (inr h) = subst (λ (q : Report). q ≡ report_for true q) (sym h.2) refl
 
--- ---- how it is closed
+module _ (b : Bool) (plan text : Option Telling) where
+  -- they were read
+  pub text_runs : (p : Fields) (bytes : Text) (res : Result ℕ Stop) → IsPlanOf plan p → IfSome text (λ telling. telling ≡ Some bytes) → Prints (IsTextReport b p bytes) null_output null_output res
+      → Prints (IsReportOf (IsTextReport b) b plan text) null_output null_output res
+  text_runs p bytes res read fetched h =
+      prints_as (IsTextReport b p bytes) (IsReportOf (IsTextReport b) b plan text) (λ r is. inr (p, bytes, r, read, fetched, is, same_report b p bytes r is)) null_output null_output res h
 
-and_left : (t u : Bool) → t ≡ false → (t && u) ≡ false
-and_left t u e = ap (λ x. x && u) e
+-- ---- an explanation
 
-module _ (t u : Bool) (told : Text → Option Telling) (request : Request) (old new : Held) (status : ℕ) where
-  closed_early : (res : Result ℕ CommandError) → EndsEarly t res → Closes (t && u) (names_in request) res old new status → FallsShort (t && u) old new status
-  closed_early (Ok v) early h = absurd early
-  closed_early (Err (command_error.Fault f)) early h = absurd early
-  closed_early (Err command_error.Writer) early h = inr (h.0, and_left t u early, h.1)
-  closed_early (Err command_error.Memory) early h = h
+is_false : (b : Bool) → (b ≡ true → ⊥) → b ≡ false
+is_false true h = absurd (h refl)
+is_false false h = refl
 
-  closed_whole : (r : Report) (v : ℕ) → v ≡ 0 → r.end ≡ None → (status ≡ v) × Keeps old new → EndsAs (names_in request) r old new status
-  closed_whole r v zero end h = record {
-    status_is = h.0 ∙ zero ∙ ap status_of (sym end);
-    fault = subst (λ (e : Option Fault). Appends old new (end_text (names_in request) e)) (sym end) (Appends-keeps old old new [] (Appends-nil old) h.1);
+module _ (P : Report → Type 0) where
+  of_course : (course : Course) (a b : Held) → ShowsOne P true a b course → (told : Report) → IsToldOf course told → IsExplanation P told
+  of_course (comes_to end) a b (inl early) told h = absurd early.0
+  of_course (comes_to end) a b (inr shown) told h = (shown.0, shown.1, subst (λ (e : End). IsToldOf (comes_to e) told) (sym shown.2.0) h)
+  of_course is_refused a b shown told h = absurd h
+  of_course is_short a b shown told h = absurd h
+
+  -- an explanation of a run of one of these reports
+  pub is_explanation : (ended : Result ℕ Stop) → Prints P null_output null_output ended → (told : Report) → IsToldOf (course_of ended) told → IsExplanation P told
+  is_explanation ended ran told h = of_course (course_of ended) None None ran.shows told h
+
+module _ (o n : Sight) where
+  -- a text that an output did not take
+  pub not_put : (P : Report → Type 0) (f : OutputFault) → (o.takes_all ≡ true → f ≡ output_fault.Memory) → Keeps o.held n.held → n.refused ≡ refused_by {T = ⊤} (Err f) o.refused → n.takes_all ≡ o.takes_all
+      → Prints P o n (Err (stop_of f))
+  not_put P output_fault.Refused takes keeps refused stays = record {
+    shows = inl (is_false o.takes_all (λ e. let bad : output_fault.Refused ≡ output_fault.Memory = takes e in cc), keeps);
+    refused = refused;
+    stays = stays;
   }
+  not_put P output_fault.Memory takes keeps refused stays = record { shows = inl (tt, keeps); refused = refused; stays = stays }
 
-  closed_ran : (r : Report) (res : Result ℕ CommandError) → IfOk res (λ v. v ≡ 0) → Closes (t && u) (names_in request) res old new status → Ran t None None r res
-      → FallsShort (t && u) old new status ⊎ EndsAs (names_in request) r old new status
-  closed_ran r (Ok v) zero (inl h) ran = inr (closed_whole r v zero ran.0 h)
-  closed_ran r (Ok v) zero (inr h) ran = inl h
-  closed_ran r (Err (command_error.Fault f)) zero (inl h) ran = inr (record {
-    status_is = h.0 ∙ ap status_of (sym ran.0);
-    fault = subst (λ (e : Option Fault). Appends old new (end_text (names_in request) e)) (sym ran.0) h.1;
-  })
-  closed_ran r (Err (command_error.Fault f)) zero (inr h) ran = inl h
-  closed_ran r (Err command_error.Writer) zero h ran = inl (inr (h.0, and_left t u ran.0, h.1))
-  closed_ran r (Err command_error.Memory) zero h ran = inl h
+  module _ (text : Text) (shown : AreShown text) (put : Appends o.held n.held text) (refused : n.refused ≡ o.refused) (stays : n.takes_all ≡ o.takes_all) where
+    -- a text that an output took, about a run that came to its end
+    told_end : (P : Report → Type 0) (ended : Result ℕ Stop) (end : End) → course_of ended ≡ comes_to end → P (told_as text end) → Prints P o n ended
+    told_end P ended end is h =
+        record {
+          shows = subst (λ (course : Course). ShowsOne P o.takes_all o.held n.held course) (sym is) (inr (told_as text end, h, (refl, subst (λ (t : Text). Appends o.held n.held t) (sym (append-nil text)) put)));
+          refused = subst (λ (course : Course). n.refused ≡ refused_on course o.refused) (sym is) refused;
+          stays = stays;
+        }
 
-  -- an explanation, from how the run ended and how that was closed
-  pub explained : (res : Result ℕ CommandError) → IfOk res (λ v. v ≡ 0) → Closes (t && u) (names_in request) res old new status → RanOf t None None told request res
-      → Explains (t && u) told request old new status
-  explained res zero closes h =
-      of_jobs (job_of told request) (EndsEarly t res × Keeps None None) (FallsShort (t && u) old new status) (λ r. Ran t None None r res)
-      (λ r. FallsShort (t && u) old new status ⊎ EndsAs (names_in request) r old new status)
-      (λ x. closed_early res x.0 closes) (λ r. closed_ran r res zero closes) h
-
--- where memory ran out, an explanation may have ended so
-pub short_explains : (takes : Bool) (told : Text → Option Telling) (request : Request) (old new : Held) (status : ℕ) → (status ≡ 5) × MayReport old new
-    → Explains takes told request old new status
-short_explains takes told request old new status m = some_early (job_of told request) (FallsShort takes old new status)
-    (λ r. FallsShort takes old new status ⊎ EndsAs (names_in request) r old new status) (inl m)
-
--- ---- an explanation that is not printed
-
-is_untrue : (b : Bool) → (b ≡ true → ⊥) → b ≡ false
-is_untrue true h = absurd (h refl)
-is_untrue false h = refl
-
-pub put_fails : (t : Bool) (f : OutputFault) → (t ≡ true → f ≡ output_fault.Memory) → FailsToPrint t (error_of f)
-put_fails t output_fault.Refused takes = inr (refl, is_untrue t (λ e. let bad : ◌≡◌ {A = OutputFault} output_fault.Refused output_fault.Memory = takes e in cc))
-put_fails t output_fault.Memory takes = inl refl
-
-pub runs_out : (t : Bool) → FailsToPrint t command_error.Memory
-runs_out t = inl refl
-
--- ---- a script
-
--- where memory ran out, an explanation of whatever is asked for may have ended so
-pub short_request : (t u : Bool) (told : Text → Option Telling) (request : ExplainRequest) (old new : Held) (status : ℕ) → (status ≡ 5) × MayReport old new
-    → ExplainsRequest t u told request old new status
-short_request t u told (run request) old new status m = short_explains (t && u) told request old new status m
-short_request t u told (script names) old new status m = short_script t u told names old new status m
-
--- an explanation that is not printed
-pub fails_as_error : (t : Bool) (s : CommandError) → FailsToPrint t s → IsPrintError t (script_error.Command s)
-fails_as_error t s (inl h) = inl (ap script_error.Command h)
-fails_as_error t s (inr h) = inr (ap script_error.Command h.0, h.1)
-
--- a script whose file nobody reads
-pub file_is_there : (told : Text → Option Telling) (names : Text × Text) (takes : Bool) (text : Text) → IsFileOfNames told names text → EndsScript takes told names (Ok 0)
-file_is_there told names takes text file = (refl, (text, file))
+    pub prints_told : (ended : Result ℕ Stop) → is_told (course_of ended) ≡ true → (last_line text ≡ nothing_at_fault) ↔ (is_ok ended ≡ true) → Prints (IsToldOf (course_of ended)) o n ended
+    prints_told (Ok status) told last = told_end _ (Ok status) (has_status status) refl (text, shown, last.1 refl, refl)
+    prints_told (Err (stop.Fault fault)) told last = told_end _ (Err (stop.Fault fault)) (has_fault fault) refl (text, shown, λ q. absurd (let bad : false ≡ true = last.0 q in cc), refl)
+    prints_told (Err (stop.Line line)) told last = told_end _ (Err (stop.Line line)) (has_line (string_bytes line)) refl (text, shown, λ q. absurd (let bad : false ≡ true = last.0 q in cc), refl)
+    prints_told (Err stop.Writer) told last = absurd (let bad : false ≡ true = told in cc)
+    prints_told (Err stop.Memory) told last = absurd (let bad : false ≡ true = told in cc)

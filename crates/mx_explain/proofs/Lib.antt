@@ -1,3 +1,2 @@
-pub mod ExplainLemmas
+mod ExplainLemmas
 mod ReportLemmas
-pub mod TellsLemmas

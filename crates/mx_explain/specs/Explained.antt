@@ -1,61 +1,83 @@
--- The status of an explanation, and what standard error gets: the same as for the check, the replay
--- or the script. And what standard output gets.
-use Rattle.std.specs.Prelude.{◌≡◌, ◌≢◌, ◌⊎◌, ◌&&◌, ℕ, Bool, false, Option, Result, IfSome, MatchResult}
-use Rattle.std.specs.Io.KnownBytes.{Appends}
-use Rattle.mx_cli.specs.Words.{Request}
+-- What `explain` prints, and how it ends: as the check, the replay or the script that it explains.
+use Rattle.std.specs.Prelude.{◌≡◌, ◌≢◌, ◌⊎◌, ℕ, Bool, true, false, [], ◌∷◌, Option, None, Some, unwrap_or}
 use Rattle.mx_plan.specs.Text.{Text}
-use Rattle.mx_cli.specs.declared.faults.CommandError.{CommandError}
-use Rattle.mx_cli.specs.declared.faults.CommandError.TheVariants.{Memory, Writer}
+use Rattle.mx_plan.specs.Fields.{Fields}
 use Rattle.mx_io.specs.Told.{Telling}
-use Rattle.mx_io.specs.Outputs.{Held}
-use Rattle.mx_commands.specs.Runs.{Report}
-use Rattle.mx_commands.specs.Jobs.{HoldsOfReport, job_of, names_in}
-use Rattle.mx_commands.specs.Ran.{end_text, status_of}
-use Rattle.mx_cli.specs.Closed.{FallsShort}
-use Rattle.mx_scripts.specs.Ended.{ScriptsOf}
+use Rattle.mx_cli.specs.Frames.{FailsAtOnce, Files, IsReportOf, PrintsReport, alone, both, told_plan, told_text}
+use Rattle.mx_cli.specs.Printing.{Course, End, Report, Sight, comes_to, has_fault, has_line, has_status, is_refused, is_short}
+use Rattle.mx_cli.specs.Reports.{Seen}
+use Rattle.mx_cli.specs.Requests.{text_of}
+use Rattle.mx_commands.specs.Commands.{IsCheck, IsReplay}
+use Rattle.mx_scripts.specs.Printed.{IsScript}
 use Rattle.mx_explain.specs.Reports.{AreShown, last_line, nothing_at_fault}
-use Rattle.mx_explain.specs.Asked.{ExplainRequest, run, script}
+use Rattle.mx_explain.specs.declared.explanation.Asked.{Asked}
 
--- the status is that of this report, and standard error got the line of its fault, if it has one
-pub record EndsAs (names : Text × Text) (r : Report) (old new : Held) (status : ℕ) : Type 0 where
-  pub status_is : status ≡ status_of r.end
-  pub fault : Appends old new (end_text names r.end)
+-- ---- what is explained
 
--- if the source states what the files hold, an explanation of this request ended as its report
--- does, unless memory ran out or an output refused
-abbrev pub Explains : Bool → (Text → Option Telling) → Request → Held → Held → ℕ → Type 0
-Explains takes_all told request old new status =
-    IfSome (job_of told request) (λ job. FallsShort takes_all old new status
-    ⊎ HoldsOfReport job
-    (λ r. FallsShort takes_all old new status ⊎ EndsAs (names_in request) r old new status))
+-- a report of these files
+abbrev pub IsReportFor : (Fields → Text → Report → Type 0) → (Text → Option Telling) → Files
+    → Report → Type 0
+IsReportFor reports told files =
+    IsReportOf reports files.names_texts (told_plan told files) (told_text told files)
 
--- an explanation ended as the check, the replay or the script does
-abbrev pub ExplainsRequest : Bool → Bool → (Text → Option Telling) → ExplainRequest → Held → Held → ℕ
-    → Type 0
-ExplainsRequest takes_out takes_err told (run request) old new status =
-    Explains (takes_out && takes_err) told request old new status
-ExplainsRequest takes_out takes_err told (script names) old new status =
-    ScriptsOf takes_out takes_err told names old new status
+-- a report of a script, or of events
+abbrev pub IsTextReport : Bool → Fields → Text → Report → Type 0
+IsTextReport true p text = IsScript p text
+IsTextReport false p text = IsReplay p text
 
--- why an explanation is not printed: memory ran out, or the output refused. An output that takes
--- all bytes never refuses
-abbrev pub FailsToPrint : Bool → CommandError → Type 0
-FailsToPrint takes_all end = (end ≡ Memory) ⊎ ((end ≡ Writer) × (takes_all ≡ false))
+-- a report of what is explained: if a second file is named, of a script or a replay; else of a
+-- check
+abbrev pub IsExplained : (Text → Option Telling) → Text → Option Text → Bool → Report → Type 0
+IsExplained told plan None is_script = IsReportFor (IsCheck false) told (alone plan)
+IsExplained told plan (Some second) is_script =
+    IsReportFor (IsTextReport is_script) told (both (plan, second) is_script)
 
--- What was printed about the files: printable lines. The last is `nothing is at fault` exactly if
--- the command succeeds.
-abbrev pub Prints : {T E : Type 0} → Held → Held → Result T E → Type 0
-Prints old new ended =
-    (text : Text) × Appends old new text × AreShown text
-    × MatchResult ended (λ _. last_line text ≡ nothing_at_fault) (λ _. last_line text ≢ nothing_at_fault)
+abbrev pub IsAsked : (Text → Option Telling) → Asked → Report → Type 0
+IsAsked told asked = IsExplained told asked.plan.now (text_of asked.second) asked.is_script
 
--- What standard output gets: printable lines, with no control byte but line feeds. The last is
--- `nothing is at fault` if the status is 0; otherwise only if memory ran out or an output refused
--- after the explanation was printed.
-pub record TellsLines (takes_all : Bool) (out out' err err' : Held) (status : ℕ) : Type 0 where
-  pub text : Text
-  pub told : Appends out out' text
-  pub printable : AreShown text
-  pub well : status ≡ 0 → last_line text ≡ nothing_at_fault
-  pub zero : last_line text ≡ nothing_at_fault
-      → (status ≡ 0) ⊎ FallsShort takes_all err err' status
+-- the names for the lines of faults
+abbrev pub names_in : Text → Option Text → Text × Text
+names_in plan second = (plan, unwrap_or second plan)
+
+-- what is seen of an output that keeps nothing, and takes all bytes
+abbrev pub null_output : Sight
+null_output = record { held = None; refused = false; takes_all = true }
+
+-- ---- explanations
+
+-- whether a run came to its end, so that it can be explained
+abbrev pub is_told : Course → Bool
+is_told (comes_to end) = true
+is_told is_refused = false
+is_told is_short = false
+
+-- the last line is `nothing is at fault` exactly if the run succeeded
+abbrev pub LastTells : End → Text → Type 0
+LastTells (has_status status) text = last_line text ≡ nothing_at_fault
+LastTells (has_fault fault) text = last_line text ≢ nothing_at_fault
+LastTells (has_line line) text = last_line text ≢ nothing_at_fault
+
+-- this text, and the end of what it explains
+abbrev pub told_as : Text → End → Report
+told_as text end = record { texts = text ∷ []; end = end }
+
+-- an explanation of a run that came so far: printable lines, with no control byte but line feeds,
+-- and the end of the run
+abbrev pub IsToldOf : Course → Report → Type 0
+IsToldOf (comes_to end) r =
+    (text : Text) × AreShown text × LastTells end text × (r ≡ told_as text end)
+IsToldOf is_refused r = ⊥
+IsToldOf is_short r = ⊥
+
+-- an explanation of one of these reports
+abbrev pub IsExplanation : (Report → Type 0) → Report → Type 0
+IsExplanation IsReport told = (r : Report) × IsReport r × IsToldOf (comes_to r.end) told
+
+-- the promise of `explain`: an explanation was printed, with the status and the line of the check,
+-- the replay or the script; or memory ran out or an output refused
+abbrev pub Explains : (Text → Option Telling) → Text → Option Text → Bool → Bool → Bool
+    → Seen → Seen → ℕ → Type 0
+Explains told plan second is_script takes_out takes_err old new status =
+    FailsAtOnce takes_out old new status
+    ⊎ ((r : Report) × IsExplanation (IsExplained told plan second is_script) r
+    × PrintsReport takes_out takes_err (names_in plan second) r old new status)

@@ -1,5 +1,3 @@
--- Asked: what the words of `explain` ask for. Explained: with which status it ends, and what the
--- two outputs get. Reports: the lines of a report, and its text.
-pub mod Asked
+-- Explained: what `explain` prints, and how it ends. Reports: the lines of an explanation.
 pub mod Explained
 pub mod Reports

@@ -1,126 +1,88 @@
-//! `explain`: from words, named bytes and two outputs to an exit status.
+//! `explain`: from the names of files and two outputs to an exit status.
 
-ghost use Rattle.std.specs.Prelude.{◌≡◌, ◌&&◌, IsErr, IsSome, IfSome, IfOk, None, false, true};
-ghost use Rattle.mx_cli.specs.Words.{request_of, texts_of};
-ghost use Rattle.mx_cli.specs.Reports.{Answers, seen};
-ghost use Rattle.mx_cli.specs.Closed.{IsRunStatus, PassesOn};
-ghost use Rattle.mx_commands.specs.Ran.{RanOf};
-ghost use Rattle.mx_explain.specs.Asked.{explain_line, request_asked};
-ghost use Rattle.mx_explain.specs.Explained.{Explains, ExplainsRequest, Prints, TellsLines};
+ghost use Rattle.std.specs.Prelude.{◌≡◌};
+ghost use Rattle.mx_cli.specs.Printing.{Prints, sight};
+ghost use Rattle.mx_cli.specs.Reports.{seen};
+ghost use Rattle.mx_cli.specs.Requests.{text_of};
+ghost use Rattle.mx_cli.specs.Words.{names_of};
+ghost use Rattle.mx_explain.specs.Explained.{Explains, IsAsked, IsExplanation, names_in};
 
 use crate::cached_source::{CachedSource, DetailedSource};
-use crate::files::{Second, print_files};
+use crate::files::print_files;
 use crate::notes::Notes;
-use crate::replay::replay;
-use crate::request::{ExplainRequest, parse};
-use crate::scripts::explain_script;
-use mx_cli::{CommandError, Request, close, refuse};
-use mx_commands::{NullOutput, carry_out, names_in};
+use crate::runs::run;
+use mx_cli::{Names, Stop, close};
 use mx_io::{Output, Source};
 use std::alloc::Global;
 
-/// Runs a command line whose first argument is `explain`, without the program's name. Returns the
-/// exit status:
-///
-/// - that of the check, the replay or the script that it explains: 0, 1 or 5;
-/// - 0 if help was requested, 1 if an output failed, 2 for wrong arguments.
-pub fn explain<S: Source + DetailedSource, O: Output, E: Output>(
-    alloc: Global,
-    words: &[&str],
-    source: &mut S,
-    out: &mut O,
-    err: &mut E,
-) -> u8
-    ensures explains { IfSome (request_asked (texts_of words.entry.now)) (λ request.
-        ExplainsRequest (O.takes_all out.old) (E.takes_all err.old) (S.told source.old) request
-        (E.written err.old) (E.written err.new) result) }
-    ensures told { IsSome (request_asked (texts_of words.entry.now))
-        → TellsLines (O.takes_all out.old && E.takes_all err.old) (O.written out.old)
-        (O.written out.new) (E.written err.old) (E.written err.new) result }
-    ensures passed { IsSome (request_asked (texts_of words.entry.now))
-        → PassesOn (E.written err.old) (E.written err.new) (O.keeps_back out.new) result }
-    ensures status { IsSome (request_asked (texts_of words.entry.now)) → IsRunStatus result }
-    ensures answers { Answers explain_line (texts_of words.entry.now) (O.takes_all out.old)
-        (seen O.Output E.Output out.old err.old) (seen O.Output E.Output out.new err.new) result }
-{
-    match parse(alloc, words) {
-        Ok(Some(ExplainRequest::Run(run))) => explain_request(alloc, &run, source, out, err),
-        Ok(Some(ExplainRequest::Script(names))) => explain_script(alloc, &names, source, out, err),
-        Ok(None) => 2,
-        Err(e) => refuse(alloc, &e, out, err),
-    }
+/// What is explained: the plan of this name; or its events or its script, if `second` names them.
+#[derive(Clone, Copy)]
+pub(crate) struct Asked<'a> {
+    pub(crate) plan: &'a str,
+    pub(crate) second: Option<&'a str>,
+    pub(crate) is_script: bool,
 }
 
-fn explain_request<S: Source + DetailedSource, O: Output, E: Output>(
-    alloc: Global,
-    request: &Request<'_>,
-    source: &mut S,
-    out: &mut O,
-    err: &mut E,
-) -> u8
-    ensures explains { Explains (O.takes_all out.old && E.takes_all err.old) (S.told source.old)
-        (request_of request.now) (E.written err.old) (E.written err.new) result }
-    ensures told { TellsLines (O.takes_all out.old && E.takes_all err.old) (O.written out.old)
-        (O.written out.new) (E.written err.old) (E.written err.new) result }
-    ensures passed { PassesOn (E.written err.old) (E.written err.new) (O.keeps_back out.new)
-        result }
-    ensures status { IsRunStatus result }
-{
-    let ended = carry_out_and_explain(alloc, request, source, out);
-    close(alloc, ended, &names_in(request), out, err)
-}
-
-/// Carries out a check or a replay without its output, and prints what is wrong in its files.
-/// Returns how the check or replay ended, or why printing failed.
-fn carry_out_and_explain<S: Source + DetailedSource, O: Output>(
-    alloc: Global,
-    request: &Request<'_>,
-    source: &mut S,
-    out: &mut O,
-) -> Result<u8, CommandError>
-    ensures ran { RanOf (O.takes_all out.old) None None (S.told source.old) (request_of request.now)
-        result }
-    ensures prints { Prints (O.written out.old) (O.written out.new) result }
-    ensures zero { IfOk result (λ status. status ≡ 0) }
-    ensures stays { O.takes_all out.new ≡ O.takes_all out.old }
-{
-    let entries = Vec::new(alloc);
-    let mut cached = CachedSource { source, entries };
-    let mut notes = Notes::new(alloc);
-    let ended = run(alloc, request, &mut cached, &mut notes);
-    if let Err(CommandError::Fault(fault)) = &ended {
-        notes.fault = Some(*fault);
-    }
-    let second = match request {
-        Request::Replay(_) => Second::Events(&notes),
-        Request::Check(_) | Request::Asks(_) | Request::Explore(_) => Second::Nothing,
-    };
-    let (names, is_told) = (names_in(request), is_told(&ended));
-    print_files(alloc, &names, &second, &ended, is_told, &mut cached, out)?;
-    ended
-}
-
-/// Carries out a check or a replay, which notes its events. Prints nothing. Ends as the
-/// command does over an output that takes all texts.
-fn run<S: Source>(
-    alloc: Global,
-    request: &Request<'_>,
-    source: &mut S,
-    notes: &mut Notes,
-) -> Result<u8, CommandError>
-    ensures ran { RanOf true None None (S.told source.old) (request_of request.now) result }
-    ensures zero { IfOk result (λ status. status ≡ 0) }
-{
-    match request {
-        Request::Replay(names) => replay(alloc, names, source, notes),
-        Request::Check(_) | Request::Asks(_) | Request::Explore(_) => {
-            carry_out(alloc, request, source, &mut NullOutput)
+impl<'a> Asked<'a> {
+    /// Returns the names for the lines of faults. The plan's name stands in for a missing one.
+    pub(crate) fn names(&self) -> Names<'a>
+        ensures { names_of result ≡ names_in self.now.plan.now (text_of self.now.second) }
+    {
+        match self.second {
+            Some(second) => Names {
+                plan: self.plan,
+                events: second,
+            },
+            None => Names {
+                plan: self.plan,
+                events: self.plan,
+            },
         }
     }
 }
 
-fn is_told(ended: &Result<u8, CommandError>) -> bool
-    ensures { result ≡ false → IsErr ended.now }
+/// Prints what is wrong in a plan; and in its events, if `second` names them, or in its script, if
+/// `is_script`. Then writes the line of the fault. Returns the exit status of the check, the replay
+/// or the script, 1 if an output refuses, and 5 if memory runs out.
+pub fn explain<S: Source + DetailedSource, O: Output, E: Output>(
+    alloc: Global,
+    plan: &str,
+    second: Option<&str>,
+    is_script: bool,
+    source: &mut S,
+    out: &mut O,
+    err: &mut E,
+) -> u8
+    ensures explains { Explains (S.told source.old) plan.now (text_of second.entry) is_script
+        (O.takes_all out.old) (E.takes_all err.old)
+        (seen O.Output E.Output out.old err.old) (seen O.Output E.Output out.new err.new) result }
 {
-    matches!(ended, Ok(_) | Err(CommandError::Fault(_)))
+    let asked = Asked {
+        plan,
+        second,
+        is_script,
+    };
+    let ended = run_and_explain(alloc, &asked, source, out);
+    close(alloc, ended, &asked.names(), out, err)
+}
+
+/// Carries out a check, a replay or a script without its output, and prints what is wrong in its
+/// files. Returns how it ended, or why printing failed.
+fn run_and_explain<S: Source + DetailedSource, O: Output>(
+    alloc: Global,
+    asked: &Asked<'_>,
+    source: &mut S,
+    out: &mut O,
+) -> Result<u8, Stop>
+    ensures prints { Prints (IsExplanation (IsAsked (S.told source.old) asked.now))
+        (sight O.Output out.old) (sight O.Output out.new) result }
+{
+    let entries = Vec::new(alloc);
+    let mut cached = CachedSource { source, entries };
+    let mut notes = Notes::new(alloc);
+    let ended = run(alloc, asked, &mut cached, &mut notes);
+    if let Err(Stop::Fault(fault)) = &ended {
+        notes.fault = Some(*fault);
+    }
+    print_files(alloc, asked, &notes, ended, &mut cached, out)
 }

@@ -1,100 +1,117 @@
 //! What is wrong in the files that a check, a replay or a script reads.
 
-ghost use Rattle.std.specs.Prelude.{◌≡◌, IfErr, IsErr, OnErr, OnOk, false};
-ghost use Rattle.std.specs.Io.KnownBytes.{Keeps};
-ghost use Rattle.mx_explain.specs.Explained.{FailsToPrint, Prints};
+ghost use Rattle.std.specs.Prelude.{◌≡◌, ◌↔◌, true, string_bytes, IfOk};
+ghost use Rattle.mx_cli.specs.Printing.{Prints, course_of, sight};
+ghost use Rattle.mx_explain.specs.Explained.{IsToldOf, is_told};
+ghost use Rattle.mx_explain.specs.Reports.{AreShown, last_line, nothing_at_fault};
 
 use crate::cached_source::DetailedSource;
 use crate::event_fault::explain_events;
+use crate::explanation::Asked;
 use crate::location::Part;
 use crate::notes::Notes;
 use crate::plan_fault::explain_plan;
 use crate::report::{Report, ReportResult};
 use crate::script_lines::explain_lines;
-use mx_cli::{CommandError, Names, are_dashes, split_line};
+use mx_cli::{Stop, are_dashes, split_line};
 use mx_io::{Output, Refusal, Source};
 use mx_plan::Plan;
 use std::alloc::{AllocError, Global};
 
-#[derive(Clone, Copy)]
-pub(crate) enum Second<'a> {
-    Nothing,
-    Events(&'a Notes),
-    Script(&'a Notes),
-}
-
-/// Prints what is wrong in the files of a run that ended as `ended` says; nothing if that is not
-/// told. If it ended well, these are warnings alone, and that nothing is at fault.
-pub(crate) fn print_files<T: Drop, F: Drop, S: Source + DetailedSource, O: Output>(
+/// Prints what is wrong in the files of a run that ended so, and returns how it ended. If it ended
+/// well, these are warnings alone, and that nothing is at fault. Prints nothing if memory runs out.
+pub(crate) fn print_files<S: Source + DetailedSource, O: Output>(
     alloc: Global,
-    names: &Names<'_>,
-    second: &Second<'_>,
-    ended: &Result<T, F>,
-    is_told: bool,
+    asked: &Asked<'_>,
+    notes: &Notes,
+    ended: Result<u8, Stop>,
     source: &mut S,
     out: &mut O,
-) -> Result<(), CommandError>
-    requires { is_told ≡ false → IsErr ended.now }
-    ensures fails { IfErr result (FailsToPrint (O.takes_all out.old)) }
-    ensures prints { OnOk result (Prints (O.written out.old) (O.written out.new) ended.now) }
-    ensures same { OnErr result (Keeps (O.written out.old) (O.written out.new)) }
-    ensures stays { O.takes_all out.new ≡ O.takes_all out.old }
+) -> Result<u8, Stop>
+    ensures prints { Prints (IsToldOf (course_of ended))
+        (sight O.Output out.old) (sight O.Output out.new) result }
 {
-    if !is_told {
-        return Ok(());
+    if !is_told(&ended) {
+        return Err(Stop::Memory);
     }
-    let mut report = Report::new(alloc);
-    explain_files(&mut report, names, second, source)?;
-    let text = report.into_text(ended.is_ok())?;
+    let text = explanation(alloc, asked, notes, ended.is_ok(), source)?;
     out.put(text.as_bytes())?;
-    Ok(())
+    ended
+}
+
+/// Whether a run came to its end. One that prints nothing does, unless memory runs out.
+fn is_told(ended: &Result<u8, Stop>) -> bool
+    ensures { result ≡ is_told (course_of ended.now) }
+{
+    match ended {
+        Ok(_) | Err(Stop::Fault(_) | Stop::Line(_)) => true,
+        Err(Stop::Writer | Stop::Memory) => false,
+    }
+}
+
+fn explanation<S: Source + DetailedSource>(
+    alloc: Global,
+    asked: &Asked<'_>,
+    notes: &Notes,
+    is_well: bool,
+    source: &mut S,
+) -> Result<String, AllocError>
+    ensures printable { IfOk result (λ text. AreShown (string_bytes text)) }
+    ensures last { IfOk result (λ text. (last_line (string_bytes text) ≡ nothing_at_fault)
+        ↔ (is_well ≡ true)) }
+{
+    let mut report = Report::new(alloc);
+    explain_files(&mut report, asked, notes, source)?;
+    report.into_text(is_well)
 }
 
 fn explain_files<S: Source + DetailedSource>(
     report: &mut Report,
-    names: &Names<'_>,
-    second: &Second<'_>,
+    asked: &Asked<'_>,
+    notes: &Notes,
     source: &mut S,
 ) -> ReportResult {
+    let names = asked.names();
     let Some(text) = fetched(report, names.plan, source)? else {
         return Ok(());
     };
-    if are_dashes(names) && !matches!(second, Second::Nothing) {
+    if are_dashes(&names) && asked.second.is_some() {
         let (line, rest) = split_line(text.as_slice());
         return match explain_plan(report, Part::of(names.plan, line, 0))? {
-            Some(plan) => explain_rest(report, second, &plan, Part::of(names.events, rest, 1)),
+            Some(plan) => {
+                let part = Part::of(names.events, rest, 1);
+                explain_second(report, asked, notes, &plan, part)
+            }
             None => Ok(()),
         };
     }
     let Some(plan) = explain_plan(report, Part::of(names.plan, text.as_slice(), 0))? else {
         return Ok(());
     };
-    if let Second::Nothing = second {
+    if asked.second.is_none() {
         return Ok(());
     }
     match fetched(report, names.events, source)? {
         Some(text) => {
             let part = Part::of(names.events, text.as_slice(), 0);
-            explain_rest(report, second, &plan, part)
+            explain_second(report, asked, notes, &plan, part)
         }
         None => Ok(()),
     }
 }
 
-fn explain_rest(
+fn explain_second(
     report: &mut Report,
-    second: &Second<'_>,
+    asked: &Asked<'_>,
+    notes: &Notes,
     plan: &Plan,
     part: Part<'_>,
 ) -> ReportResult {
-    match second {
-        Second::Nothing => Ok(()),
-        Second::Events(notes) => explain_events(report, part, plan, notes),
-        Second::Script(notes) => {
-            explain_lines(report, &part, plan)?;
-            notes.explain_script(report, &part)
-        }
+    if !asked.is_script {
+        return explain_events(report, part, plan, notes);
     }
+    explain_lines(report, &part, plan)?;
+    notes.explain_script(report, &part)
 }
 
 fn fetched<S: Source + DetailedSource>(

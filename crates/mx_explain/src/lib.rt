@@ -10,11 +10,9 @@ mod json_report;
 mod location;
 mod notes;
 mod plan_fault;
-mod replay;
 mod report;
-mod request;
+mod runs;
 mod script_lines;
-mod scripts;
 mod shape_fault;
 mod spot;
 

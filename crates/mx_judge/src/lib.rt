@@ -2,12 +2,10 @@
 #![tactic(auto)]
 
 mod entry_reader;
-mod errors;
 mod faults;
 mod judge_command;
 mod members;
 mod outcome_reader;
 mod trace_reader;
-mod words;
 
-pub use judge_command::judge_trace;
+pub use judge_command::Judge;

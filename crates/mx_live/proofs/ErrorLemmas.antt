@@ -11,7 +11,7 @@ use Rattle.mx_plan.specs.declared.shape.Shape.TheVariants as planned
 use Rattle.mx_ricart.specs.Step.{ricart_core}
 use Rattle.mx_maekawa.specs.Step.{maekawa_core}
 use Rattle.mx_raymond.specs.Step.{raymond_core}
-use Rattle.mx_cli.specs.LiveWords.{LiveRequest}
+use Rattle.mx_cli.specs.Requests.{LiveRequest}
 use Rattle.mx_cli.specs.declared.faults.CommandError.{CommandError}
 use Rattle.mx_cli.specs.declared.faults.CommandError.TheVariants as command_error
 use Rattle.mx_cli.specs.Reading.{IsPlanOf, Reads}

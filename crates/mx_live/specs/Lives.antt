@@ -1,16 +1,15 @@
-use Rattle.std.specs.Prelude.{◌≡◌, ◌≢◌, ◌⊎◌, Bool, true, false, ℕ, ◌*◌, ◌≤◌, ◌<◌, List, [], Option, None, Result, Ok, Err, length, IfSome}
+use Rattle.std.specs.Prelude.{◌≡◌, ◌≢◌, ◌⊎◌, Bool, true, false, ℕ, ◌*◌, ◌≤◌, ◌<◌, List, Option, Result, Ok, Err, length, IfSome}
 use Rattle.std.specs.Io.KnownBytes.{Appends, Keeps}
 use Rattle.mx_journal.specs.declared.receipts.Receipt.{Receipt}
 use Rattle.mx_journal.specs.Settled.{JournalState}
 use Rattle.mx_plan.specs.Fields.{Fields}
-use Rattle.clap.specs.Words.{Text}
-use Rattle.clap.specs.Faults.{fault_of}
-use Rattle.mx_cli.specs.LiveWords.{LiveRequest, live_line, request_asked}
+use Rattle.mx_plan.specs.Text.{Text}
+use Rattle.mx_cli.specs.Requests.{LiveRequest, Request, live}
 use Rattle.mx_cli.specs.declared.faults.CommandError.TheVariants as command_error
 use Rattle.mx_io.specs.Told.{Telling}
 use Rattle.mx_io.specs.Outputs.{Held}
 use Rattle.mx_cli.specs.Reading.{IsPlanOf, Reads}
-use Rattle.mx_cli.specs.Reports.{Seen}
+use Rattle.mx_cli.specs.Reports.{Declines, Seen}
 use Rattle.mx_jobs.specs.Serial.{AreSerial}
 use Rattle.mx_live.specs.declared.live_error.LiveError.{LiveError}
 use Rattle.mx_live.specs.declared.live_error.LiveError.TheVariants.{Plan, TooFewSections, TurnsSpent, GateShut, Writer, Memory}
@@ -84,6 +83,7 @@ pub record Lives (takes takes_err : Bool) (told : Option Telling) (request : Liv
   -- so, whatever the status, standard output got nothing or the whole text
   pub whole : Keeps old.out new.out ⊎ Shows told request old.out new.out
 
--- the words of the command line have no fault, and request no live run
-abbrev pub AskNothing : List Text → Type 0
-AskNothing words = (fault_of live_line words ≡ []) × (request_asked words ≡ None)
+-- what a request does: a live run; for all others, nothing is written, and the status is 2
+abbrev pub LivesAs : (Text → Option Telling) → Request → Bool → Bool → Seen → Seen → ℕ → Type 0
+LivesAs told (live run) t u old new status = Lives t u (told run.plan) run old new status
+LivesAs told _ t u old new status = Declines old new status

@@ -4,7 +4,7 @@ use Rattle.mx_explorer.specs.Weather.{Climate, generator_of}
 use Rattle.mx_nodelaws.specs.Core.{Core}
 use Rattle.mx_member.specs.Steps.{start_of}
 use Rattle.mx_plan.specs.Fields.{Fields}
-use Rattle.mx_cli.specs.LiveWords.{LiveRequest}
+use Rattle.mx_cli.specs.Requests.{LiveRequest}
 use Rattle.mx_stations.specs.declared.worker.Worked.{Worked}
 use Rattle.mx_stations.specs.declared.worker.Worked.TheVariants.{Done, NotYet, GateShut}
 use Rattle.mx_stations.specs.Turns.{Station}

@@ -3,20 +3,21 @@
 
 ghost use Rattle.std.specs.Prelude.{◌≡◌, ◌⊎◌, Option, false, length, IfErr, IfSome, OnErr, OnOk};
 ghost use Rattle.std.specs.Io.KnownBytes.{Appends, Keeps};
+ghost use Rattle.mx_cli.specs.Table.{mx_app};
 ghost use Rattle.mx_cli.specs.Words.{texts_of};
-ghost use Rattle.mx_cli.specs.LiveWords.{request_asked, request_of, live_line};
+ghost use Rattle.mx_cli.specs.Requests.{AskNothing, live_request_of, request_asked, request_of};
 ghost use Rattle.mx_cli.specs.Reports.{Answers, Declines, seen};
 ghost use Rattle.mx_io.specs.Told.{Telling};
 ghost use Rattle.mx_live.specs.LiveErrors.{Fails};
 ghost use Rattle.mx_live.specs.Shown.{live_text};
 ghost use Rattle.mx_cli.specs.Reading.{IsPlanOf};
-ghost use Rattle.mx_live.specs.Lives.{AskNothing, Ends, Lives};
+ghost use Rattle.mx_live.specs.Lives.{Ends, Lives, LivesAs};
 ghost use Rattle.mx_live.specs.Progress.{TellsProgress};
 
 use crate::live_error::{LiveError, report_error};
 use crate::live_text::add_journal;
 use crate::node_runs::live_by_shape;
-use mx_cli::{LiveRequest, fetch_plan, parse_live, refuse};
+use mx_cli::{LiveRequest, Request, fetch_plan, parse, refuse};
 use mx_io::{Output, Source};
 use mx_plan::Plan;
 use mx_stations::Gathered;
@@ -24,9 +25,10 @@ use std::alloc::Global;
 use std::rt::Clock;
 use std::thread::Threads;
 
-/// Runs a command line whose first argument is `live`, without the program's name. Returns the exit
-/// status. Of the threads, the contract says only that some outcome of theirs leads to this status.
-/// The outcome itself is returned by `run_stations` and `gather_left`.
+/// Runs a command line that asks for `live`, without the program's name, and returns the exit
+/// status. For all other requests, writes nothing and returns 2. Of the threads, the contract says
+/// only that some outcome of theirs leads to this status. The outcome itself is returned by
+/// `run_stations` and `gather_left`.
 pub fn live<R: Threads + Clock, S: Source, O: Output, E: Output>(
     rt: &R,
     alloc: Global,
@@ -36,17 +38,35 @@ pub fn live<R: Threads + Clock, S: Source, O: Output, E: Output>(
     err: &mut E,
 ) -> u8
     ensures lives { IfSome (request_asked (texts_of words.entry.now)) (λ request.
-        Lives (O.takes_all out.old) (E.takes_all err.old) (S.told source.old request.plan) request
+        LivesAs (S.told source.old) request (O.takes_all out.old) (E.takes_all err.old)
         (seen O.Output E.Output out.old err.old) (seen O.Output E.Output out.new err.new) result) }
-    ensures answers { Answers live_line (texts_of words.entry.now) (O.takes_all out.old)
+    ensures answers { Answers mx_app (texts_of words.entry.now) (O.takes_all out.old)
         (seen O.Output E.Output out.old err.old) (seen O.Output E.Output out.new err.new) result }
     ensures other { AskNothing (texts_of words.entry.now) → Declines
         (seen O.Output E.Output out.old err.old) (seen O.Output E.Output out.new err.new) result }
 {
-    match parse_live(alloc, words) {
-        Ok(Some(request)) => run_live(rt, alloc, &request, source, out, err),
+    match parse(alloc, words) {
+        Ok(Some(request)) => carry_out(rt, alloc, &request, source, out, err),
         Ok(None) => 2,
         Err(e) => refuse(alloc, &e, out, err),
+    }
+}
+
+fn carry_out<R: Threads + Clock, S: Source, O: Output, E: Output>(
+    rt: &R,
+    alloc: Global,
+    request: &Request<'_>,
+    source: &mut S,
+    out: &mut O,
+    err: &mut E,
+) -> u8
+    ensures { LivesAs (S.told source.old) (request_of request.now)
+        (O.takes_all out.old) (E.takes_all err.old)
+        (seen O.Output E.Output out.old err.old) (seen O.Output E.Output out.new err.new) result }
+{
+    match request {
+        Request::Live(run) => run_live(rt, alloc, run, source, out, err),
+        _ => 2,
     }
 }
 
@@ -59,7 +79,7 @@ fn run_live<R: Threads + Clock, S: Source, O: Output, E: Output>(
     err: &mut E,
 ) -> u8
     ensures { Lives (O.takes_all out.old) (E.takes_all err.old)
-        (S.told source.old request.now.plan.now) (request_of request.now)
+        (S.told source.old request.now.plan.now) (live_request_of request.now)
         (seen O.Output E.Output out.old err.old) (seen O.Output E.Output out.new err.new) result }
 {
     match live_and_show(rt, alloc, request, source, out, err) {
@@ -77,7 +97,7 @@ fn live_and_show<R: Threads + Clock, S: Source, O: Output, E: Output>(
     err: &mut E,
 ) -> Result<(), LiveError>
     ensures ends { Ends (O.takes_all out.old) (S.told source.old request.now.plan.now)
-        (request_of request.now)
+        (live_request_of request.now)
         (O.written out.old) (O.written out.new) (O.keeps_back out.new) result }
     ensures progress { TellsProgress request.now.progress
         (E.written err.old) (E.written err.new) }
@@ -96,7 +116,7 @@ fn live_plan<R: Threads + Clock, O: Output, E: Output>(
     err: &mut E,
 ) -> Result<(), LiveError>
     ensures ends { (told : Option Telling) → IsPlanOf told plan.now
-        → Ends (O.takes_all out.old) told (request_of request.now)
+        → Ends (O.takes_all out.old) told (live_request_of request.now)
         (O.written out.old) (O.written out.new) (O.keeps_back out.new) result }
     ensures progress { TellsProgress request.now.progress
         (E.written err.old) (E.written err.new) }

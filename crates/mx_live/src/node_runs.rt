@@ -1,7 +1,7 @@
 //! Runs each node of a plan in a thread, and gathers the stations.
 
 ghost use Rattle.std.specs.Prelude.{◌≡◌, ◌⊎◌, length, IfErr, IfNone, IfOk, IfSome};
-ghost use Rattle.mx_cli.specs.LiveWords.{request_of};
+ghost use Rattle.mx_cli.specs.Requests.{live_request_of};
 ghost use Rattle.mx_stations.specs.Gathered.{IsGathered, OfOneTable};
 ghost use Rattle.mx_jobs.specs.Serial.{AreSerial};
 ghost use Rattle.mx_live.specs.LiveErrors.{EndInVain, FirstNotDone, HasNone, RunsInVain};
@@ -36,8 +36,8 @@ pub(crate) fn live_by_shape<R: Threads + Clock, E: Output>(
     ensures sections { IfOk result (λ all.
         HaveSections (length plan.now.nodes) request.now.sections all.receipts.items) }
     ensures come { IfOk result (λ all.
-        ComeOf plan.now (orders_in (request_of request.now)) all.receipts.items all.journal) }
-    ensures err { IfErr result (HasNone plan.now (orders_in (request_of request.now))) }
+        ComeOf plan.now (orders_in (live_request_of request.now)) all.receipts.items all.journal) }
+    ensures err { IfErr result (HasNone plan.now (orders_in (live_request_of request.now))) }
     ensures progress { TellsProgress request.now.progress
         (E.written err.old) (E.written err.new) }
     ensures stays { E.takes_all err.new ≡ E.takes_all err.old }
@@ -75,10 +75,10 @@ where
         → IfOk result (λ all.
         HaveSections (length plan.now.nodes) request.now.sections all.receipts.items
         × AreGathered C.core shape plan.now
-        (orders_in (request_of request.now)) all.receipts.items all.journal) }
+        (orders_in (live_request_of request.now)) all.receipts.items all.journal) }
     ensures err { (shape : C.Shape) → AreAtRest C.core shape plan.now stations.items
         → IfErr result (λ error.
-        RunsInVain C.core shape plan.now (orders_in (request_of request.now)) error
+        RunsInVain C.core shape plan.now (orders_in (live_request_of request.now)) error
         ⊎ (error ≡ LiveError.Memory)) }
     ensures progress { TellsProgress request.now.progress
         (E.written err.old) (E.written err.new) }
@@ -123,7 +123,7 @@ where
     C::Msg: Send + 'static,
     C::Shape: Send + 'static,
     ensures left { IfOk result (λ left.
-        AreLeft C.core (orders_in (request_of request.now)) stations.items left.items) }
+        AreLeft C.core (orders_in (live_request_of request.now)) stations.items left.items) }
     ensures progress { TellsProgress request.now.progress
         (E.written err.old) (E.written err.new) }
     ensures stays { E.takes_all err.new ≡ E.takes_all err.old }
@@ -135,7 +135,7 @@ where
 }
 
 fn orders_of(request: &LiveRequest<'_>) -> WorkerConfig
-    ensures { result ≡ orders_in (request_of request.now) }
+    ensures { result ≡ orders_in (live_request_of request.now) }
 {
     WorkerConfig {
         sections: request.sections,

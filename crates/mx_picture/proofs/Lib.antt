@@ -1,4 +1,2 @@
-mod OutputLemmas
 mod PictureLemmas
-mod RefusedLemmas
 mod SheetLemmas

@@ -1,16 +1,11 @@
 -- The printed picture.
-use Rattle.std.specs.Prelude.{◌≡◌, ◌++◌, ℕ, List, Result, Ok, Err, codes, decimal, length}
-use Rattle.std.specs.Io.KnownBytes.{Appends, Keeps}
-use Rattle.mx_events.specs.declared.event.Event.{Event}
+use Rattle.std.specs.Prelude.{◌≡◌, ◌++◌, ℕ, codes, decimal}
 use Rattle.mx_plan.specs.Text.{Text, line_feed}
 use Rattle.mx_plan.specs.Fields.{Fields}
-use Rattle.mx_plan.specs.Events.{events_at}
 use Rattle.mx_plan.specs.declared.shape.Shape.{Shape}
 use Rattle.mx_plan.specs.declared.shape.Shape.TheVariants.{Ricart, Maekawa, Raymond}
 use Rattle.mx_format.specs.EventTexts.{name_of}
 use Rattle.mx_format.specs.Lines.{texts_from}
-use Rattle.mx_cli.specs.declared.faults.CommandError.{CommandError}
-use Rattle.mx_io.specs.Outputs.{Held}
 use Rattle.mx_picture.specs.declared.opening.Frame.{Frame}
 
 abbrev pub opening_line : Frame → Text
@@ -49,15 +44,3 @@ IsPicture p events picture =
     (frame : Frame) × (body : Text)
     × (picture ≡ opening_line frame ++ title_line p events ++ body
     ++ (codes "</svg>" ++ line_feed))
-
--- a picture of the events that a text lists
-abbrev pub IsPictureOf : Fields → List ℕ → Text → Type 0
-IsPictureOf p bytes picture =
-    (es : List Event) × (events_at p bytes ≡ Ok es) × IsPicture p (length es) picture
-
--- a picture that satisfies `IsDrawn` was added to the output, and the status is 0; or the run ended
--- with an error, and nothing was added
-abbrev pub Draws : (Text → Type 0) → Held → Held → Result ℕ CommandError → Type 0
-Draws IsDrawn old new (Ok status) =
-    (status ≡ 0) × ((picture : Text) × IsDrawn picture × Appends old new picture)
-Draws IsDrawn old new (Err end) = Keeps old new

@@ -1,6 +1,4 @@
--- Drawn: the printed picture. LettersOnly: what `--letters` draws.
--- PictureWords: the arguments of `picture`. Pictures: the outcome of a command line.
+-- Drawn: the printed picture. LettersOnly: what `--letters` draws. Pictures: what `picture` prints.
 pub mod Drawn
 pub mod LettersOnly
-pub mod PictureWords
 pub mod Pictures

@@ -1,48 +1,122 @@
-ghost use Rattle.std.specs.Prelude.{IfSome};
-ghost use Rattle.mx_cli.specs.Words.{texts_of};
-ghost use Rattle.mx_cli.specs.Reports.{Answers, seen};
-ghost use Rattle.mx_picture.specs.PictureWords.{request_asked, request_of, picture_line};
-ghost use Rattle.mx_picture.specs.Pictures.{Pictures};
+//! `picture`: the events of a text happen as in a replay, and are drawn.
 
-use crate::input::draw;
-use crate::words::{Request, parse};
-use mx_cli::{close, refuse};
-use mx_io::{Output, Source};
+ghost use Rattle.std.specs.Prelude.{◌≡◌, None, length, string_bytes, IfErr, IfOk, OnOk};
+ghost use Rattle.std.specs.Result.{result_err};
+ghost use Rattle.mx_cli.specs.Printing.{Prints, sight};
+ghost use Rattle.mx_cli.specs.Requests.{part_of, text_of};
+ghost use Rattle.mx_commands.specs.Jobs.{run_by};
+ghost use Rattle.mx_commands.specs.Ran.{StopsAs};
+ghost use Rattle.mx_commands.specs.Runs.{AllNameNodes};
+ghost use Rattle.mx_picture.specs.Drawn.{IsPicture};
+ghost use Rattle.mx_picture.specs.Pictures.{IsDrawn, IsPictured, fault_of_run, node_fault};
+
+use crate::drawing::Drawing;
+use crate::page::page_of;
+use crate::part::Part;
+use mx_cli::{Command, CommandError, Fault, PictureOptions, Stop, print};
+use mx_commands::observe;
+use mx_io::Output;
+use mx_network::Event;
+use mx_plan::{Place, Plan, PlanFault, read_events};
+use mx_stamps::NodeId;
 use std::alloc::Global;
 
-/// Runs a command line whose first argument is `picture`, without the program's name: reads a plan
-/// and its events, and prints a picture of their outcomes. Returns the exit status.
-pub fn picture<S: Source, O: Output, E: Output>(
-    alloc: Global,
-    words: &[&str],
-    source: &mut S,
-    out: &mut O,
-    err: &mut E,
-) -> u8
-    ensures pictures { IfSome (request_asked (texts_of words.entry.now)) (λ request.
-        Pictures (O.takes_all out.old) (E.takes_all err.old) (S.told source.old) request
-        (seen O.Output E.Output out.old err.old) (seen O.Output E.Output out.new err.new) result) }
-    ensures answers { Answers picture_line (texts_of words.entry.now) (O.takes_all out.old)
-        (seen O.Output E.Output out.old err.old) (seen O.Output E.Output out.new err.new) result }
-{
-    match parse(alloc, words) {
-        Ok(Some(request)) => run_picture(alloc, &request, source, out, err),
-        Ok(None) => 2,
-        Err(e) => refuse(alloc, &e, out, err),
+/// `picture`: a picture of the outcomes of the events that the text lists.
+#[derive(Clone, Copy)]
+pub struct Picture<'a>(pub PictureOptions<'a>);
+
+impl Command for Picture<'_> {
+    ghost reports = { λ c p text. IsPictured (part_of c.0) p text };
+
+    fn run<O: Output>(
+        &self,
+        alloc: Global,
+        plan: &Plan,
+        text: &[u8],
+        out: &mut O,
+    ) -> Result<u8, Stop> {
+        match read_events(alloc, text, plan) {
+            Ok(events) => draw(alloc, plan, &self.0, events.as_slice(), out),
+            Err(fault) => Err(Stop::from(fault)),
+        }
     }
 }
 
-fn run_picture<S: Source, O: Output, E: Output>(
+/// Prints the picture that the options ask for. Returns the status.
+fn draw<O: Output>(
     alloc: Global,
-    request: &Request<'_>,
-    source: &mut S,
+    plan: &Plan,
+    options: &PictureOptions<'_>,
+    events: &[Event],
     out: &mut O,
-    err: &mut E,
-) -> u8
-    ensures { Pictures (O.takes_all out.old) (E.takes_all err.old) (S.told source.old)
-        (request_of request.now)
-        (seen O.Output E.Output out.old err.old) (seen O.Output E.Output out.new err.new) result }
+) -> Result<u8, Stop>
+    requires { AllNameNodes (length plan.now.nodes) events.now }
+    ensures prints { Prints (IsDrawn plan.now events.now
+        (fault_of_run plan.now (text_of options.now.node) events.now))
+        (sight O.Output out.old) (sight O.Output out.new) result }
 {
-    let ended = draw(alloc, request, source, out);
-    close(alloc, ended, &request.names, out, err)
+    match part_of(plan, options) {
+        Ok(part) => print_picture(alloc, plan, &part, events, out),
+        Err(fault) => Err(Stop::Fault(fault)),
+    }
+}
+
+fn part_of(plan: &Plan, options: &PictureOptions<'_>) -> Result<Part, Fault>
+    ensures { result_err result ≡ node_fault plan.now (text_of options.now.node) }
+{
+    let node = node_in(plan, options.node)?;
+    Ok(Part {
+        from: options.from,
+        to: options.to,
+        node,
+        only_letters: options.only_letters,
+    })
+}
+
+fn node_in(plan: &Plan, name: Option<&str>) -> Result<Option<NodeId>, Fault>
+    ensures { result_err result ≡ node_fault plan.now (text_of name.entry) }
+{
+    let Some(name) = name else {
+        return Ok(None);
+    };
+    match plan.node(name) {
+        Some(node) => Ok(Some(node)),
+        None => Err(Fault::BadText(PlanFault::UnknownName(Place::Nodes))),
+    }
+}
+
+fn print_picture<O: Output>(
+    alloc: Global,
+    plan: &Plan,
+    part: &Part,
+    events: &[Event],
+    out: &mut O,
+) -> Result<u8, Stop>
+    requires { AllNameNodes (length plan.now.nodes) events.now }
+    ensures prints { Prints (IsDrawn plan.now events.now
+        (run_by plan.now plan.now.shape events.now).end)
+        (sight O.Output out.old) (sight O.Output out.new) result }
+{
+    match picture_of(alloc, plan, part, events) {
+        Ok(picture) => print(picture.as_bytes(), 0, out),
+        Err(error) => Err(Stop::from(error)),
+    }
+}
+
+fn picture_of(
+    alloc: Global,
+    plan: &Plan,
+    part: &Part,
+    events: &[Event],
+) -> Result<String, CommandError>
+    requires { AllNameNodes (length plan.now.nodes) events.now }
+    ensures whole { IfOk result (λ page.
+        IsPicture plan.now (length events.now) (string_bytes page)) }
+    ensures ok { OnOk result ((run_by plan.now plan.now.shape events.now).end ≡ None) }
+    ensures err { IfErr result (StopsAs (run_by plan.now plan.now.shape events.now)) }
+{
+    let mut drawing = Drawing::new(alloc, events, part)?;
+    observe(alloc, plan, events, &mut drawing)?;
+    let page = page_of(plan, events.len() as u64, part, &drawing.sheet)?;
+    Ok(page)
 }

@@ -5,7 +5,6 @@ mod arrows;
 mod columns;
 mod command;
 mod drawing;
-mod input;
 mod labels;
 mod legend;
 mod letters;
@@ -22,6 +21,5 @@ mod shapes;
 mod sheet;
 mod side;
 mod text;
-mod words;
 
-pub use command::picture;
+pub use command::Picture;

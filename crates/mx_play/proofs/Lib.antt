@@ -10,3 +10,4 @@ pub mod PlayedLemmas
 mod CommandLemmas
 mod WordLemmas
 mod SameLineLemmas
+mod RequestLemmas

@@ -8,5 +8,4 @@ pub mod SameLines
 pub mod LineTurns
 pub mod Sessions
 pub mod Turns
-pub mod PlayWords
 pub mod Played

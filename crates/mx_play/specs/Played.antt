@@ -11,10 +11,12 @@ use Rattle.mx_plan.specs.Fields.{Fields}
 use Rattle.mx_plan.specs.declared.shape.Shape.{Shape}
 use Rattle.mx_plan.specs.declared.shape.Shape.TheVariants.{Ricart, Maekawa, Raymond}
 use Rattle.mx_format.specs.LetterTexts.{ricart_text, maekawa_text, raymond_text}
+use Rattle.mx_cli.specs.Frames.{IsRunStatus}
 use Rattle.mx_cli.specs.Reading.{IsPlanOf, IsRead, is_dash}
+use Rattle.mx_cli.specs.Reports.{Declines, Seen}
+use Rattle.mx_cli.specs.Requests.{Request, play}
 use Rattle.mx_io.specs.Told.{Telling}
 use Rattle.mx_io.specs.Outputs.{Held}
-use Rattle.mx_play.specs.PlayWords.{Request}
 use Rattle.mx_play.specs.Lines.{first_of, session_lines}
 use Rattle.mx_play.specs.Turns.{IsPlayed}
 
@@ -57,11 +59,24 @@ told_of_script told (Some name) = told_of_name told name
 abbrev pub IsScriptOf : Option Telling → Text → Type 0
 IsScriptOf told text = IfSome told (λ telling. telling ≡ Some text)
 
--- the plan and the script were read, and a session was played: the lines of the script, and then
--- those that come, without the plan if it is the first of them
-abbrev pub HasPlayed : (Text → Option Telling) → Option (List Text) → Request → Held → Held
+-- the plan and the script of these names were read, and a session was played: the lines of the
+-- script, and then those that come, without the plan if it is the first of them
+abbrev pub HasPlayed : (Text → Option Telling) → Option (List Text) → Text → Option Text → Held
+    → Held → Type 0
+HasPlayed told lines plan first old new =
+    (p : Fields) × (script : Text) × IsPlanNamed told plan lines p
+    × IsScriptOf (told_of_script told first) script
+    × IsPlayedBy p script (session_lines (is_dash plan) lines) old new p.shape
+
+-- with status 0, a session was played, and all that it printed was passed on
+pub record Plays (told : Text → Option Telling) (lines : Option (List Text)) (plan : Text)
+    (first : Option Text) (old new : Seen) (status : ℕ) : Type 0 where
+  pub played : status ≡ 0 → HasPlayed told lines plan first old.out new.out
+  pub passed : status ≡ 0 → new.kept_back ≡ false
+  pub status_is : IsRunStatus status
+
+-- what a request does: a session; for all others, nothing is written, and the status is 2
+abbrev pub PlaysAs : (Text → Option Telling) → Option (List Text) → Request → Seen → Seen → ℕ
     → Type 0
-HasPlayed told lines request old new =
-    (p : Fields) × (script : Text) × IsPlanNamed told request.0 lines p
-    × IsScriptOf (told_of_script told request.1) script
-    × IsPlayedBy p script (session_lines (is_dash request.0) lines) old new p.shape
+PlaysAs told lines (play plan first) old new status = Plays told lines plan first old new status
+PlaysAs told lines _ old new status = Declines old new status

@@ -1,22 +1,23 @@
 //! `play`, from the words of a command line to the exit status.
 
-ghost use Rattle.std.specs.Prelude.{◌≡◌, false, IsSome, IfSome};
+ghost use Rattle.std.specs.Prelude.{◌≡◌, false, IfSome};
+ghost use Rattle.mx_cli.specs.Table.{mx_app};
 ghost use Rattle.mx_cli.specs.Words.{texts_of};
+ghost use Rattle.mx_cli.specs.Requests.{AskNothing, request_asked, request_of, text_of};
 ghost use Rattle.mx_cli.specs.Reports.{Answers, Declines, seen};
-ghost use Rattle.mx_cli.specs.Closed.{IsRunStatus};
-ghost use Rattle.mx_play.specs.PlayWords.{AskNothing, play_line, request_asked, request_of};
-ghost use Rattle.mx_play.specs.Played.{HasPlayed, IsPlayedBy};
+ghost use Rattle.mx_cli.specs.Frames.{IsRunStatus};
+ghost use Rattle.mx_play.specs.Played.{HasPlayed, IsPlayedBy, PlaysAs};
 
 use crate::lines::Lines;
 use crate::session_files::fetch_start;
 use crate::shapes::run_by_plan;
-use crate::words::{Request, parse};
-use mx_cli::{Names, PlanAndText, close, refuse};
+use mx_cli::{Names, PlanAndText, Request, Stop, close, parse, refuse};
+use mx_commands::ended_as;
 use mx_io::{Output, Source};
 use std::alloc::Global;
 
-/// Runs a command line whose first argument is `play`, without the program's name, on the lines of
-/// a session. Returns the exit status.
+/// Runs a command line that asks for `play`, without the program's name, on the lines of a session.
+/// Returns the exit status. For all other requests, writes nothing and returns 2.
 pub fn play<S: Source, L: Lines, O: Output, E: Output>(
     alloc: Global,
     words: &[&str],
@@ -26,24 +27,21 @@ pub fn play<S: Source, L: Lines, O: Output, E: Output>(
     err: &mut E,
 ) -> u8
     ensures played { IfSome (request_asked (texts_of words.entry.now)) (λ request.
-        result ≡ 0 → HasPlayed (S.told source.old) (L.rest lines.old) request
-        (O.written out.old) (O.written out.new)) }
-    ensures passed { IsSome (request_asked (texts_of words.entry.now))
-        → result ≡ 0 → O.keeps_back out.new ≡ false }
-    ensures status { IsSome (request_asked (texts_of words.entry.now)) → IsRunStatus result }
-    ensures answers { Answers play_line (texts_of words.entry.now) (O.takes_all out.old)
+        PlaysAs (S.told source.old) (L.rest lines.old) request
+        (seen O.Output E.Output out.old err.old) (seen O.Output E.Output out.new err.new) result) }
+    ensures answers { Answers mx_app (texts_of words.entry.now) (O.takes_all out.old)
         (seen O.Output E.Output out.old err.old) (seen O.Output E.Output out.new err.new) result }
     ensures other { AskNothing (texts_of words.entry.now) → Declines
         (seen O.Output E.Output out.old err.old) (seen O.Output E.Output out.new err.new) result }
 {
     match parse(alloc, words) {
-        Ok(Some(request)) => play_request(alloc, &request, source, lines, out, err),
+        Ok(Some(request)) => carry_out(alloc, &request, source, lines, out, err),
         Ok(None) => 2,
         Err(e) => refuse(alloc, &e, out, err),
     }
 }
 
-fn play_request<S: Source, L: Lines, O: Output, E: Output>(
+fn carry_out<S: Source, L: Lines, O: Output, E: Output>(
     alloc: Global,
     request: &Request<'_>,
     source: &mut S,
@@ -51,15 +49,44 @@ fn play_request<S: Source, L: Lines, O: Output, E: Output>(
     out: &mut O,
     err: &mut E,
 ) -> u8
+    ensures { PlaysAs (S.told source.old) (L.rest lines.old) (request_of request.now)
+        (seen O.Output E.Output out.old err.old) (seen O.Output E.Output out.new err.new) result }
+{
+    match request {
+        Request::Play { plan, script } => {
+            play_plan(alloc, plan, *script, source, lines, out, err)
+        }
+        _ => 2,
+    }
+}
+
+/// Plays a session of the plan of this name. The lines of the script come first, if one is named.
+fn play_plan<S: Source, L: Lines, O: Output, E: Output>(
+    alloc: Global,
+    plan: &str,
+    script: Option<&str>,
+    source: &mut S,
+    lines: &mut L,
+    out: &mut O,
+    err: &mut E,
+) -> u8
     ensures played { result ≡ 0 → HasPlayed (S.told source.old) (L.rest lines.old)
-        (request_of request.now)
-        (O.written out.old) (O.written out.new) }
+        plan.now (text_of script.entry) (O.written out.old) (O.written out.new) }
     ensures passed { result ≡ 0 → O.keeps_back out.new ≡ false }
     ensures status { IsRunStatus result }
 {
-    match fetch_start(alloc, request, source, lines) {
-        Ok(start) => play_and_close(alloc, request.plan, &start, lines, out, err),
-        Err(error) => close(alloc, Err(error), &request.names(), out, err),
+    match fetch_start(alloc, plan, script, source, lines) {
+        Ok(start) => play_and_close(alloc, plan, &start, lines, out, err),
+        Err(error) => {
+            let events = script.unwrap_or("-");
+            close(
+                alloc,
+                Err(Stop::from(error)),
+                &Names { plan, events },
+                out,
+                err,
+            )
+        }
     }
 }
 
@@ -78,5 +105,5 @@ fn play_and_close<L: Lines, O: Output, E: Output>(
 {
     let names = Names { plan, events: "-" };
     let ended = run_by_plan(alloc, start, lines, out, err);
-    close(alloc, ended, &names, out, err)
+    close(alloc, ended_as(ended), &names, out, err)
 }

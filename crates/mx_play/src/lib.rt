@@ -20,7 +20,6 @@ mod shown_parcels;
 mod typed_lines;
 mod undo;
 mod views;
-mod words;
 
 pub use command::play;
 pub use lines::{LineRead, Lines, reads_as_script};

@@ -1,13 +1,12 @@
 //! The files of a session: its plan, and a script whose lines come first.
 
-ghost use Rattle.std.specs.Prelude.{◌≡◌, true, IfOk, option_map};
+ghost use Rattle.std.specs.Prelude.{◌≡◌, true, IfOk};
 ghost use Rattle.mx_cli.specs.Reading.{is_dash};
-ghost use Rattle.mx_play.specs.PlayWords.{request_of};
+ghost use Rattle.mx_cli.specs.Requests.{text_of};
 ghost use Rattle.mx_play.specs.Lines.{AreLeft, session_lines};
 ghost use Rattle.mx_play.specs.Played.{IsLinePlan, IsPlanNamed, IsScriptOf, told_of_script};
 
 use crate::lines::{LineRead, Lines};
-use crate::words::Request;
 use mx_cli::{CommandError, Fault, Named, PlanAndText, fetch, fetch_plan, plan_in};
 use mx_io::Source;
 use mx_plan::Plan;
@@ -15,20 +14,21 @@ use std::alloc::Global;
 
 pub(crate) fn fetch_start<S: Source, L: Lines>(
     alloc: Global,
-    request: &Request<'_>,
+    plan: &str,
+    script: Option<&str>,
     source: &mut S,
     lines: &mut L,
 ) -> Result<PlanAndText, CommandError>
     ensures plan { IfOk result (λ start.
-        IsPlanNamed (S.told source.old) request.now.plan.now (L.rest lines.old) start.plan) }
+        IsPlanNamed (S.told source.old) plan.now (L.rest lines.old) start.plan) }
     ensures left { IfOk result (λ _.
-        AreLeft (session_lines (is_dash request.now.plan.now) (L.rest lines.old))
+        AreLeft (session_lines (is_dash plan.now) (L.rest lines.old))
         (L.rest lines.new)) }
     ensures script { IfOk result (λ start. IsScriptOf
-        (told_of_script (S.told source.old) (request_of request.now).1) start.text.items) }
+        (told_of_script (S.told source.old) (text_of script.entry)) start.text.items) }
 {
-    let plan = plan_of(alloc, request.plan, source, lines)?;
-    let text = script_of(alloc, request.script, source)?;
+    let plan = plan_of(alloc, plan, source, lines)?;
+    let text = script_of(alloc, script, source)?;
     Ok(PlanAndText { plan, text })
 }
 
@@ -72,7 +72,7 @@ fn script_of<S: Source>(
     source: &mut S,
 ) -> Result<Vec<u8>, CommandError>
     ensures { IfOk result (λ text. IsScriptOf (told_of_script (S.told source.old)
-        (option_map (λ name. name.now) name.entry)) text.items) }
+        (text_of name.entry)) text.items) }
 {
     let Some(name) = name else {
         return Ok(Vec::new(alloc));

@@ -1,23 +1,22 @@
 //! The hint for a reader at a terminal: which command shows the place of a fault and its reason.
 
-use mx_cli::{CommandId, command_in, takes_value, write_line};
+use mx_cli::{Request, is_explained, parse, write_line};
 use mx_io::Output;
 use std::alloc::Global;
 use std::fmt;
 
-/// The line of a hint: `explain` with the files among these arguments of another command.
+/// The line of a hint: `explain` with the files of another command.
 #[derive(Clone, Copy)]
-struct Hint<'a>(&'a [&'a str]);
+struct Hint<'a> {
+    plan: &'a str,
+    events: Option<&'a str>,
+}
 
 impl fmt::Display for Hint<'_> {
     fn fmt<W: fmt::Write>(&self, f: &mut fmt::Formatter<W>) -> fmt::Result {
-        f.write_str("mx: 'mx explain")?;
-        let mut is_value = false;
-        for word in self.0 {
-            if !is_value && !word.starts_with("--") {
-                write!(f, " {word}")?;
-            }
-            is_value = takes_value(word);
+        write!(f, "mx: 'mx explain {}", self.plan)?;
+        if let Some(events) = self.events {
+            write!(f, " {events}")?;
         }
         f.write_str("' says where and why\n")
     }
@@ -26,34 +25,36 @@ impl fmt::Display for Hint<'_> {
 /// Writes the hint for a fault of the command line `words`: the `explain` command for its files.
 /// Writes nothing if one of them is standard input (`-`), or if the command has no hint.
 pub(crate) fn tell_hint<E: Output>(alloc: Global, words: &[&str], err: &mut E) {
-    let Some((_, names)) = words.split_first() else {
+    if !words.first().is_some_and(|name| is_explained(name)) {
+        return;
+    }
+    let Ok(Some(request)) = parse(alloc, words) else {
         return;
     };
-    let is_explained = match command_in(words) {
-        Some(id) => is_explained(id),
-        None => false,
-    };
-    if is_explained && !names.contains(&"-") {
-        let _ = write_line(alloc, err, Hint(names));
+    match hint_for(&request) {
+        Some(hint) if hint.plan != "-" && hint.events != Some("-") => {
+            let _ = write_line(alloc, err, hint);
+        }
+        _ => {}
     }
 }
 
-fn is_explained(id: CommandId) -> bool {
-    match id {
-        CommandId::Check
-        | CommandId::CheckJson
-        | CommandId::Replay
-        | CommandId::ReplayView
-        | CommandId::Explore
-        | CommandId::ExploreCount
-        | CommandId::ExploreWalk
-        | CommandId::Live => true,
-        CommandId::Draw
-        | CommandId::Script
-        | CommandId::Play
-        | CommandId::Picture
-        | CommandId::Count
-        | CommandId::Judge
-        | CommandId::Explain => false,
-    }
+/// Returns the hint for the files that a request names.
+fn hint_for<'a>(request: &Request<'a>) -> Option<Hint<'a>> {
+    let (plan, events) = match request {
+        Request::Check { plan, .. } => (*plan, None),
+        Request::Explore { exploration, .. }
+        | Request::ExploreWalk(exploration, _)
+        | Request::Draw(exploration, _) => (exploration.plan, None),
+        Request::Live(run) => (run.plan, None),
+        Request::Play { plan, script } => (*plan, *script),
+        Request::Replay(names, _)
+        | Request::Script(names)
+        | Request::Picture(names, _)
+        | Request::Count { names, .. }
+        | Request::Judge(names) => (names.plan, Some(names.events)),
+        Request::Explain { plan, second, .. } => (*plan, *second),
+        Request::Misfit(_) => return None,
+    };
+    Some(Hint { plan, events })
 }

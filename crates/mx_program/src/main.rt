@@ -1,23 +1,14 @@
-//! `mx`, the program. It passes the arguments, files and streams of the process to the function for
-//! the command that the arguments name. `command` takes `check`, `replay` and `explore`, unless an
-//! option chooses another form of these, and arguments that name no command.
+//! `mx`, the program. It passes the arguments, files and streams of the process to the functions that
+//! run commands: `live`, which starts threads, `play`, which reads lines as they are typed, and `run`.
 #![tactic(auto)]
 
 mod hints;
 
 use crate::hints::tell_hint;
-use mx_cli::{CommandId, command_in};
-use mx_commands::command;
-use mx_count::count;
-use mx_explain::explain;
+use mx_dispatch::run;
 use mx_io::{Output, Stream, Streams, as_slices, given_words, status_of};
-use mx_judge::judge_trace;
 use mx_live::live;
-use mx_picture::picture;
 use mx_play::{Typed, play};
-use mx_scripts::event_file;
-use mx_views::{check_objects, replay_view};
-use mx_walks::explore_walk;
 use std::alloc::AllocError;
 use std::io;
 use std::io::{BufWriter, IsTerminal, Write};
@@ -36,24 +27,10 @@ where
 {
     let alloc = rt.alloc();
     let mut source = Streams { rt };
-    match command_in(words) {
-        Some(CommandId::CheckJson) => check_objects(alloc, words, &mut source, out, err),
-        Some(CommandId::Count | CommandId::ExploreCount) => {
-            count(alloc, words, &mut source, out, err)
-        }
-        Some(CommandId::Draw | CommandId::Script) => {
-            event_file(alloc, words, &mut source, out, err)
-        }
-        Some(CommandId::Explain) => explain(alloc, words, &mut source, out, err),
-        Some(CommandId::ExploreWalk) => explore_walk(alloc, words, &mut source, out, err),
-        Some(CommandId::Judge) => judge_trace(alloc, words, &mut source, out, err),
-        Some(CommandId::Live) => live(rt, alloc, words, &mut source, out, err),
-        Some(CommandId::Picture) => picture(alloc, words, &mut source, out, err),
-        Some(CommandId::Play) => { play(alloc, words, &mut source, &mut typed_lines(rt), out, err) }
-        Some(CommandId::ReplayView) => replay_view(alloc, words, &mut source, out, err),
-        Some(CommandId::Check | CommandId::Replay | CommandId::Explore) | None => {
-            command(alloc, words, &mut source, out, err)
-        }
+    match words.first() {
+        Some(&"live") => live(rt, alloc, words, &mut source, out, err),
+        Some(&"play") => play(alloc, words, &mut source, &mut typed_lines(rt), out, err),
+        _ => run(alloc, words, &mut source, out, err),
     }
 }
 

@@ -5,7 +5,6 @@ pub mod PlayedLemmas
 pub mod ItemLemmas
 pub mod ReadLemmas
 pub mod DrawnLemmas
-pub mod PrintedLemmas
-pub mod EndedLemmas
+pub mod StopLemmas
 pub mod OverLemmas
 pub mod LineLemmas

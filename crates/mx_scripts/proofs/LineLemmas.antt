@@ -1,5 +1,5 @@
 -- What the lines of a script do.
-use Rattle.std.proofs.Common.{◌≡◌, ◌≤◌, ◌<◌, ◌∙◌, ℕ, zero, suc, List, [], ◌∷◌, ◌++◌, Option, Some, None, Result, Ok, Err, OnOk, IfOk, IfSome, length, add-one, ◌+◌, ◌-◌, refl, sym, ap, subst, arith, get_or, inl, inr, take, ◌⊎◌}
+use Rattle.std.proofs.Common.{◌≡◌, ◌≤◌, ◌<◌, ◌∙◌, ℕ, zero, suc, List, [], ◌∷◌, ◌++◌, Option, Some, None, Result, Ok, Err, OnOk, IfOk, IfSome, length, add-one, ◌+◌, ◌-◌, ◌^◌, min, refl, sym, ap, subst, arith, get_or, inl, inr, take, ◌⊎◌}
 use Rattle.std.specs.Prelude.{IfErr, IsErrAnd, IsTrue}
 use Rattle.std.specs.Borrow.{Bor}
 use Rattle.std.proofs.lemmas.List.{length-append, length-map, map-append}
@@ -23,17 +23,18 @@ use Rattle.mx_scripts.specs.Fates.{Fates, is_under_way}
 use Rattle.mx_scripts.specs.Lines.{DoesAll, DoesIfSome, DoesText, IsNext, Once, Performs, IsNotDone, Misreads, Reads, Repeats, StopsAfter, StopsAt, StopsBy, StopsWithin}
 use Rattle.mx_scripts.specs.Files.{file_text}
 use Rattle.mx_scripts.specs.Played.{Plays, events_of}
-use Rattle.mx_scripts.specs.ScriptFiles.{IsFileOfScript, IsShort, StopsFrom}
+use Rattle.mx_scripts.specs.ScriptFiles.{IsFileOfScript, StopsFrom}
 use Rattle.mx_scripts.proofs.OverLemmas.{read_over}
 use Rattle.mx_scripts.proofs.PlayedLemmas.{file_of_played, noted, plays_step}
-use Rattle.mx_scripts.specs.Scripts.{IsOver, failure_of_step}
+use Rattle.mx_scripts.specs.Scripts.{HasLine, IsLineOf, IsOver, failure_of_step}
 use Rattle.mx_scripts.specs.States.{Admits, Brings, IsAllowed, IsDrawnOf, IsNotApplied, RunState, before_any}
-use Rattle.mx_scripts.specs.declared.script_error.LineFailure.{LineFailure}
-use Rattle.mx_scripts.specs.declared.script_error.LineFailure.TheVariants as failure
-use Rattle.mx_scripts.specs.declared.script_error.ScriptError.{ScriptError}
+use Rattle.mx_scripts.specs.declared.line_failure.LineFailure.{LineFailure}
+use Rattle.mx_scripts.specs.declared.line_failure.LineFailure.TheVariants as failure
+use Rattle.mx_cli.specs.declared.stop.Stop.{Stop}
 use Rattle.mx_scripts.specs.declared.state.SessionEvent.{SessionEvent}
 use Rattle.mx_scripts.specs.declared.state.SessionEvent.TheVariants.{Happens, IsLost, LinksChange}
 use Rattle.mx_scripts.proofs.FateLemmas.{waiting_under_way}
+use Rattle.mx_scripts.proofs.StopLemmas.{line_as}
 
 not_none : {A : Type 0} (x : A) → ◌≡◌ {A = Option A} (Some x) None → ⊥
 not_none x e = cc
@@ -277,18 +278,20 @@ module _ {H S M : Type 0} (core : Core H S M) (p : Fields) where
     file = file_of_played core p start last.cluster trace text empty (all_plays (lines script) (before_any start) last does) same is;
   }
 
-  pub file_from : {T : Type 0} (bytes : T → Text) (script : Text) (start : ClusterState S M) (old last : RunState S M) (r : Result T ScriptError) → old ≡ before_any start → start.trace ≡ []
+  pub file_from : {T E : Type 0} (bytes : T → Text) (script : Text) (start : ClusterState S M) (old last : RunState S M) (r : Result T E) → old ≡ before_any start → start.trace ≡ []
       → OnOk r (DoesAll core p (lines script) old last) → IfOk r (λ t. bytes t ≡ file_text p (events_of last.cluster.trace)) → IfOk r (λ t. IsFileOfScript core p start script (bytes t))
   file_from bytes script start old last (Ok t) fresh empty does is =
       file_of_lines script start last last.cluster.trace (bytes t) empty (subst (λ (s : RunState S M). DoesAll core p (lines script) s last) fresh does) refl is
   file_from bytes script start old last (Err e) fresh empty does is = tt
 
   -- lines that give no file, from before any parcel was sent
-  pub none_from : {T : Type 0} (script : Text) (start : ClusterState S M) (old : RunState S M) (r : Result T ScriptError) → old ≡ before_any start
-      → IfErr r (λ e. IsShort e ⊎ StopsBy core p (lines script) old e) → IfErr r (λ e. IsShort e ⊎ StopsFrom core p start script e)
+  stops_from : (script line : Text) (start : ClusterState S M) (old : RunState S M) → old ≡ before_any start → StopsBy core p (lines script) old line → StopsFrom core p start script line
+  stops_from script line start old fresh h = record { stops = subst (λ (s : RunState S M). StopsBy core p (lines script) s line) fresh h }
+
+  pub none_from : {T : Type 0} (script : Text) (start : ClusterState S M) (old : RunState S M) (r : Result T Stop) → old ≡ before_any start
+      → IfErr r (HasLine (StopsBy core p (lines script) old)) → IfErr r (HasLine (StopsFrom core p start script))
   none_from script start old (Ok t) fresh h = tt
-  none_from script start old (Err e) fresh (inl h) = inl h
-  none_from script start old (Err e) fresh (inr h) = inr (record { stops = subst (λ (s : RunState S M). StopsBy core p (lines script) s e) fresh h })
+  none_from script start old (Err s) fresh h = line_as s (λ line. stops_from script line start old fresh) h
 
   -- ---- a loop over the lines
 
@@ -325,3 +328,8 @@ module _ {H S M : Type 0} (core : Core H S M) (p : Fields) where
     slice_get_read texts (length texts) (length yielded) text refl turn.0 turn.1,
     not,
   )
+
+  -- its line is that of the script
+  pub stops_line : (texts : List Text) (old : RunState S M) (n number : ℕ) (why : LineFailure) (s : Stop) → number ≡ min (n + 1) (2 ^ 64 - 1) → StopsAt core p texts old n why
+      → HasLine (IsLineOf number why) s → HasLine (StopsBy core p texts old) s
+  stops_line texts old n number why s next stops h = line_as {P = IsLineOf number why} {Q = StopsBy core p texts old} s (λ line is. (n, why, stops, subst (λ (k : ℕ). IsLineOf k why line) next is)) h

@@ -1,7 +1,6 @@
 -- Events that happened, one after another.
 use Rattle.std.proofs.Common.{◌≡◌, ◌<◌, ◌∙◌, ◌⊎◌, ℕ, zero, suc, List, [], ◌∷◌, ◌++◌, Option, Some, None, Result, Ok, Err, length, ap, subst, sym, refl, inl, inr, IfSome}
-use Rattle.std.specs.Prelude.{IfOk, OnOk}
-use Rattle.std.specs.Bool.{⊤}
+use Rattle.std.specs.Prelude.{IfOk}
 use Rattle.std.proofs.lemmas.List.{map-append}
 use Rattle.mx_stamps.specs.Lists.{IsIn}
 use Rattle.mx_stamps.proofs.Lists.{in_append}
@@ -22,7 +21,7 @@ use Rattle.mx_explorer.specs.Drawn.{IsDrawn}
 use Rattle.mx_explorer.specs.Place.{place_of}
 use Rattle.mx_commands.specs.Explored.{after_drawn, after_placed, or_stay}
 use Rattle.mx_commands.specs.Runs.{at_rest}
-use Rattle.mx_walks.specs.declared.conditions.Conditions.{Conditions}
+use Rattle.mx_cli.specs.declared.request.Conditions.{Conditions}
 use Rattle.mx_walks.specs.Walk.{WalkState, next_step}
 use Rattle.mx_walks.specs.Walked.{after_step, walk_after, walked}
 use Rattle.mx_walks.proofs.StepLemmas.{next_named}
@@ -116,12 +115,6 @@ module _ {H S M : Type 0} (core : Core H S M) where
       → IfOk r (λ text. IsFileOf core p start (bytes text))
   file_if_played bytes p start g trace (Ok text) empty plays same is = file_of_played p start g trace (bytes text) empty plays same is
   file_if_played bytes p start g trace (Err e) empty plays same is = tt
-
-  -- the file of what was drawn
-  pub file_drawn : {E : Type 0} (p : Fields) (start g : ClusterState S M) (es : List Event) (trace : List Entry) (old text : Text) (w : Result ⊤ E) → after_drawn core start es ≡ g
-      → trace ≡ g.trace → OnOk w (text ≡ old ++ file_text p (events_of trace)) → OnOk w (text ≡ old ++ file_text p (events_of (after_drawn core start es).trace))
-  file_drawn p start g es trace old text w drawn same is =
-      subst (λ (t : List Entry). OnOk w (text ≡ old ++ file_text p (events_of t))) (same ∙ sym (ap (λ (x : ClusterState S M). x.trace) drawn)) is
 
 -- the file of what the trace has, where there is one
 pub file_of_trace : {A E : Type 0} (bytes : A → Text) (p : Fields) (trace others : List Entry) (r : Result A E) → trace ≡ others

@@ -11,7 +11,7 @@ use Rattle.mx_plan.specs.declared.shape.Shape.{Shape}
 use Rattle.mx_plan.specs.declared.shape.Shape.TheVariants.{Ricart, Maekawa, Raymond}
 use Rattle.mx_commands.specs.Explored.{after_drawn, schedule_of}
 use Rattle.mx_commands.specs.Runs.{at_rest}
-use Rattle.mx_walks.specs.declared.conditions.Conditions.{Conditions}
+use Rattle.mx_cli.specs.declared.request.Conditions.{Conditions}
 use Rattle.mx_walks.specs.Walked.{after_walk}
 use Rattle.mx_scripts.specs.Files.{file_text}
 use Rattle.mx_scripts.specs.Played.{events_of}

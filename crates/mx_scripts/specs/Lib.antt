@@ -8,5 +8,3 @@ pub mod States
 pub mod Lines
 pub mod ScriptFiles
 pub mod Printed
-pub mod Ended
-pub mod Words

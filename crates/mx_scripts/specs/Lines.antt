@@ -18,11 +18,10 @@ use Rattle.mx_lines.specs.declared.orders.Order.TheVariants as order
 use Rattle.mx_lines.specs.declared.orders.Scope.TheVariants.{Link}
 use Rattle.mx_scripts.specs.Fates.{Fates, IsOldest, NoneWaits, can_arrive, is_waiting}
 use Rattle.mx_scripts.specs.Links.{link_of}
-use Rattle.mx_scripts.specs.Scripts.{IsErrorAt}
+use Rattle.mx_scripts.specs.Scripts.{IsLineOf}
 use Rattle.mx_scripts.specs.States.{Bars, Brings, IsAllowed, IsNotApplied, RunState}
-use Rattle.mx_scripts.specs.declared.script_error.LineFailure.{LineFailure}
-use Rattle.mx_scripts.specs.declared.script_error.LineFailure.TheVariants as failure
-use Rattle.mx_scripts.specs.declared.script_error.ScriptError.{ScriptError}
+use Rattle.mx_scripts.specs.declared.line_failure.LineFailure.{LineFailure}
+use Rattle.mx_scripts.specs.declared.line_failure.LineFailure.TheVariants as failure
 use Rattle.mx_scripts.specs.declared.state.SessionEvent.{SessionEvent}
 use Rattle.mx_scripts.specs.declared.state.SessionEvent.TheVariants.{Happens, IsLost, LinksChange}
 
@@ -166,9 +165,9 @@ module _ {H S M : Type 0} (core : Core H S M) where
         (text : Text) × (mid : RunState S M) × DoesAll (take n texts) old mid
         × (slice_get texts n ≡ Some text) × IsNotDone text mid why
 
-    -- the error is that of the first line that is not done. Its number counts from 1, up to the
+    -- the text is the line of the first line that is not done. Its number counts from 1, up to the
     -- greatest of 64 bits
-    abbrev pub StopsBy : List Text → RunState S M → ScriptError → Type 0
-    StopsBy texts old error =
+    abbrev pub StopsBy : List Text → RunState S M → Text → Type 0
+    StopsBy texts old line =
         (n : ℕ) × (why : LineFailure) × StopsAt texts old n why
-        × IsErrorAt (min (n + 1) (2 ^ 64 - 1)) why error
+        × IsLineOf (min (n + 1) (2 ^ 64 - 1)) why line

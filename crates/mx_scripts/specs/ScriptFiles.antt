@@ -1,5 +1,5 @@
 -- The file of a script.
-use Rattle.std.specs.Prelude.{◌≡◌, ◌≤◌, length}
+use Rattle.std.specs.Prelude.{◌≡◌, ◌⊎◌, ◌≤◌, ℕ, [], length, IsUtf8}
 use Rattle.std.specs.Str.Lines.{lines}
 use Rattle.mx_stamps.specs.declared.limits.TheConstants.{MAX_EVENTS}
 use Rattle.mx_nodelaws.specs.Core.{Core}
@@ -11,14 +11,13 @@ use Rattle.mx_plan.specs.Text.{Text}
 use Rattle.mx_plan.specs.Fields.{Fields}
 use Rattle.mx_plan.specs.declared.shape.Shape.{Shape}
 use Rattle.mx_plan.specs.declared.shape.Shape.TheVariants.{Ricart, Maekawa, Raymond}
-use Rattle.mx_cli.specs.declared.faults.CommandError.TheVariants as command_error
+use Rattle.mx_lines.specs.declared.errors.LineFault.TheVariants.{NotText}
 use Rattle.mx_commands.specs.Runs.{at_rest}
 use Rattle.mx_scripts.specs.Files.{file_text}
 use Rattle.mx_scripts.specs.Lines.{DoesAll, StopsBy}
 use Rattle.mx_scripts.specs.Played.{IsFileOf, events_of}
+use Rattle.mx_scripts.specs.Scripts.{script_line}
 use Rattle.mx_scripts.specs.States.{RunState, before_any}
-use Rattle.mx_scripts.specs.declared.script_error.ScriptError.{ScriptError}
-use Rattle.mx_scripts.specs.declared.script_error.ScriptError.TheVariants as script_error
 
 -- the text is the file of what the lines of a script do, one after another: at most a million
 -- events, which can happen in the cluster
@@ -39,21 +38,31 @@ IsScriptFile p script text (Maekawa family) =
 IsScriptFile p script text (Raymond tree) =
     IsFileOfScript raymond_core p (at_rest raymond_core p tree) script text
 
--- the error is that memory ran out
-abbrev pub IsShort : ScriptError → Type 0
-IsShort error = error ≡ script_error.Command command_error.Memory
+-- ---- why there is none
 
--- the error is that of the first line of a script that is not done, in a cluster
+-- the text is printed of the first line of a script that is not done, in a cluster
 pub record StopsFrom {H S M : Type 0} (core : Core H S M) (p : Fields) (start : ClusterState S M)
-    (script : Text) (error : ScriptError) : Type 0 where
-  pub stops : StopsBy core p (lines script) (before_any start) error
+    (script line : Text) : Type 0 where
+  pub stops : StopsBy core p (lines script) (before_any start) line
 
--- the error is that of the first line of a script that is not done in the cluster of a plan, at
+-- the text is printed of the first line of a script that is not done in the cluster of a plan, at
 -- rest
-abbrev pub StopsInPlan : Fields → Text → ScriptError → Shape → Type 0
-StopsInPlan p script error (Ricart count) =
-    StopsFrom ricart_core p (at_rest ricart_core p count) script error
-StopsInPlan p script error (Maekawa family) =
-    StopsFrom maekawa_core p (at_rest maekawa_core p family) script error
-StopsInPlan p script error (Raymond tree) =
-    StopsFrom raymond_core p (at_rest raymond_core p tree) script error
+abbrev pub StopsInPlan : Fields → Text → Text → Shape → Type 0
+StopsInPlan p script line (Ricart count) =
+    StopsFrom ricart_core p (at_rest ricart_core p count) script line
+StopsInPlan p script line (Maekawa family) =
+    StopsFrom maekawa_core p (at_rest maekawa_core p family) script line
+StopsInPlan p script line (Raymond tree) =
+    StopsFrom raymond_core p (at_rest raymond_core p tree) script line
+
+-- the text is printed of a line that is not in UTF-8
+abbrev pub IsNotTextLine : Text → Type 0
+IsNotTextLine line = (k : ℕ) × (line ≡ script_line k NotText [])
+
+-- the script is not in UTF-8, and the text says so
+abbrev pub IsNotText : Text → Text → Type 0
+IsNotText script line = ¬ (IsUtf8 script) × IsNotTextLine line
+
+-- the text is printed of a script that is refused: it is not in UTF-8, or a line is not done
+abbrev pub IsRefusedScript : Fields → Text → Text → Type 0
+IsRefusedScript p script line = IsNotText script line ⊎ StopsInPlan p script line p.shape

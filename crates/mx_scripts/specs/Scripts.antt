@@ -1,5 +1,5 @@
 -- The lines of a script, and why one is not done.
-use Rattle.std.specs.Prelude.{◌≡◌, ℕ, ◌++◌, Option, Some, None, codes, decimal, ⊤}
+use Rattle.std.specs.Prelude.{◌≡◌, ℕ, ◌++◌, Option, Some, None, codes, decimal, string_bytes, ⊤}
 use Rattle.mx_network.specs.declared.faults.StepFault.{StepFault}
 use Rattle.mx_network.specs.declared.faults.StepFault.TheVariants as step_fault
 use Rattle.mx_plan.specs.Text.{Text, line_feed}
@@ -9,12 +9,11 @@ use Rattle.mx_lines.specs.declared.errors.LineFault.{LineFault}
 use Rattle.mx_lines.specs.declared.errors.LineFault.TheVariants.{NoNode, NoParcel}
 use Rattle.mx_lines.specs.declared.orders.Order.{Order}
 use Rattle.mx_lines.specs.declared.orders.Order.TheVariants.{Happens, Arrives, AllArrive, IsLost, AllAreLost, ArrivesAgain, LinksChange}
-use Rattle.mx_cli.specs.declared.faults.CommandError.TheVariants as command_error
-use Rattle.mx_scripts.specs.declared.script_error.RefusedLine.{RefusedLine}
-use Rattle.mx_scripts.specs.declared.script_error.ScriptError.{ScriptError}
-use Rattle.mx_scripts.specs.declared.script_error.ScriptError.TheVariants as script_error
-use Rattle.mx_scripts.specs.declared.script_error.LineFailure.{LineFailure}
-use Rattle.mx_scripts.specs.declared.script_error.LineFailure.TheVariants as failure
+use Rattle.mx_cli.specs.declared.stop.Stop.{Stop}
+use Rattle.mx_cli.specs.declared.stop.Stop.TheVariants as stop
+use Rattle.mx_scripts.specs.declared.line_failure.RefusedLine.{RefusedLine}
+use Rattle.mx_scripts.specs.declared.line_failure.LineFailure.{LineFailure}
+use Rattle.mx_scripts.specs.declared.line_failure.LineFailure.TheVariants as failure
 
 -- an event of an order names nodes below `nodes` and registers below `registers`
 abbrev pub IsOver : ℕ → ℕ → Order → Type 0
@@ -42,13 +41,21 @@ abbrev pub IsRefused : ℕ → LineFailure → RefusedLine → Type 0
 IsRefused number failure line =
     (line.number ≡ number) × (fault_of failure ≡ Some line.fault)
 
--- the error is that the line of this number is not done: it is refused, or memory ran out
-abbrev pub IsErrorAt : ℕ → LineFailure → ScriptError → Type 0
-IsErrorAt number failure (script_error.Command why) = why ≡ command_error.Memory
-IsErrorAt number failure (script_error.AtLine line) = IsRefused number failure line
-
 -- what is printed of a fault in line k of a script, with the message about the words of that line
 abbrev pub script_line : ℕ → LineFault → Text → Text
 script_line k fault message =
     codes "mx: script: line " ++ decimal k ++ codes ": " ++ fault_text fault ++ message
     ++ line_feed
+
+-- the text is printed of line k, which is not done for this reason: its fault, and a message
+abbrev pub IsLineOf : ℕ → LineFailure → Text → Type 0
+IsLineOf k why line =
+    (fault : LineFault) × (message : Text) × (fault_of why ≡ Some fault)
+    × (line ≡ script_line k fault message)
+
+-- the reason to stop has a line that satisfies `IsIt`, or memory ran out
+abbrev pub HasLine : (Text → Type 0) → Stop → Type 0
+HasLine IsIt (stop.Line line) = IsIt (string_bytes line)
+HasLine IsIt (stop.Fault fault) = ⊥
+HasLine IsIt stop.Writer = ⊥
+HasLine IsIt stop.Memory = ⊤

@@ -10,8 +10,8 @@ use Rattle.mx_network.specs.declared.faults.StepFault.{StepFault}
 use Rattle.mx_explorer.specs.Drawn.{IsDrawn}
 use Rattle.mx_scripts.specs.Fates.{Fates, at_first, can_pass, is_under_way, lost, noted, relinked}
 use Rattle.mx_scripts.specs.Scripts.{failure_of_step}
-use Rattle.mx_scripts.specs.declared.script_error.LineFailure.{LineFailure}
-use Rattle.mx_scripts.specs.declared.script_error.LineFailure.TheVariants as failure
+use Rattle.mx_scripts.specs.declared.line_failure.LineFailure.{LineFailure}
+use Rattle.mx_scripts.specs.declared.line_failure.LineFailure.TheVariants as failure
 use Rattle.mx_scripts.specs.declared.state.SessionEvent.{SessionEvent}
 use Rattle.mx_scripts.specs.declared.state.SessionEvent.TheVariants.{Happens, IsLost, LinksChange}
 

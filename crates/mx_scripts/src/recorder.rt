@@ -1,4 +1,4 @@
-use crate::script_error::RefusedLine;
+use crate::line_failure::RefusedLine;
 use crate::state::{SessionEvent, State};
 use mx_nodelaws::Exclusion;
 use mx_plan::Plan;

@@ -1,19 +1,18 @@
 //! `script`: the events that the lines of a script ask for, as a file.
 
-ghost use Rattle.std.specs.Prelude.{◌≡◌, ◌⊎◌, ℕ, List, [], string_bytes, IfErr, IfOk, OnOk};
+ghost use Rattle.std.specs.Prelude.{◌≡◌, ◌⊎◌, List, [], string_bytes, IfErr, IfOk, OnOk};
 ghost use Rattle.std.specs.Str.Lines.{lines};
 ghost use Rattle.mx_scripts.specs.Lines.{Does, DoesAll, DoesText, IsNotDone, Misreads, Performs, Reads, StopsAfter, StopsBy, StopsWithin};
-ghost use Rattle.mx_scripts.specs.ScriptFiles.{IsFileOfScript, IsScriptFile, IsShort, StopsFrom, StopsInPlan};
-ghost use Rattle.mx_scripts.specs.Scripts.{IsErrorAt};
+ghost use Rattle.mx_scripts.specs.ScriptFiles.{IsFileOfScript, IsScriptFile, StopsFrom, StopsInPlan};
+ghost use Rattle.mx_scripts.specs.Scripts.{HasLine, IsLineOf};
 ghost use Rattle.mx_scripts.specs.States.{Brings, IsAllowed, IsNotApplied, before_any};
-ghost use Rattle.mx_scripts.specs.declared.script_error.LineFailure.{LineFailure};
 ghost use Rattle.mx_scripts.specs.declared.state.SessionEvent.{SessionEvent};
 
 use crate::files::file_of;
+use crate::line_failure::{LineFailure, refused_line};
 use crate::recorder::Recorder;
-use crate::script_error::{LineFailure, ScriptError};
 use crate::state::{SessionEvent, State};
-use mx_cli::CommandError;
+use mx_cli::{Stop, stop_with};
 use mx_commands::by_shape;
 use mx_lines::{Line, LineFault, Order, read_line, words_in};
 use mx_maekawa::Maekawa;
@@ -28,13 +27,13 @@ pub(crate) fn script_file<K>(
     plan: &Plan,
     script: &str,
     recorder: &mut K,
-) -> Result<String, ScriptError>
+) -> Result<String, Stop>
 where
     K: Recorder<State<Ricart>> + Recorder<State<Maekawa>> + Recorder<State<Raymond>>,
     ensures ok { IfOk result (λ text.
         IsScriptFile plan.now script.now (string_bytes text) plan.now.shape) }
-    ensures err { IfErr result (λ error. IsShort error
-        ⊎ StopsInPlan plan.now script.now error plan.now.shape) }
+    ensures err { IfErr result (HasLine (λ line.
+        StopsInPlan plan.now script.now line plan.now.shape)) }
 {
     by_shape!(alloc, plan, |cluster| {
         let mut state = State::of(alloc, cluster);
@@ -48,13 +47,13 @@ fn file_of_script<C: Exclusion, K: Recorder<State<C>>>(
     script: &str,
     state: &mut State<C>,
     recorder: &mut K,
-) -> Result<String, ScriptError>
+) -> Result<String, Stop>
     requires fresh { state.old ≡ before_any state.old.cluster }
     requires empty { state.old.cluster.trace ≡ [] }
     ensures ok { IfOk result (λ text.
         IsFileOfScript C.core plan.now state.old.cluster script.now (string_bytes text)) }
-    ensures err { IfErr result (λ error. IsShort error
-        ⊎ StopsFrom C.core plan.now state.old.cluster script.now error) }
+    ensures err { IfErr result (HasLine
+        (StopsFrom C.core plan.now state.old.cluster script.now)) }
 {
     do_script(alloc, plan, script, state, recorder)?;
     let text = file_of(alloc, plan, state.trace())?;
@@ -67,38 +66,40 @@ fn do_script<C: Exclusion, K: Recorder<State<C>>>(
     script: &str,
     state: &mut State<C>,
     recorder: &mut K,
-) -> Result<(), ScriptError>
+) -> Result<(), Stop>
     ensures ok { OnOk result (DoesAll C.core plan.now (lines script.now) state.old state.new) }
-    ensures err { IfErr result (StopsBy C.core plan.now (lines script.now) state.old) }
+    ensures err { IfErr result (HasLine
+        (StopsBy C.core plan.now (lines script.now) state.old)) }
 {
     let mut number = 0u64;
     for line in script.lines() {
         number = number.saturating_add(1);
-        if let Err(fault) = do_line(alloc, plan, number, line, state, recorder) {
-            let error = ScriptError::at_line(alloc, plan, number, fault, line);
-            return Err(record_error(plan, error, state, recorder));
+        if let Err(failure) = do_line(alloc, plan, number, line, state, recorder) {
+            return Err(refuse(alloc, plan, number, failure, line, state, recorder));
         }
     }
     Ok(())
 }
 
-/// Tells the recorder of the refused line, if the error is about one. Returns the error, or lack of
-/// memory if the recorder runs out of it.
-fn record_error<C: Exclusion, K: Recorder<State<C>>>(
+/// Tells the recorder of a line that is not done. Returns why the script stops: with the line of the
+/// fault, or because memory ran out.
+fn refuse<C: Exclusion, K: Recorder<State<C>>>(
+    alloc: Global,
     plan: &Plan,
-    error: ScriptError,
+    number: u64,
+    failure: LineFailure,
+    line: &str,
     state: &State<C>,
     recorder: &mut K,
-) -> ScriptError
-    ensures { (number : ℕ) (failure : LineFailure)
-        → IsErrorAt number failure error → IsErrorAt number failure result }
+) -> Stop
+    ensures { HasLine (IsLineOf number failure) result }
 {
-    match error {
-        ScriptError::AtLine(line) => match recorder.refused(plan, &line, state) {
-            Ok(()) => ScriptError::AtLine(line),
-            Err(_) => ScriptError::Command(CommandError::Memory),
+    match refused_line(alloc, plan, number, failure, line) {
+        Ok(line) => match recorder.refused(plan, &line, state) {
+            Ok(()) => stop_with(alloc, line),
+            Err(_) => Stop::Memory,
         },
-        ScriptError::Command(error) => ScriptError::Command(error),
+        Err(_) => Stop::Memory,
     }
 }
 

@@ -4,7 +4,7 @@ ghost use Rattle.mx_scripts.specs.Fates.{can_pass, is_under_way};
 ghost use Rattle.mx_scripts.specs.States.{Brings, IsAllowed, IsNotApplied, before_any};
 
 use crate::in_flight::InFlight;
-use crate::script_error::LineFailure;
+use crate::line_failure::LineFailure;
 use mx_commands::start;
 use mx_lines::LinkChange;
 use mx_network::{Cluster, Entry, Event};

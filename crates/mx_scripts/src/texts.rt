@@ -1,26 +1,38 @@
-ghost use Rattle.std.specs.Prelude.{◌≡◌, IfErr, IfOk};
-ghost use Rattle.mx_scripts.specs.Ended.{IsNotText};
+//! The text of a script.
 
-use crate::script_error::{RefusedLine, ScriptError};
+ghost use Rattle.std.specs.Prelude.{◌≡◌, IfErr, IfOk};
+ghost use Rattle.mx_scripts.specs.ScriptFiles.{IsNotText, IsNotTextLine};
+ghost use Rattle.mx_scripts.specs.Scripts.{HasLine};
+
+use crate::line_failure::RefusedLine;
+use mx_cli::{Stop, stop_with};
 use mx_lines::LineFault;
 use std::alloc::Global;
 use std::str;
 
-/// Returns these bytes as a text. If they are not UTF-8, the error has the line of the first byte
+/// Returns these bytes as a text. If they are not UTF-8, the error names the line of the first byte
 /// that is wrong.
-pub(crate) fn text_in(alloc: Global, bytes: &[u8]) -> Result<&str, ScriptError>
+pub(crate) fn text_in(alloc: Global, bytes: &[u8]) -> Result<&str, Stop>
     ensures ok { IfOk result (λ text. text.now ≡ bytes.now) }
-    ensures err { IfErr result (IsNotText bytes.now) }
+    ensures err { IfErr result (HasLine (IsNotText bytes.now)) }
 {
     match str::from_utf8(bytes) {
         Ok(text) => Ok(text),
-        Err(e) => Err(ScriptError::AtLine(RefusedLine {
-            number: line_at(bytes, e.valid_up_to()),
-            fault: LineFault::NotText,
-            is_unread: true,
-            message: String::new(alloc),
-        })),
+        Err(e) => Err(not_text(alloc, line_at(bytes, e.valid_up_to()))),
     }
+}
+
+/// Returns the reason to stop at line `number`, which is not UTF-8.
+fn not_text(alloc: Global, number: u64) -> Stop
+    ensures { HasLine IsNotTextLine result }
+{
+    let line = RefusedLine {
+        number,
+        fault: LineFault::NotText,
+        is_unread: true,
+        message: String::new(alloc),
+    };
+    stop_with(alloc, line)
 }
 
 /// Returns the number of the line, counted from 1, in which the byte at `place` stands.

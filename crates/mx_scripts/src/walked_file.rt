@@ -7,11 +7,12 @@ ghost use Rattle.mx_scripts.specs.Files.{file_text};
 ghost use Rattle.mx_scripts.specs.Played.{IsEventFile, IsFileOf, events_of};
 
 use crate::files::file_of;
+use mx_cli::Conditions;
 use mx_commands::by_shape;
 use mx_network::Cluster;
 use mx_nodelaws::Exclusion;
 use mx_plan::Plan;
-use mx_walks::{Conditions, walk_cluster};
+use mx_walks::walk_cluster;
 use std::alloc::{AllocError, Global};
 
 pub(crate) fn walk_file(

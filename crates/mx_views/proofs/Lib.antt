@@ -2,4 +2,3 @@ pub mod JsonLemmas
 pub mod ClosingLemmas
 pub mod ShownLemmas
 pub mod ViewedLemmas
-pub mod ObjectLemmas

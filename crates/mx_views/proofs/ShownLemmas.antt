@@ -1,7 +1,6 @@
 -- What is shown of a run, event by event.
-use Rattle.std.proofs.Common.{◌≡◌, ◌∙◌, ◌+◌, ◌++◌, ℕ, Bool, true, false, List, [], ◌∷◌, Option, Some, None, Result, Ok, Err, IfOk, OnOk, append_assoc, ap, ap₂, drop, length, refl, subst, sym}
+use Rattle.std.proofs.Common.{◌≡◌, ◌∙◌, ◌+◌, ◌++◌, ℕ, Bool, true, false, List, [], ◌∷◌, Option, Some, None, Result, Ok, Err, OnOk, append_assoc, ap, ap₂, drop, length, refl, sym}
 use Rattle.std.specs.Prelude.{if◌then◌else◌}
-use Rattle.std.specs.Io.KnownBytes.{Appends}
 use Rattle.std.specs.List.{concat}
 use Rattle.std.proofs.lemmas.List.{drop_at}
 use Rattle.mx_stamps.proofs.Lists.{append_nil}
@@ -21,15 +20,12 @@ use Rattle.mx_plan.specs.Text.{Text}
 use Rattle.mx_plan.specs.Fields.{Fields}
 use Rattle.mx_plan.specs.declared.shape.Shape.{Shape}
 use Rattle.mx_plan.specs.declared.shape.Shape.TheVariants.{Ricart, Maekawa, Raymond}
-use Rattle.mx_io.specs.Outputs.{Held}
 use Rattle.mx_format.specs.Lines.{texts_from}
 use Rattle.mx_format.specs.Parts.{Parts, maekawa_parts, raymond_parts, ricart_parts}
 use Rattle.mx_cli.specs.declared.faults.Fault.{Fault}
 use Rattle.mx_cli.specs.declared.faults.Fault.TheVariants.{NoParcel}
-use Rattle.mx_cli.specs.declared.faults.CommandError.{CommandError}
 use Rattle.mx_commands.specs.Runs.{Report, at_rest, report_from, stepped}
-use Rattle.mx_commands.specs.Ran.{Ran}
-use Rattle.mx_views.specs.Shown.{Prints, PrintsBy, closing_text, shown_entry, shown_from, shown_parcel, shown_step, shown_text, step_text, view_by, view_from, view_texts}
+use Rattle.mx_views.specs.Shown.{ShowsRunBy, closing_text, shown_entry, shown_from, shown_parcel, shown_step, shown_text, step_text, view_by, view_from, view_texts}
 use Rattle.mx_views.specs.declared.selection.View.{View}
 
 -- what is shown of one event, by the newest item of the trace
@@ -83,21 +79,15 @@ module _ {H S M : Type 0} (core : Core H S M) (parts : M → Parts) (p : Fields)
             ∙ ap (λ (l : Text). l ++ closing) (both_before view.is_quiet (shown_text parts p view k g mid) (shown_from core parts p view (k + 1) mid es)),
       )
 
+  -- the texts show the run, if it has no fault
   leads : (es : List Event) (k : ℕ) (g : ClusterState S M) → (view_from core parts p view knows k g es).end ≡ None
       → Leads g es (view_from core parts p view knows k g es) (shown_from core parts p view k g es)
   unfolding report_from shown_from
   leads [] k g end = (g, refl, nothing_before view.is_quiet (closing_text p view core knows g))
   leads (e ∷ es) k g end = step_leads e es k g (step_of core g e) refl (λ new. leads es (k + 1) new) end
 
-  -- a run that came to its end printed its lines
-  pub view_printed : (es : List Event) (g : ClusterState S M) (t : Bool) (a b : Held) (res : Result ℕ CommandError) → Ran t a b (view_from core parts p view knows 0 g es) res
-      → IfOk res (λ _. Prints core parts p view knows es g a b)
-  view_printed es g t a b (Ok status) ran = let h = leads es 0 g ran.0 in (h.0, h.1, subst (λ (l : Text). Appends a b l) h.2 ran.1)
-  view_printed es g t a b (Err end) ran = tt
-
 -- the same, by the algorithm of a plan
-pub printed_by : (p : Fields) (view : View) (es : List Event) (t : Bool) (a b : Held) (res : Result ℕ CommandError) (shape : Shape) → Ran t a b (view_by p view shape es) res
-    → IfOk res (λ _. PrintsBy p view es a b shape)
-printed_by p view es t a b res (Ricart count) ran = view_printed ricart_core ricart_parts p view ricart_known es (at_rest ricart_core p count) t a b res ran
-printed_by p view es t a b res (Maekawa family) ran = view_printed maekawa_core maekawa_parts p view maekawa_known es (at_rest maekawa_core p family) t a b res ran
-printed_by p view es t a b res (Raymond tree) ran = view_printed raymond_core raymond_parts p view raymond_known es (at_rest raymond_core p tree) t a b res ran
+pub shown_by : (p : Fields) (view : View) (es : List Event) (shape : Shape) → (view_by p view shape es).end ≡ None → ShowsRunBy p view es (concat (view_by p view shape es).texts) shape
+shown_by p view es (Ricart count) end = leads ricart_core ricart_parts p view ricart_known es 0 (at_rest ricart_core p count) end
+shown_by p view es (Maekawa family) end = leads maekawa_core maekawa_parts p view maekawa_known es 0 (at_rest maekawa_core p family) end
+shown_by p view es (Raymond tree) end = leads raymond_core raymond_parts p view raymond_known es 0 (at_rest raymond_core p tree) end

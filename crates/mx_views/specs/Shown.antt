@@ -1,8 +1,7 @@
 -- What is shown of a run: all lines or only the closing ones, of one node or of all, as text or as
 -- JSON, with or without what each node knows at the end.
-use Rattle.std.specs.Prelude.{◌||◌, ℕ, ◌+◌, Bool, true, false, List, [], ◌∷◌, ◌++◌, Option, Some, None, Result, Ok, Err, drop, if◌then◌else◌, length, nat_eq, option_map, slice_get}
+use Rattle.std.specs.Prelude.{◌≡◌, ◌||◌, ℕ, ◌+◌, Bool, true, false, List, [], ◌∷◌, ◌++◌, Option, Some, None, Result, Ok, Err, drop, if◌then◌else◌, length, nat_eq, option_map, slice_get}
 use Rattle.std.specs.Option.{option_map_or}
-use Rattle.std.specs.Io.KnownBytes.{Appends}
 use Rattle.mx_knowledge.specs.Facts.{Known}
 use Rattle.mx_nodelaws.specs.Core.{Core}
 use Rattle.mx_ricart.specs.Step.{ricart_core}
@@ -24,7 +23,6 @@ use Rattle.mx_plan.specs.Text.{Text}
 use Rattle.mx_plan.specs.Fields.{Fields}
 use Rattle.mx_plan.specs.declared.shape.Shape.{Shape}
 use Rattle.mx_plan.specs.declared.shape.Shape.TheVariants.{Ricart, Maekawa, Raymond}
-use Rattle.mx_io.specs.Outputs.{Held}
 use Rattle.mx_format.specs.EventTexts.{event_line}
 use Rattle.mx_format.specs.FactTexts.{facts_line}
 use Rattle.mx_format.specs.LetterTexts.{letter_text}
@@ -144,13 +142,12 @@ module _ {H S M : Type 0} (core : Core H S M) (parts : M → Parts) (p : Fields)
   abbrev pub view_from : ℕ → ClusterState S M → List Event → Report
   view_from = report_from core view_texts
 
-  -- all these events can happen. Their lines, unless the view is quiet, and the closing lines of
-  -- the cluster after them were printed, and nothing else
-  abbrev pub Prints : List Event → ClusterState S M → Held → Held → Type 0
-  Prints es start old new =
+  -- all these events can happen. The text has their lines, unless the view is quiet, and then the
+  -- closing lines of the cluster after them
+  abbrev pub ShowsRun : List Event → ClusterState S M → Text → Type 0
+  ShowsRun es start text =
       (g : ClusterState S M) × RunsTo core start es g
-      × Appends old new
-      ((if view.is_quiet then [] else shown_from core parts p view 0 start es)
+      × (text ≡ (if view.is_quiet then [] else shown_from core parts p view 0 start es)
       ++ closing_text p view core knows g)
 
 -- what is shown of a run of each algorithm
@@ -165,12 +162,11 @@ view_lines p view = record {
 abbrev pub view_by : Fields → View → Shape → List Event → Report
 view_by p view = report_by (view_lines p view) p
 
--- the lines of these events in that cluster were printed, and nothing else
-abbrev pub PrintsBy : Fields → View → List Event → Held → Held → Shape → Type 0
-PrintsBy p view es old new (Ricart count) =
-    Prints ricart_core ricart_parts p view ricart_known es (at_rest ricart_core p count) old new
-PrintsBy p view es old new (Maekawa family) =
-    Prints maekawa_core maekawa_parts p view maekawa_known es (at_rest maekawa_core p family)
-    old new
-PrintsBy p view es old new (Raymond tree) =
-    Prints raymond_core raymond_parts p view raymond_known es (at_rest raymond_core p tree) old new
+-- the text shows the run of these events in that cluster
+abbrev pub ShowsRunBy : Fields → View → List Event → Text → Shape → Type 0
+ShowsRunBy p view es text (Ricart count) =
+    ShowsRun ricart_core ricart_parts p view ricart_known es (at_rest ricart_core p count) text
+ShowsRunBy p view es text (Maekawa family) =
+    ShowsRun maekawa_core maekawa_parts p view maekawa_known es (at_rest maekawa_core p family) text
+ShowsRunBy p view es text (Raymond tree) =
+    ShowsRun raymond_core raymond_parts p view raymond_known es (at_rest raymond_core p tree) text

@@ -11,13 +11,10 @@ mod letter_json;
 mod node_json;
 mod parcel_json;
 mod plan_objects;
-mod plan_words;
 mod selection;
 mod shown_run;
 mod view_command;
-mod view_error;
-mod words;
 
-pub use laws::ends_as_replay;
-pub use plan_objects::check_objects;
-pub use view_command::replay_view;
+pub use laws::{ends_as_replay, shows_run};
+pub use plan_objects::CheckJson;
+pub use view_command::ReplayView;

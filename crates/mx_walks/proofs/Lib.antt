@@ -1,3 +1,3 @@
-pub mod ExploredLemmas
+pub mod SummaryLemmas
 pub mod ParcelLemmas
 pub mod StepLemmas

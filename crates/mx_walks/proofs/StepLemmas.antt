@@ -14,7 +14,7 @@ use Rattle.mx_events.specs.declared.event.Event.{Event}
 use Rattle.mx_events.specs.declared.event.Event.TheVariants.{Deliver}
 use Rattle.mx_network.specs.Step.{ClusterState}
 use Rattle.mx_explorer.specs.Drawn.{IsDrawn, after_words, word}
-use Rattle.mx_walks.specs.declared.conditions.Conditions.{Conditions}
+use Rattle.mx_cli.specs.declared.request.Conditions.{Conditions}
 use Rattle.mx_walks.specs.Walk.{Draw, Step, WalkState, act_by, acted, actor, byte_of, chosen, is_delivery, idle_by, is_empty, looked, with_words, inside_by, is_ready_at, member_act, next_step, own_step, repeated, step_by, taken_up, without, ready_from, waiting_by}
 use Rattle.mx_walks.specs.Walked.{after_step, walked}
 

@@ -14,7 +14,7 @@ use Rattle.mx_format.specs.PlanTexts.{explored_line}
 use Rattle.mx_commands.specs.Explored.{is_entry}
 use Rattle.mx_commands.specs.Runs.{at_rest}
 use Rattle.mx_commands.specs.VerdictLines.{verdict_line}
-use Rattle.mx_walks.specs.declared.conditions.Conditions.{Conditions}
+use Rattle.mx_cli.specs.declared.request.Conditions.{Conditions}
 use Rattle.mx_walks.specs.declared.summary.Summary.{Summary}
 use Rattle.mx_walks.specs.Walked.{after_walk}
 

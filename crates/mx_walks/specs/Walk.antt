@@ -14,7 +14,7 @@ use Rattle.mx_events.specs.declared.event.Event.TheVariants.{Ask, Enter, Read, W
 use Rattle.mx_network.specs.Step.{ClusterState}
 use Rattle.mx_explorer.specs.Drawn.{after_words, word}
 use Rattle.mx_explorer.specs.Weather.{generator_of}
-use Rattle.mx_walks.specs.declared.conditions.Conditions.{Conditions}
+use Rattle.mx_cli.specs.declared.request.Conditions.{Conditions}
 use Rattle.mx_walks.specs.declared.walk.Walk.{Walk}
 
 -- ---- what a node does by itself

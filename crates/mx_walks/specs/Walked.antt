@@ -4,7 +4,7 @@ use Rattle.mx_nodelaws.specs.Core.{Core}
 use Rattle.mx_network.specs.Step.{ClusterState}
 use Rattle.mx_plan.specs.Fields.{Fields}
 use Rattle.mx_commands.specs.Explored.{after_placed}
-use Rattle.mx_walks.specs.declared.conditions.Conditions.{Conditions}
+use Rattle.mx_cli.specs.declared.request.Conditions.{Conditions}
 use Rattle.mx_walks.specs.Walk.{WalkState, at_first, looked, next_step}
 
 module _ {H S M : Type 0} (core : Core H S M) (conditions : Conditions) (nodes registers : ℕ) where

@@ -5,8 +5,8 @@ ghost use Rattle.mx_commands.specs.Explored.{after_placed};
 ghost use Rattle.mx_walks.specs.Walk.{at_first, looked, next_step, state_of};
 ghost use Rattle.mx_walks.specs.Walked.{after_walk, walked};
 
-use crate::conditions::Conditions;
 use crate::walk::Walk;
+use mx_cli::Conditions;
 use mx_network::{Cluster, Event, StepFault};
 use mx_nodelaws::Exclusion;
 use mx_plan::Plan;

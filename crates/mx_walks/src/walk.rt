@@ -3,10 +3,10 @@
 ghost use Rattle.std.specs.Prelude.{◌≡◌, ◌<◌, ◌≤◌, OnOk, false};
 ghost use Rattle.mx_walks.specs.Walk.{at_first, chosen, is_delivery, is_empty, looked, next_step, repeated, state_of, taken_up};
 
-use crate::conditions::Conditions;
 use crate::draws::byte_of;
 use crate::own_actions::act;
 use crate::parcels::{drawn_of, is_empty, oldest_beside, put_new, take};
+use mx_cli::Conditions;
 use mx_network::{Cluster, Event};
 use mx_nodelaws::Exclusion;
 use mx_stamps::MAX_NODES;

@@ -1,21 +1,18 @@
-use Rattle.std.specs.Prelude.{◌&&◌}
 use Rattle.std.proofs.Common.{inr}
 use Rattle.mx_cli.specs.Table.{mx_app}
-use Rattle.mx_cli.specs.Words.{texts_of, request_asked, request_in}
+use Rattle.mx_cli.specs.Words.{texts_of}
+use Rattle.mx_cli.specs.Requests.{request_asked, request_in}
 use Rattle.mx_cli.specs.Reports.{seen}
-use Rattle.mx_cli.proofs.RefusedLemmas.{faultless, refused, runs_out}
-use Rattle.mx_commands.proofs.CommandLemmas.{short_runs}
+use Rattle.mx_cli.proofs.RefusedLemmas.{faultless, refused}
+use Rattle.mx_commands.proofs.CommandLemmas.{short_does}
 use Rattle.mx_commands.proofs.command_line.command.Goals as goal
 
 pub returns-in-Err : goal.returns-in-Err
 unfolding request_asked
 returns-in-Err g c = record {
-  runs = refused mx_app request_in (texts_of c.args.words.now) c.in-Err.e c.in-Err.ensures c.refuse.ensures.memory _
-      (λ m request. short_runs (g.O.Output.takes_all c.args.out.now && g.E.Output.takes_all c.args.err.now) (g.S.Source.told c.args.source.now) request
-      (seen g.O.Output g.E.Output c.args.out.now c.args.err.now)
-      (seen g.O.Output g.E.Output c.refuse.new.out c.refuse.new.err)
-      c.refuse.result m);
-  status = λ asks. inr (inr (runs_out mx_app request_in (texts_of c.args.words.now) c.in-Err.e c.in-Err.ensures c.refuse.ensures.memory asks).0);
+  does = refused mx_app request_in (texts_of c.args.words.now) c.in-Err.e c.in-Err.ensures c.refuse.ensures.memory _
+      (λ m request. short_does (seen g.O.Output g.E.Output c.args.out.now c.args.err.now) (seen g.O.Output g.E.Output c.refuse.new.out c.refuse.new.err) c.refuse.result
+      (g.S.Source.told c.args.source.now) (g.O.Output.takes_all c.args.out.now) (g.E.Output.takes_all c.args.err.now) m request);
   answers = c.refuse.ensures.answers mx_app (texts_of c.args.words.now) c.in-Err.ensures;
   other = λ asks. let m = faultless mx_app request_in (texts_of c.args.words.now) c.in-Err.e c.in-Err.ensures c.refuse.ensures.memory asks.0 in (m.1, inr (m.0, m.2));
 }

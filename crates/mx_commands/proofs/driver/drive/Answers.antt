@@ -5,8 +5,7 @@ use Rattle.mx_raymond.specs.Step.{raymond_core}
 use Rattle.mx_plan.specs.Fields.{IsShape}
 use Rattle.mx_plan.specs.declared.shape.Shape.{Shape}
 use Rattle.mx_commands.specs.Sinks.{report_by}
-use Rattle.mx_commands.proofs.JobLemmas.{ran_short}
-use Rattle.mx_commands.proofs.RunLemmas.{members_at_rest}
+use Rattle.mx_commands.proofs.RunLemmas.{members_at_rest, ran_short}
 use Rattle.mx_commands.proofs.driver.drive.Goals as goal
 
 pub drive_events-requires : goal.drive_events-requires

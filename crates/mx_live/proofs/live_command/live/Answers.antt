@@ -1,23 +1,18 @@
-use Rattle.std.proofs.Common.{inl, inr, Err}
+use Rattle.std.proofs.Common.{inr}
+use Rattle.mx_cli.specs.Table.{mx_app}
 use Rattle.mx_cli.specs.Words.{texts_of}
-use Rattle.mx_cli.specs.LiveWords.{live_line, request_asked, request_in}
+use Rattle.mx_cli.specs.Requests.{request_asked, request_in}
+use Rattle.mx_cli.specs.Reports.{seen}
 use Rattle.mx_cli.proofs.RefusedLemmas.{faultless, refused}
-use Rattle.mx_live.specs.declared.live_error.LiveError.TheVariants.{Memory}
-use Rattle.mx_live.proofs.ProgressLemmas.{tells_none}
+use Rattle.mx_live.proofs.RequestLemmas.{short_lives}
 use Rattle.mx_live.proofs.live_command.live.Goals as goal
 
 pub returns-in-Err : goal.returns-in-Err
 unfolding request_asked
 returns-in-Err g c = record {
-  lives = refused live_line request_in (texts_of c.args.words.now) c.in-Err.e c.in-Err.ensures c.refuse.ensures.memory _
-      (λ m request. record {
-        ended = Err Memory;
-        ends = (tt, inl m.1);
-        after_progress = g.E.Output.written c.args.err.now;
-        progress = tells_none request.progress _;
-        closes = inr (inl (m.0, m.2));
-        whole = inl m.1;
-      });
-  answers = c.refuse.ensures.answers live_line (texts_of c.args.words.now) c.in-Err.ensures;
-  other = λ asks. let m = faultless live_line request_in (texts_of c.args.words.now) c.in-Err.e c.in-Err.ensures c.refuse.ensures.memory asks.0 in (m.1, inr (m.0, m.2));
+  lives = refused mx_app request_in (texts_of c.args.words.now) c.in-Err.e c.in-Err.ensures c.refuse.ensures.memory _
+      (short_lives (g.S.Source.told c.args.source.now) (g.O.Output.takes_all c.args.out.now) (g.E.Output.takes_all c.args.err.now) (seen g.O.Output g.E.Output c.args.out.now c.args.err.now) (seen g.O.Output g.E.Output c.refuse.new.out c.refuse.new.err)
+      c.refuse.result);
+  answers = c.refuse.ensures.answers mx_app (texts_of c.args.words.now) c.in-Err.ensures;
+  other = λ asks. let m = faultless mx_app request_in (texts_of c.args.words.now) c.in-Err.e c.in-Err.ensures c.refuse.ensures.memory asks.0 in (m.1, inr (m.0, m.2));
 }

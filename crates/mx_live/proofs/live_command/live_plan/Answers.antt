@@ -1,6 +1,6 @@
 use Rattle.std.proofs.Common.{ℕ, ◌*◌, ◌≤◌, ◌∙◌, arith, subst}
 use Rattle.std.proofs.lemmas.Result.{err_from_is_err_and}
-use Rattle.mx_cli.specs.LiveWords.{request_of}
+use Rattle.mx_cli.specs.Requests.{live_request_of}
 use Rattle.mx_live.proofs.ErrorLemmas.{none_ends, shown_ends}
 use Rattle.mx_live.proofs.live_command.live_plan.Goals as goal
 
@@ -10,7 +10,7 @@ returns-in_err-gathered-clause-ends g c = λ told read.
     let fits : c.from.result * c.args.request.now.sections ≤ p.sections =
     omega (arith, c.saturating_mul.ensures, c.if-saturating_mul-sections.false, c.sections.ensures.value, c.sections.ensures.high) in
     let e = err_from_is_err_and c.from_residual.result c.from_residual.ensures.1 in
-    none_ends (g.O.Output.takes_all c.args.out.now) told (request_of c.args.request.now)
+    none_ends (g.O.Output.takes_all c.args.out.now) told (live_request_of c.args.request.now)
     p c.from_residual.result e.0 c.in_err-gathered.field-0.0 (g.O.Output.written c.args.out.now) (g.O.Output.keeps_back c.args.out.now) e.1 e.2
     read (subst (λ (n : ℕ). n * c.args.request.now.sections ≤ p.sections) (c.from.ensures ∙ c.nodes.ensures.value) fits) c.in_err-gathered.ensures.err
 
@@ -21,7 +21,7 @@ returns g c = record {
       let p = c.args.plan.now in
       let fits : c.from.result * c.args.request.now.sections ≤ p.sections =
       omega (arith, c.saturating_mul.ensures, c.if-saturating_mul-sections.false, c.sections.ensures.value, c.sections.ensures.high) in
-      shown_ends (g.O.Output.takes_all c.args.out.now) told (request_of c.args.request.now)
+      shown_ends (g.O.Output.takes_all c.args.out.now) told (live_request_of c.args.request.now)
       p all.gathered.receipts.items all.gathered.journal c.show.result (g.O.Output.written c.args.out.now) (g.O.Output.written c.show.new.out) (g.O.Output.keeps_back c.show.new.out)
       read (subst (λ (n : ℕ). n * c.args.request.now.sections ≤ p.sections) (c.from.ensures ∙ c.nodes.ensures.value) fits) all.ensures.come all.ensures.serial all.ensures.sections c.show.ensures.ok c.show.ensures.passed c.show.ensures.err c.show.ensures.whole;
   progress = c.in_ok-gathered.ensures.progress;

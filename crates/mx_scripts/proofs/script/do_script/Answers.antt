@@ -4,8 +4,7 @@ use Rattle.std.proofs.lemmas.Iterator.Splits.{YieldsList-from_lines}
 use Rattle.std.proofs.lemmas.List.{length-append}
 use Rattle.mx_plan.specs.Text.{Text}
 use Rattle.mx_scripts.specs.Lines.{DoesAll}
-use Rattle.mx_scripts.specs.Scripts.{IsErrorAt}
-use Rattle.mx_scripts.proofs.LineLemmas.{does_more, stops_here}
+use Rattle.mx_scripts.proofs.LineLemmas.{does_more, stops_here, stops_line}
 use Rattle.mx_scripts.proofs.script.do_script.Goals as goal
 
 -- the number of the next line
@@ -37,15 +36,12 @@ returns-in-Err-clause-err g c =
     let road = YieldsList-from_lines {s = c.into_iter-line-iterator.result} c.args.script.now cc in
     let so_far = YieldsList-so_far road l.yielded _ l.yielded_by in
     let turn = YieldsList-turn road l.yielded _ l.yielded_by _ _ c.in-Some.line c.in-Some.is c.next.ensures.steps in
-    let next = next_number l.number c.saturating_add-number.result (length l.yielded) l.invariant.number c.saturating_add-number.ensures in (
-      length l.yielded,
-      c.in-Err.fault,
-      stops_here g.C.Exclusion.core c.args.plan.now _ l.yielded c.in-Some.line.now c.args.state.now l.state c.in-Err.fault l.invariant.does so_far turn c.in-Err.ensures.err,
-      subst (λ (k : ℕ). IsErrorAt k c.in-Err.fault c.record_error.result) next (c.record_error.ensures c.saturating_add-number.result c.in-Err.fault c.at_line-error.ensures),
-    )
+    let next = next_number l.number c.saturating_add-number.result (length l.yielded) l.invariant.number c.saturating_add-number.ensures in
+    let stops = stops_here g.C.Exclusion.core c.args.plan.now _ l.yielded c.in-Some.line.now c.args.state.now l.state c.in-Err.failure l.invariant.does so_far turn c.in-Err.ensures.err in
+    stops_line g.C.Exclusion.core c.args.plan.now _ c.args.state.now (length l.yielded) c.saturating_add-number.result c.in-Err.failure c.refuse.result next stops c.refuse.ensures
 
 pub do_line-requires : goal.do_line-requires
 do_line-requires g c = search rules
 
-pub record_error-requires : goal.record_error-requires
-record_error-requires g c = search c.requires-raw
+pub refuse-requires : goal.refuse-requires
+refuse-requires g c = search rules

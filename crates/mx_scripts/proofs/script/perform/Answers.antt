@@ -3,8 +3,8 @@ use Rattle.std.specs.Prelude.{IfSome}
 use Rattle.mx_lines.specs.declared.errors.LineFault.TheVariants.{TooMany}
 use Rattle.mx_scripts.specs.Lines.{IsNext, StopsAfter}
 use Rattle.mx_scripts.specs.States.{IsAllowed}
-use Rattle.mx_scripts.specs.declared.script_error.LineFailure.{LineFailure}
-use Rattle.mx_scripts.specs.declared.script_error.LineFailure.TheVariants as failure
+use Rattle.mx_scripts.specs.declared.line_failure.LineFailure.{LineFailure}
+use Rattle.mx_scripts.specs.declared.line_failure.LineFailure.TheVariants as failure
 use Rattle.mx_scripts.specs.declared.state.SessionEvent.{SessionEvent}
 use Rattle.mx_scripts.proofs.LineLemmas.{err_of, performs_next, stops_next}
 use Rattle.mx_scripts.proofs.script.perform.Goals as goal

@@ -1,7 +1,7 @@
 use Rattle.std.proofs.Common.{List}
 use Rattle.mx_scripts.specs.Lines.{Performs, StopsAfter}
 use Rattle.mx_scripts.specs.States.{RunState}
-use Rattle.mx_scripts.specs.declared.script_error.LineFailure.{LineFailure}
+use Rattle.mx_scripts.specs.declared.line_failure.LineFailure.{LineFailure}
 use Rattle.mx_scripts.specs.declared.state.SessionEvent.{SessionEvent}
 use Rattle.mx_scripts.proofs.script.perform.Given as goal
 

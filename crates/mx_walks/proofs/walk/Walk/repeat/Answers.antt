@@ -1,4 +1,4 @@
-use Rattle.std.proofs.Common.{◌≡◌, ◌∙◌, ◌-◌, ◌%◌, ℕ, ap, min, sym}
+use Rattle.std.proofs.Common.{◌≡◌, ◌∙◌, ◌-◌, ◌%◌, ℕ, ap, sym}
 use Rattle.mx_walks.specs.Walk.{Step, chosen, repeated, state_of}
 use Rattle.mx_walks.proofs.StepLemmas.{delivers, repeats_nothing, repeats_one}
 use Rattle.mx_walks.proofs.walk.Walk.repeat.Given.{Over}

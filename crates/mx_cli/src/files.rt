@@ -1,0 +1,120 @@
+//! The files of a command.
+
+ghost use Rattle.std.specs.Prelude.{◌≡◌, [], ◌∷◌, Bool, Some};
+ghost use Rattle.mx_io.specs.Told.{Asks};
+ghost use Rattle.mx_cli.specs.Outputs.{refused_after};
+ghost use Rattle.mx_cli.specs.Reading.{ReadsBoth};
+ghost use Rattle.mx_cli.specs.Words.{names_of};
+ghost use Rattle.mx_cli.specs.Frames as spec;
+
+use crate::faults::{CommandError, Fault, Named};
+use crate::planning::{PlanAndText, fetch_both, fetch_plan};
+use crate::request::Names;
+use mx_io::Source;
+use mx_plan::PlanFault;
+use std::alloc::Global;
+
+/// The files that a command reads.
+#[derive(Clone, Copy)]
+pub struct Files<'a> {
+    pub plan: &'a str,
+    /// The text that comes with the plan: events, a script or a trace. Without it, the text is empty.
+    pub text: Option<&'a str>,
+    /// Whether the fault that a text is not JSON says which text that is.
+    pub names_texts: bool,
+}
+
+impl<'a> Files<'a> {
+    /// Returns the file of a plan, without a text that comes with it.
+    pub fn alone(plan: &'a str) -> Files<'a>
+        ensures { spec.files_of result ≡ spec.alone plan.now }
+    {
+        Files {
+            plan,
+            text: None,
+            names_texts: false,
+        }
+    }
+
+    /// Returns the files of a plan and of the text that comes with it.
+    pub fn both(names: &Names<'a>, names_texts: bool) -> Files<'a>
+        ensures { spec.files_of result ≡ spec.both (names_of names.now) names_texts }
+    {
+        Files {
+            plan: names.plan,
+            text: Some(names.events),
+            names_texts,
+        }
+    }
+
+    /// Returns the names for the lines of faults. The plan's name stands in for a missing one.
+    pub(crate) fn names(&self) -> Names<'a>
+        ensures { names_of result ≡ spec.names_of (spec.files_of self.now) }
+    {
+        match self.text {
+            Some(text) => Names {
+                plan: self.plan,
+                events: text,
+            },
+            None => Names {
+                plan: self.plan,
+                events: self.plan,
+            },
+        }
+    }
+}
+
+/// Reads the plan, and then the text that comes with it.
+pub(crate) fn fetch_files<S: Source>(
+    alloc: Global,
+    source: &mut S,
+    files: &Files<'_>,
+) -> Result<PlanAndText, CommandError>
+    ensures read { ReadsBoth (spec.told_plan (S.told source.old) (spec.files_of files.now))
+        (spec.told_text (S.told source.old) (spec.files_of files.now)) result }
+    ensures asks { spec.AsksFiles (spec.files_of files.now) (S.asked source.old) (S.asked source.new) }
+    ensures taken { (before : Bool) → refused_after result before ≡ before }
+{
+    match files.text {
+        Some(text) => {
+            let names = Names {
+                plan: files.plan,
+                events: text,
+            };
+            fetch_both(alloc, source, &names)
+        }
+        None => fetch_alone(alloc, source, files.plan),
+    }
+}
+
+/// Reads the plan of this name. The text that comes with it is empty.
+fn fetch_alone<S: Source>(
+    alloc: Global,
+    source: &mut S,
+    name: &str,
+) -> Result<PlanAndText, CommandError>
+    ensures read { ReadsBoth (S.told source.old name.now) (Some (Some [])) result }
+    ensures asks { Asks (S.asked source.old) (S.asked source.new) (name.now ∷ []) }
+    ensures taken { (before : Bool) → refused_after result before ≡ before }
+{
+    match fetch_plan(alloc, source, name) {
+        Ok(plan) => Ok(PlanAndText {
+            plan,
+            text: Vec::new(alloc),
+        }),
+        Err(error) => Err(error),
+    }
+}
+
+/// Returns `fault`. If it is that a text is not JSON, and texts are named, it names the text `part`.
+pub(crate) fn fault_for(fault: Fault, names_texts: bool, part: Named) -> Fault
+    ensures { result ≡ spec.fault_for names_texts part fault }
+{
+    if !names_texts {
+        return fault;
+    }
+    match fault {
+        Fault::BadText(PlanFault::NotJson) => Fault::NotJson(part),
+        _ => fault,
+    }
+}

@@ -1,0 +1,296 @@
+//! The reader of the words of a command line.
+
+ghost use Rattle.std.specs.Prelude.{◌≡◌, Some, option_map};
+ghost use Rattle.clap.specs.Words.{first_of, found_of, rows_of, subcommand_rows_of};
+ghost use Rattle.mx_cli.specs.Table.{mx_app};
+ghost use Rattle.mx_cli.specs.Words.{Asks, exploration_at, explored, is_given, names_of, number_at, texts_of};
+ghost use Rattle.mx_cli.specs.Requests as spec;
+
+use crate::line::{matches_of, whole_line};
+use crate::request::{
+    Conditions, Exploration, LiveRequest, Misfit, Names, PictureOptions, Request, ViewOptions,
+};
+use clap::{ArgMatches, Error};
+use std::alloc::Global;
+
+/// The chance in 256 that a parcel of a walk is lost, if `--loss` is absent.
+const LOSS: u64 = 4;
+
+/// The chance in 256 that a step of a walk repeats a parcel, if `--repeat` is absent.
+const REPEAT: u64 = 8;
+
+/// The seed of the links of `live`, if `--seed` is absent.
+const LINK_SEED: u64 = 1;
+
+/// How many turns each node of `live` may take, if `--turns` is absent.
+const TURNS: u64 = 10_000_000;
+
+/// Parses the words of a command line, without the program's name.
+///
+/// # Errors
+///
+/// Returns the error of `clap` for wrong arguments. A request for help or for the version is such
+/// an error too, with the text to show.
+pub fn parse<'a>(alloc: Global, words: &'a [&'a str]) -> Result<Option<Request<'a>>, Error>
+    ensures { Asks spec.request_of mx_app (texts_of words.entry.now)
+        (spec.request_asked (texts_of words.entry.now)) result }
+{
+    let matches = matches_of(whole_line(alloc)?, words)?;
+    Ok(from_matches(&matches))
+}
+
+fn from_matches<'a>(matches: &ArgMatches<'a>) -> Option<Request<'a>>
+    ensures { option_map spec.request_of result
+        ≡ spec.request_in (subcommand_rows_of matches.now) }
+{
+    match matches.subcommand() {
+        Some((name, inner)) => request_in(name, inner),
+        None => None,
+    }
+}
+
+/// Returns what the command of this name asks for.
+fn request_in<'a>(name: &str, matches: &ArgMatches<'a>) -> Option<Request<'a>>
+    ensures { option_map spec.request_of result
+        ≡ spec.request_in (Some (name.now, rows_of (found_of matches.now))) }
+{
+    match name {
+        "check" => check_in(matches),
+        "replay" => replay_in(matches),
+        "explore" => explore_in(matches),
+        "live" => live_in(matches),
+        "draw" => draw_in(matches),
+        "script" => names_in(matches, "SCRIPT").map(Request::Script),
+        "play" => play_in(matches),
+        "picture" => picture_in(matches),
+        "count" => count_in(matches),
+        "judge" => names_in(matches, "TRACE").map(Request::Judge),
+        "explain" => explain_in(matches),
+        _ => None,
+    }
+}
+
+fn check_in<'a>(matches: &ArgMatches<'a>) -> Option<Request<'a>>
+    ensures { option_map spec.request_of result ≡ spec.check_in (rows_of (found_of matches.now)) }
+{
+    let Some(plan) = text_at(matches, "PLAN") else {
+        return None;
+    };
+    Some(Request::Check {
+        plan,
+        has_asks: is_given(matches, "asks"),
+        is_json: is_given(matches, "json"),
+    })
+}
+
+fn replay_in<'a>(matches: &ArgMatches<'a>) -> Option<Request<'a>>
+    ensures { option_map spec.request_of result ≡ spec.replay_in (rows_of (found_of matches.now)) }
+{
+    let Some(names) = names_in(matches, "EVENTS") else {
+        return None;
+    };
+    let view = ViewOptions {
+        is_quiet: is_given(matches, "quiet"),
+        node: text_at(matches, "node"),
+        is_json: is_given(matches, "json"),
+        has_state: is_given(matches, "state"),
+    };
+    Some(Request::Replay(names, view))
+}
+
+fn explore_in<'a>(matches: &ArgMatches<'a>) -> Option<Request<'a>>
+    ensures { option_map spec.request_of result ≡ spec.explore_in (rows_of (found_of matches.now)) }
+{
+    let Some(exploration) = exploration_at(matches) else {
+        return None;
+    };
+    if is_given(matches, "walk") {
+        return Some(walk_in(matches, exploration));
+    }
+    if has_conditions(matches) {
+        return Some(Request::Misfit(Misfit::ExploreWithoutWalk));
+    }
+    Some(Request::Explore {
+        exploration,
+        has_counts: is_given(matches, "count"),
+        is_json: is_given(matches, "json"),
+    })
+}
+
+fn walk_in<'a>(matches: &ArgMatches<'a>, exploration: Exploration<'a>) -> Request<'a>
+    ensures { spec.request_of result
+        ≡ spec.walk_in (rows_of (found_of matches.now)) (explored exploration.entry) }
+{
+    if is_given(matches, "count") {
+        return Request::Misfit(Misfit::WalkWithCount);
+    }
+    if is_given(matches, "json") {
+        return Request::Misfit(Misfit::WalkWithJson);
+    }
+    Request::ExploreWalk(exploration, conditions_in(matches))
+}
+
+fn live_in<'a>(matches: &ArgMatches<'a>) -> Option<Request<'a>>
+    ensures { option_map spec.request_of result ≡ spec.live_in (rows_of (found_of matches.now)) }
+{
+    let Some(plan) = text_at(matches, "PLAN") else {
+        return None;
+    };
+    let Some(sections) = number_at(matches, "sections") else {
+        return None;
+    };
+    Some(Request::Live(LiveRequest {
+        plan,
+        sections,
+        seed: number_or(matches, "seed", LINK_SEED),
+        turns: number_or(matches, "turns", TURNS),
+        settle: number_or(matches, "settle", 0),
+        progress: is_given(matches, "progress"),
+    }))
+}
+
+fn draw_in<'a>(matches: &ArgMatches<'a>) -> Option<Request<'a>>
+    ensures { option_map spec.request_of result ≡ spec.draw_in (rows_of (found_of matches.now)) }
+{
+    let Some(exploration) = exploration_at(matches) else {
+        return None;
+    };
+    if is_given(matches, "walk") {
+        return Some(Request::Draw(exploration, Some(conditions_in(matches))));
+    }
+    if has_conditions(matches) {
+        return Some(Request::Misfit(Misfit::DrawWithoutWalk));
+    }
+    Some(Request::Draw(exploration, None))
+}
+
+/// Returns the conditions of a walk that the arguments give, with defaults for absent ones.
+fn conditions_in(matches: &ArgMatches<'_>) -> Conditions
+    ensures { result ≡ spec.conditions_in (rows_of (found_of matches.now)) }
+{
+    Conditions {
+        loss: number_or(matches, "loss", LOSS),
+        repeat: number_or(matches, "repeat", REPEAT),
+        in_order: is_given(matches, "in-order"),
+    }
+}
+
+/// Returns whether an option of a walk is given.
+fn has_conditions(matches: &ArgMatches<'_>) -> bool
+    ensures { result ≡ spec.has_conditions (rows_of (found_of matches.now)) }
+{
+    text_at(matches, "loss").is_some()
+        || text_at(matches, "repeat").is_some()
+        || is_given(matches, "in-order")
+}
+
+fn play_in<'a>(matches: &ArgMatches<'a>) -> Option<Request<'a>>
+    ensures { option_map spec.request_of result ≡ spec.play_in (rows_of (found_of matches.now)) }
+{
+    let Some(plan) = text_at(matches, "PLAN") else {
+        return None;
+    };
+    Some(Request::Play {
+        plan,
+        script: text_at(matches, "SCRIPT"),
+    })
+}
+
+fn picture_in<'a>(matches: &ArgMatches<'a>) -> Option<Request<'a>>
+    ensures { option_map spec.request_of result ≡ spec.picture_in (rows_of (found_of matches.now)) }
+{
+    let Some(names) = names_in(matches, "EVENTS") else {
+        return None;
+    };
+    let options = PictureOptions {
+        from: number_or(matches, "from", 0),
+        to: number_or(matches, "to", u64::MAX),
+        node: text_at(matches, "node"),
+        only_letters: is_given(matches, "letters"),
+    };
+    Some(Request::Picture(names, options))
+}
+
+fn count_in<'a>(matches: &ArgMatches<'a>) -> Option<Request<'a>>
+    ensures { option_map spec.request_of result ≡ spec.count_in (rows_of (found_of matches.now)) }
+{
+    let Some(names) = names_in(matches, "EVENTS") else {
+        return None;
+    };
+    Some(Request::Count {
+        names,
+        is_json: is_given(matches, "json"),
+    })
+}
+
+fn explain_in<'a>(matches: &ArgMatches<'a>) -> Option<Request<'a>>
+    ensures { option_map spec.request_of result ≡ spec.explain_in (rows_of (found_of matches.now)) }
+{
+    let Some(plan) = text_at(matches, "PLAN") else {
+        return None;
+    };
+    Some(Request::Explain {
+        plan,
+        second: text_at(matches, "EVENTS"),
+        is_script: is_given(matches, "script"),
+    })
+}
+
+/// Returns the names of the plan, and of the text that the argument `id` names.
+fn names_in<'a>(matches: &ArgMatches<'a>, id: &str) -> Option<Names<'a>>
+    ensures { option_map names_of result ≡ spec.names_in id.now (rows_of (found_of matches.now)) }
+{
+    let Some(plan) = text_at(matches, "PLAN") else {
+        return None;
+    };
+    let Some(events) = text_at(matches, id) else {
+        return None;
+    };
+    Some(Names { plan, events })
+}
+
+/// Returns the plan, the seed and the number of steps, if all are given.
+fn exploration_at<'a>(matches: &ArgMatches<'a>) -> Option<Exploration<'a>>
+    ensures { option_map explored result ≡ exploration_at (rows_of (found_of matches.now)) }
+{
+    let Some(plan) = text_at(matches, "PLAN") else {
+        return None;
+    };
+    let Some(seed) = number_at(matches, "seed") else {
+        return None;
+    };
+    let Some(steps) = number_at(matches, "steps") else {
+        return None;
+    };
+    Some(Exploration { plan, seed, steps })
+}
+
+/// Returns the text that was given for the argument `id`.
+fn text_at<'a>(matches: &ArgMatches<'a>, id: &str) -> Option<&'a str>
+    ensures { option_map (λ s. s.now) result ≡ first_of id.now (rows_of (found_of matches.now)) }
+{
+    matches.get_str(id)
+}
+
+/// Returns the number that was given for the argument `id`.
+fn number_at(matches: &ArgMatches<'_>, id: &str) -> Option<u64>
+    ensures { result ≡ number_at id.now (rows_of (found_of matches.now)) }
+{
+    matches.get_one::<u64>(id)
+}
+
+fn number_or(matches: &ArgMatches<'_>, id: &str, other: u64) -> u64
+    ensures { result ≡ spec.number_or id.now other (rows_of (found_of matches.now)) }
+{
+    number_at(matches, id).unwrap_or(other)
+}
+
+/// Returns whether the flag `id` was given.
+fn is_given(matches: &ArgMatches<'_>, id: &str) -> bool
+    ensures { result ≡ is_given id.now (rows_of (found_of matches.now)) }
+{
+    match text_at(matches, id) {
+        Some(text) => text == "true",
+        None => false,
+    }
+}

@@ -1,0 +1,115 @@
+//! What the words of a command line ask for.
+
+/// The names of a plan and of its events, or of a script or a trace in place of events. The name
+/// `-` is standard input.
+#[derive(Clone, Copy, Debug, PartialEq, Eq)]
+pub struct Names<'a> {
+    pub plan: &'a str,
+    pub events: &'a str,
+}
+
+/// What is drawn: for the plan of this name, from this seed, so many steps.
+#[derive(Clone, Copy, Debug, PartialEq, Eq)]
+pub struct Exploration<'a> {
+    pub plan: &'a str,
+    pub seed: u64,
+    pub steps: u64,
+}
+
+/// How often a walk loses and repeats parcels, each a chance in 256, and whether the oldest parcel
+/// of a link arrives first.
+#[derive(Clone, Copy, Debug, PartialEq, Eq)]
+pub struct Conditions {
+    pub loss: u64,
+    pub repeat: u64,
+    pub in_order: bool,
+}
+
+/// How a replay is shown.
+#[derive(Clone, Copy)]
+pub struct ViewOptions<'a> {
+    /// Whether only the closing lines are shown.
+    pub is_quiet: bool,
+    /// The only node that is shown, if one is named.
+    pub node: Option<&'a str>,
+    pub is_json: bool,
+    /// Whether what each node knows at the end is shown.
+    pub has_state: bool,
+}
+
+/// The part of a run that a picture shows.
+#[derive(Clone, Copy)]
+pub struct PictureOptions<'a> {
+    /// The first index and the last one of the events.
+    pub from: u64,
+    pub to: u64,
+    pub node: Option<&'a str>,
+    pub only_letters: bool,
+}
+
+/// What `live` is to run: the name of a plan, how many sections each node is to have, the seed of
+/// the first node's links, how many turns each node may take, after how many of its sections each
+/// node settles its journal (0 for never), and whether progress is reported on standard error.
+#[derive(Clone, Copy)]
+pub struct LiveRequest<'a> {
+    pub plan: &'a str,
+    pub sections: u64,
+    pub seed: u64,
+    pub turns: u64,
+    pub settle: u64,
+    pub progress: bool,
+}
+
+/// Options that do not go together.
+#[derive(Clone, Copy)]
+pub enum Misfit {
+    /// `draw` with options of a walk, but without `--walk`.
+    DrawWithoutWalk,
+    /// `explore` with options of a walk, but without `--walk`.
+    ExploreWithoutWalk,
+    /// `explore` with `--walk` and `--count`.
+    WalkWithCount,
+    /// `explore` with `--walk` and `--json`.
+    WalkWithJson,
+}
+
+/// What a command line asks for.
+#[derive(Clone, Copy)]
+pub enum Request<'a> {
+    Check {
+        plan: &'a str,
+        has_asks: bool,
+        is_json: bool,
+    },
+    Replay(Names<'a>, ViewOptions<'a>),
+    Explore {
+        exploration: Exploration<'a>,
+        has_counts: bool,
+        is_json: bool,
+    },
+    /// `explore` with `--walk`.
+    ExploreWalk(Exploration<'a>, Conditions),
+    Live(LiveRequest<'a>),
+    /// `draw`: each event alone, or a walk under these conditions.
+    Draw(Exploration<'a>, Option<Conditions>),
+    /// The second name is that of the script.
+    Script(Names<'a>),
+    Play {
+        plan: &'a str,
+        script: Option<&'a str>,
+    },
+    Picture(Names<'a>, PictureOptions<'a>),
+    Count {
+        names: Names<'a>,
+        is_json: bool,
+    },
+    /// The second name is that of the trace.
+    Judge(Names<'a>),
+    Explain {
+        plan: &'a str,
+        /// The name of the events, or of the script.
+        second: Option<&'a str>,
+        is_script: bool,
+    },
+    Misfit(Misfit),
+}

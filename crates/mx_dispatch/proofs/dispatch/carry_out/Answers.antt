@@ -1,0 +1,4 @@
+use Rattle.mx_dispatch.proofs.dispatch.carry_out.Goals as goal
+
+pub returns-in-Picture : goal.returns-in-Picture
+returns-in-Picture g c = rw c.in-Picture.is c.run_both-in-Picture.ensures

@@ -1,0 +1,2 @@
+-- Program: what each request does.
+pub mod Program

@@ -1,0 +1,93 @@
+//! The words of a command line, and the command that they ask for.
+
+ghost use Rattle.std.specs.Prelude.{IfSome};
+ghost use Rattle.mx_cli.specs.Table.{mx_app};
+ghost use Rattle.mx_cli.specs.Words.{texts_of};
+ghost use Rattle.mx_cli.specs.Requests.{AskNothing, request_asked, request_of};
+ghost use Rattle.mx_cli.specs.Reports.{Answers, Declines, seen};
+ghost use Rattle.mx_dispatch.specs.Program.{Does};
+
+use crate::forms::{run_both, run_check, run_draw, run_explore, run_replay, run_walk};
+use mx_cli::{Request, parse, refuse, report_misfit};
+use mx_count::Count;
+use mx_explain::{DetailedSource, explain};
+use mx_io::{Output, Source};
+use mx_judge::Judge;
+use mx_picture::Picture;
+use mx_scripts::Script;
+use std::alloc::Global;
+
+/// Runs the words of a command line, without the program's name, and returns the exit status: 0 if
+/// all went well, or for help and the version; 1 for an error in a plan, its events, a file or an
+/// output; 2 for wrong arguments, and for `live` and `play`, which other functions run; 4 if the
+/// trace is broken; 5 if memory ran out.
+pub fn run<S: Source + DetailedSource, O: Output, E: Output>(
+    alloc: Global,
+    words: &[&str],
+    source: &mut S,
+    out: &mut O,
+    err: &mut E,
+) -> u8
+    ensures does { IfSome (request_asked (texts_of words.entry.now)) (λ request.
+        Does (S.told source.old) request (O.takes_all out.old) (E.takes_all err.old)
+        (seen O.Output E.Output out.old err.old) (seen O.Output E.Output out.new err.new) result) }
+    ensures answers { Answers mx_app (texts_of words.entry.now) (O.takes_all out.old)
+        (seen O.Output E.Output out.old err.old) (seen O.Output E.Output out.new err.new) result }
+    ensures other { AskNothing (texts_of words.entry.now) → Declines
+        (seen O.Output E.Output out.old err.old) (seen O.Output E.Output out.new err.new) result }
+{
+    match parse(alloc, words) {
+        Ok(Some(request)) => carry_out(alloc, &request, source, out, err),
+        Ok(None) => 2,
+        Err(e) => refuse(alloc, &e, out, err),
+    }
+}
+
+/// Runs the command that is asked for. For `live` and `play`, writes nothing and returns 2.
+fn carry_out<S: Source + DetailedSource, O: Output, E: Output>(
+    alloc: Global,
+    request: &Request<'_>,
+    source: &mut S,
+    out: &mut O,
+    err: &mut E,
+) -> u8
+    ensures { Does (S.told source.old) (request_of request.now)
+        (O.takes_all out.old) (E.takes_all err.old)
+        (seen O.Output E.Output out.old err.old) (seen O.Output E.Output out.new err.new) result }
+{
+    match request {
+        Request::Check {
+            plan,
+            has_asks,
+            is_json,
+        } => run_check(alloc, plan, *has_asks, *is_json, source, out, err),
+        Request::Replay(names, view) => run_replay(alloc, names, view, source, out, err),
+        Request::Explore {
+            exploration,
+            has_counts,
+            is_json,
+        } => run_explore(alloc, exploration, *has_counts, *is_json, source, out, err),
+        Request::ExploreWalk(exploration, conditions) => {
+            run_walk(alloc, exploration, conditions, source, out, err)
+        }
+        Request::Draw(exploration, conditions) => {
+            run_draw(alloc, exploration, conditions, source, out, err)
+        }
+        Request::Script(names) => run_both(alloc, &Script, names, true, source, out, err),
+        Request::Picture(names, options) => {
+            run_both(alloc, &Picture(*options), names, false, source, out, err)
+        }
+        Request::Count { names, is_json } => {
+            let count = Count { is_json: *is_json };
+            run_both(alloc, &count, names, true, source, out, err)
+        }
+        Request::Judge(names) => run_both(alloc, &Judge, names, true, source, out, err),
+        Request::Explain {
+            plan,
+            second,
+            is_script,
+        } => explain(alloc, plan, *second, *is_script, source, out, err),
+        Request::Misfit(misfit) => report_misfit(*misfit, err),
+        Request::Live(_) | Request::Play { .. } => 2,
+    }
+}

@@ -1,0 +1,33 @@
+use Rattle.std.proofs.Common.{List, length, subst, sym}
+use Rattle.mx_events.specs.declared.event.Event.{Event}
+use Rattle.mx_cli.specs.Printing.{Prints, sight}
+use Rattle.mx_cli.specs.Requests.{part_of}
+use Rattle.mx_cli.proofs.FrameLemmas.{prints_as}
+use Rattle.mx_commands.specs.Runs.{AllNameNodes}
+use Rattle.mx_commands.proofs.EventLemmas.{events_named}
+use Rattle.mx_picture.specs.Pictures.{IsDrawn, IsPictured, fault_of_run}
+use Rattle.mx_picture.proofs.PictureLemmas.{listed, unlisted}
+use Rattle.mx_picture.proofs.command.PictureCommand.run.Goals as goal
+
+pub draw-requires : goal.draw-requires
+draw-requires g c =
+    let p = c.args.plan.now in
+    subst (λ (es : List Event). AllNameNodes (length p.nodes) es) (sym c.as_slice.ensures.value)
+    (events_named p c.args.text.now c.in-Ok.events.items c.in-Ok.ensures)
+
+pub returns-in-Ok : goal.returns-in-Ok
+returns-in-Ok g c =
+    let p = c.args.plan.now in
+    let part = part_of c.args.self.now.0 in
+    let es = c.in-Ok.events.items in
+    let o = sight g.O.Output c.args.out.now in
+    let n = sight g.O.Output c.draw.new.out in
+    let drawn = subst (λ (l : List Event). Prints (IsDrawn p l (fault_of_run p part.node l)) o n c.draw.result) c.as_slice.ensures.value c.draw.ensures.prints in
+    record {
+      prints = prints_as (IsDrawn p es (fault_of_run p part.node es)) (IsPictured part p c.args.text.now) (listed part p c.args.text.now es c.in-Ok.ensures) o n c.draw.result drawn;
+    }
+
+pub returns-in-Err : goal.returns-in-Err
+returns-in-Err g c = record {
+  prints = unlisted (part_of c.args.self.now.0) c.args.plan.now c.args.text.now c.in-Err.fault (sight g.O.Output c.args.out.now) c.from.result c.in-Err.ensures c.from.ensures;
+}

@@ -1,0 +1,78 @@
+//! The command `script`.
+
+ghost use Rattle.std.specs.Prelude.{string_bytes, IfErr, IfOk};
+ghost use Rattle.mx_cli.specs.Printing.{Prints, sight};
+ghost use Rattle.mx_scripts.specs.Printed.{IsScript};
+ghost use Rattle.mx_scripts.specs.ScriptFiles.{IsRefusedScript, IsScriptFile};
+ghost use Rattle.mx_scripts.specs.Scripts.{HasLine};
+
+use crate::recorder::{NoRecorder, Recorder};
+use crate::script::script_file;
+use crate::state::State;
+use crate::texts::text_in;
+use mx_cli::{Command, Stop, print};
+use mx_io::Output;
+use mx_maekawa::Maekawa;
+use mx_plan::Plan;
+use mx_raymond::Raymond;
+use mx_ricart::Ricart;
+use std::alloc::Global;
+
+/// `script`: prints the file of the events that the lines of a text ask for.
+#[derive(Clone, Copy)]
+pub struct Script;
+
+impl Command for Script {
+    ghost reports = { λ _ p text. IsScript p text };
+
+    fn run<O: Output>(
+        &self,
+        alloc: Global,
+        plan: &Plan,
+        text: &[u8],
+        out: &mut O,
+    ) -> Result<u8, Stop> {
+        run_script(alloc, plan, text, &mut NoRecorder, out)
+    }
+}
+
+/// Does what `Script` does. The recorder is told of each event, and of the line that is refused,
+/// unless the script is not UTF-8.
+///
+/// # Errors
+///
+/// Returns the line of the fault of the first line that is not done, `Writer` if the output refuses,
+/// and `Memory` if memory runs out.
+pub fn run_script<K, O: Output>(
+    alloc: Global,
+    plan: &Plan,
+    script: &[u8],
+    recorder: &mut K,
+    out: &mut O,
+) -> Result<u8, Stop>
+where
+    K: Recorder<State<Ricart>> + Recorder<State<Maekawa>> + Recorder<State<Raymond>>,
+    ensures prints { Prints (IsScript plan.now script.now)
+        (sight O.Output out.old) (sight O.Output out.new) result }
+{
+    match file_of_bytes(alloc, plan, script, recorder) {
+        Ok(file) => print(file.as_bytes(), 0, out),
+        Err(stop) => Err(stop),
+    }
+}
+
+fn file_of_bytes<K>(
+    alloc: Global,
+    plan: &Plan,
+    script: &[u8],
+    recorder: &mut K,
+) -> Result<String, Stop>
+where
+    K: Recorder<State<Ricart>> + Recorder<State<Maekawa>> + Recorder<State<Raymond>>,
+    ensures ok { IfOk result (λ file.
+        IsScriptFile plan.now script.now (string_bytes file) plan.now.shape) }
+    ensures err { IfErr result (HasLine (IsRefusedScript plan.now script.now)) }
+{
+    let text = text_in(alloc, script)?;
+    script_file(alloc, plan, text, recorder)
+}
