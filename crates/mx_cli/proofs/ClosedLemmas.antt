@@ -2,7 +2,7 @@
 use Rattle.std.proofs.Common.{◌≡◌, ◌∙◌, refl, sym, false, inl, inr, ℕ, Bool, IfOk, Result, Ok, Err}
 use Rattle.mx_plan.specs.Text.{Text}
 use Rattle.mx_cli.specs.Frames.{Closes, ClosesAs, IsRunStatus}
-use Rattle.mx_cli.specs.Printing.{Course, End, comes_to, course_of, has_fault, has_line, has_status, is_refused, is_short}
+use Rattle.mx_cli.specs.Printing.{End, comes_to, course_of, has_fault, has_line, has_status, is_refused, is_short}
 use Rattle.mx_cli.specs.Reports.{Seen}
 use Rattle.mx_cli.specs.declared.stop.Stop.{Stop}
 use Rattle.mx_cli.specs.declared.stop.Stop.TheVariants as stop

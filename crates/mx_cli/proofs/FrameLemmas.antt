@@ -1,5 +1,5 @@
 -- What the frame makes of a command, from what its parts do.
-use Rattle.std.proofs.Common.{◌≡◌, ◌∙◌, ◌⊎◌, inl, inr, ℕ, Bool, true, false, Option, Some, Result, Ok, Err, IfSome, ap, refl, subst, sym}
+use Rattle.std.proofs.Common.{◌≡◌, ◌∙◌, ◌⊎◌, inl, inr, ℕ, Bool, true, Option, Some, None, Result, Ok, Err, IfSome, ap, refl, subst, sym}
 use Rattle.std.specs.Io.KnownBytes.{Appends, Keeps}
 use Rattle.std.specs.List.{concat}
 use Rattle.mx_plan.specs.Text.{Text}
@@ -8,21 +8,18 @@ use Rattle.mx_plan.specs.declared.faults.PlanFault.{PlanFault}
 use Rattle.mx_plan.specs.declared.faults.PlanFault.TheVariants as plan_fault
 use Rattle.mx_io.specs.Outputs.{Held}
 use Rattle.mx_io.specs.Told.{Telling}
-use Rattle.mx_cli.specs.Outputs.{AppendsSome, refused_after}
-use Rattle.mx_cli.specs.Reading.{IsPlanOf, ReadsBoth}
+use Rattle.mx_cli.specs.Reading.{IsPlanOf, IsUnread, ReadsBoth}
 use Rattle.mx_cli.specs.Reports.{Seen}
-use Rattle.mx_cli.specs.declared.faults.CommandError.{CommandError}
-use Rattle.mx_cli.specs.declared.faults.CommandError.TheVariants as command_error
 use Rattle.mx_cli.specs.declared.faults.Fault.{Fault}
+use Rattle.mx_cli.specs.declared.faults.Named.TheVariants.{Plan, Events}
 use Rattle.mx_cli.specs.declared.faults.Fault.TheVariants.{BadText}
-use Rattle.mx_cli.specs.declared.planning.PlanAndText.{PlanAndText}
 use Rattle.mx_cli.proofs.OutputLemmas.{Appends-keeps, Appends-nil, Keeps-refl, all_some, keeps_on, some_keeps}
-use Rattle.mx_cli.specs.Printing.{Course, EndsEarly, Prints, Report, Shows, ShowsOne, Sight, comes_to, course_of, ends, has_fault, has_line, is_refused, is_short, refused_on, IsStopWith, IsWhole, stop_at, whole}
-use Rattle.mx_cli.specs.Frames.{Closes, ClosesAs, FailsAtOnce, IsReportOf, PrintsReport, RunsOut, Refuses, end_for, ended_for, report_for, unread_for}
+use Rattle.mx_cli.specs.Printing.{AppendsSome, Course, End, EndsEarly, Prints, Report, Shows, ShowsOne, Sight, comes_to, course_of, ends, has_fault, has_line, is_refused, is_short, null_output, refused_on, IsReport, IsStopWith, IsWhole, stop_at, whole}
+use Rattle.mx_cli.specs.Frames.{Closes, ClosesAs, FailsAtOnce, IsReportOf, PrintsReport, RunsOut, Refuses, end_for, report_for, stop_for}
 use Rattle.mx_cli.specs.declared.stop.Stop.{Stop}
 use Rattle.mx_cli.specs.declared.stop.Stop.TheVariants as stop
 
--- ---- reports of which it is one
+-- ---- one of several reports
 
 shows_as : (P Q : Report → Type 0) → ((r : Report) → P r → Q r) → (t : Bool) (a b : Held) (course : Course) → ShowsOne P t a b course → ShowsOne Q t a b course
 shows_as P Q f t a b course (inl early) = inl early
@@ -39,6 +36,27 @@ prints_as P Q f o n res h = record {
 -- memory ran out before anything was printed
 pub memory_prints : (P : Report → Type 0) (o : Sight) → Prints P o o (Err stop.Memory)
 memory_prints P o = record { shows = inl (tt, Keeps-refl o.held); refused = refl; stays = refl }
+
+-- ---- runs that print nothing
+
+-- such a run ends as its report does
+pub silent_end : (r : Report) (end : End) → ShowsOne (IsReport r) true None None (comes_to end) → r.end ≡ end
+silent_end r end (inl early) = absurd early.0
+silent_end r end (inr shown) = ap (λ (q : Report). q.end) (sym shown.1) ∙ shown.2.0
+
+module _ (a b : Report) (same : a.end ≡ b.end) where
+  ends_alike : (course : Course) → ShowsOne (IsReport a) true None None course → ShowsOne (IsReport b) true None None course
+  ends_alike (comes_to end) shown = inr (b, refl, (sym same ∙ silent_end a end shown, tt))
+  ends_alike is_refused (inl early) = inl early
+  ends_alike is_refused (inr shown) = inr (b, refl, (shown.2.0, (0, tt)))
+  ends_alike is_short (inl early) = inl early
+  ends_alike is_short (inr shown) = inr (b, refl, (0, tt))
+
+  -- what is printed does not matter, if it ends alike
+  pub silent_prints : (res : Result ℕ Stop) → Prints (IsReport a) null_output null_output res → Prints (IsReport b) null_output null_output res
+  silent_prints res h = record { shows = ends_alike (course_of res) h.shows; refused = h.refused; stays = h.stays }
+
+-- ---- a report without texts
 
 -- a report that is a line alone
 pub line_prints : (P : Report → Type 0) (text : Text) (o : Sight) (s : Stop) → P (ends (has_line text)) → IsStopWith text s → Prints P o o (Err s)
@@ -67,12 +85,11 @@ module _ (b : Bool) where
   course_for is_refused = is_refused
   course_for is_short = is_short
 
-  course_ended : (res : Result ℕ Stop) → course_of (ended_for b res) ≡ course_for (course_of res)
-  course_ended (Ok status) = refl
-  course_ended (Err (stop.Fault fault)) = refl
-  course_ended (Err (stop.Line line)) = refl
-  course_ended (Err stop.Writer) = refl
-  course_ended (Err stop.Memory) = refl
+  course_stopped : (s : Stop) → course_of (Err (stop_for b Events s)) ≡ course_for (course_of (Err s))
+  course_stopped (stop.Fault fault) = refl
+  course_stopped (stop.Line line) = refl
+  course_stopped stop.Writer = refl
+  course_stopped stop.Memory = refl
 
   refused_for : (course : Course) (x : Bool) → refused_on course x ≡ refused_on (course_for course) x
   refused_for (comes_to end) x = refl
@@ -94,35 +111,41 @@ module _ (b : Bool) where
     one_for t x y course (inl early) = inl (early_for t course early.0, early.1)
     one_for t x y course (inr h) = inr (report_for b h.0, f h.0 h.1, shows_for t h.0 x y course h.2)
 
-    prints_for : (o n : Sight) (res : Result ℕ Stop) → Prints P o n res → Prints Q o n (ended_for b res)
-    prints_for o n res h = record {
-      shows = subst (λ (c : Course). ShowsOne Q o.takes_all o.held n.held c) (sym (course_ended res)) (one_for o.takes_all o.held n.held (course_of res) h.shows);
-      refused = h.refused ∙ refused_for (course_of res) o.refused ∙ ap (λ c. refused_on c o.refused) (sym (course_ended res));
-      stays = h.stays;
+    prints_for : (course : Course) (res : Result ℕ Stop) → course_of res ≡ course_for course → (o n : Sight) → ShowsOne P o.takes_all o.held n.held course → n.refused ≡ refused_on course o.refused
+        → n.takes_all ≡ o.takes_all → Prints Q o n res
+    prints_for course res is o n shows refused stays = record {
+      shows = subst (λ (c : Course). ShowsOne Q o.takes_all o.held n.held c) (sym is) (one_for o.takes_all o.held n.held course shows);
+      refused = refused ∙ refused_for course o.refused ∙ ap (λ c. refused_on c o.refused) (sym is);
+      stays = stays;
     }
 
 -- ---- the files
 
 module _ (reports : Fields → Text → Report → Type 0) (b : Bool) (plan text : Option Telling) where
   -- they were read, and a command ran
-  pub read_prints : (p : Fields) (bytes : Text) (o n : Sight) (res : Result ℕ Stop) → IsPlanOf plan p → IfSome text (λ telling. telling ≡ Some bytes) → Prints (reports p bytes) o n res
-      → Prints (IsReportOf reports b plan text) o n (ended_for b res)
-  read_prints p bytes o n res read fetched h = prints_for b (reports p bytes) (IsReportOf reports b plan text) (λ r is. inr (p, bytes, r, read, fetched, is, refl)) o n res h
+  abbrev is_read : (p : Fields) (bytes : Text) → IsPlanOf plan p → IfSome text (λ telling. telling ≡ Some bytes) → (r : Report) → reports p bytes r → IsReportOf reports b plan text (report_for b r)
+  is_read p bytes read fetched r is = inr (p, bytes, r, read, fetched, is, refl)
+
+  pub ok_prints : (p : Fields) (bytes : Text) (o n : Sight) (status : ℕ) → IsPlanOf plan p → IfSome text (λ telling. telling ≡ Some bytes) → Prints (reports p bytes) o n (Ok status)
+      → Prints (IsReportOf reports b plan text) o n (Ok status)
+  ok_prints p bytes o n status read fetched h =
+      prints_for b (reports p bytes) (IsReportOf reports b plan text) (is_read p bytes read fetched) (course_of (Ok status)) (Ok status) refl o n h.shows h.refused h.stays
+
+  pub stop_prints : (p : Fields) (bytes : Text) (o n : Sight) (s : Stop) → IsPlanOf plan p → IfSome text (λ telling. telling ≡ Some bytes) → Prints (reports p bytes) o n (Err s)
+      → Prints (IsReportOf reports b plan text) o n (Err (stop_for b Events s))
+  stop_prints p bytes o n s read fetched h =
+      prints_for b (reports p bytes) (IsReportOf reports b plan text) (is_read p bytes read fetched) (course_of (Err s)) (Err (stop_for b Events s)) (course_stopped b s) o n h.shows h.refused h.stays
 
   -- they were not
-  pub unread_prints : (o : Sight) (error : CommandError) → ReadsBoth plan text (Err error) → ((before : Bool) → refused_after {T = PlanAndText} (Err error) before ≡ before)
-      → Prints (IsReportOf reports b plan text) o o (Err (unread_for b error))
-  unread_prints o (command_error.Fault fault) unread taken = record {
+  pub unread_prints : (o : Sight) (s : Stop) → ReadsBoth plan text (Err s) → IsUnread s → Prints (IsReportOf reports b plan text) o o (Err (stop_for b Plan s))
+  unread_prints o (stop.Fault fault) unread is = record {
     shows = inr (ends (has_fault _), inl (fault, unread, refl), (refl, Appends-nil o.held));
     refused = refl;
     stays = refl;
   }
-  unread_prints o command_error.Writer unread taken = absurd (let e : true ≡ false = taken false in cc)
-  unread_prints o command_error.Memory unread taken = record {
-    shows = inl (tt, Keeps-refl o.held);
-    refused = refl;
-    stays = refl;
-  }
+  unread_prints o (stop.Line line) unread is = absurd is
+  unread_prints o stop.Writer unread is = absurd is
+  unread_prints o stop.Memory unread is = memory_prints (IsReportOf reports b plan text) o
 
 -- ---- the end
 

@@ -1,5 +1,5 @@
 -- Bytes that are appended in turn.
-use Rattle.std.proofs.Common.{◌≡◌, ◌∙◌, inl, Bool, sym, Option, IfSome, ℕ, List, [], ◌∷◌, ◌++◌, length, take, ap, refl, append_assoc, append-nil, Some, None, subst, arith}
+use Rattle.std.proofs.Common.{◌∙◌, inl, Bool, sym, Option, IfSome, ℕ, List, [], ◌∷◌, ◌++◌, length, take, ap, refl, append_assoc, append-nil, Some, None, subst, arith}
 use Rattle.std.specs.Io.KnownBytes.{Appends, Keeps}
 use Rattle.std.specs.List.{concat}
 use Rattle.std.proofs.lemmas.List.{take_all}
@@ -7,7 +7,7 @@ use Rattle.std.proofs.lemmas.List.Folds.{concat-append}
 use Rattle.mx_stamps.proofs.Lists.{append_nil}
 use Rattle.mx_plan.specs.Text.{Text}
 use Rattle.mx_io.specs.Outputs.{Held}
-use Rattle.mx_cli.specs.Outputs.{AppendsSome}
+use Rattle.mx_cli.specs.Printing.{AppendsSome}
 use Rattle.mx_cli.specs.Reports.{ReportsFault}
 
 pub Appends-nil : (a : Held) → Appends a a []

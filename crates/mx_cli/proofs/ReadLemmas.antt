@@ -1,28 +1,34 @@
 -- A plan that was read with the text that comes with it.
-use Rattle.std.proofs.Common.{◌≡◌, ◌&&◌, inl, ℕ, true, false, List, [], ◌∷◌, Bool, Option, Some, None, Result, Ok, Err, Vec, IfSome, option_map, subst}
+use Rattle.std.proofs.Common.{◌≡◌, ◌&&◌, inl, ℕ, true, false, List, [], ◌∷◌, Option, Some, None, Result, Ok, Err, Vec, IfSome, ap, option_map, subst}
+use Rattle.std.specs.Prelude.{IsErrAnd}
 use Rattle.std.specs.declared.alloc.Global.{Global}
 use Rattle.mx_plan.specs.Text.{Text}
 use Rattle.mx_cli.specs.declared.faults.Named.TheVariants.{Plan}
-use Rattle.mx_cli.specs.declared.faults.CommandError.{CommandError}
 use Rattle.mx_cli.specs.declared.planning.PlanAndText.{PlanAndText}
+use Rattle.mx_cli.specs.declared.stop.Stop.{Stop}
 use Rattle.mx_cli.specs.Asked.{AsksBoth, AsksInTurn}
 use Rattle.mx_cli.specs.Reading.{Fetches, ReadsBoth, is_dash, line_of, plan_told, rest_of, text_told}
 use Rattle.mx_io.specs.Told.{Asks, Telling}
 
+-- what the exit of a `?` returns
+pub err_is : {T E : Type 0} (r : Result T E) (s : E) → IsErrAnd r (λ e. e ≡ s) → r ≡ Err s
+err_is (Ok t) s h = absurd h
+err_is (Err e) s h = ap Err h
+
 -- one text is both
-one_both : (o : Option Telling) (one : Vec ℕ Global) (result : Result PlanAndText CommandError) → IfSome o (λ telling. Fetches Plan telling (Ok one))
+one_both : (o : Option Telling) (one : Vec ℕ Global) (result : Result PlanAndText Stop) → IfSome o (λ telling. Fetches Plan telling (Ok one))
     → ReadsBoth (Some (line_of (Some one.items))) (Some (rest_of (Some one.items))) result → ReadsBoth (option_map line_of o) (option_map rest_of o) result
 one_both None one (Ok both) fetched h = (tt, tt)
 one_both None one (Err end) fetched h = inl tt
 one_both (Some None) one result fetched h = absurd fetched
 one_both (Some (Some bytes)) one result fetched h = subst (λ (l : List ℕ). ReadsBoth (Some (line_of (Some l))) (Some (rest_of (Some l))) result) fetched h
 
-pub one_read : (o : Option Telling) (one : Vec ℕ Global) (bytes : List ℕ) (result : Result PlanAndText CommandError) → IfSome o (λ telling. Fetches Plan telling (Ok one)) → bytes ≡ one.items
+pub one_read : (o : Option Telling) (one : Vec ℕ Global) (bytes : List ℕ) (result : Result PlanAndText Stop) → IfSome o (λ telling. Fetches Plan telling (Ok one)) → bytes ≡ one.items
     → ReadsBoth (Some (line_of (Some bytes))) (Some (rest_of (Some bytes))) result → ReadsBoth (option_map line_of o) (option_map rest_of o) result
 one_read o one bytes result fetched is h =
     one_both o one result fetched (subst (λ (l : List ℕ). ReadsBoth (Some (line_of (Some l))) (Some (rest_of (Some l))) result) is h)
 
-module _ (told : Text → Option Telling) (names : Text × Text) (result : Result PlanAndText CommandError) where
+module _ (told : Text → Option Telling) (names : Text × Text) (result : Result PlanAndText Stop) where
   -- by whether both names are standard input
   pub dashes_read : (is_dash names.0 && is_dash names.1) ≡ true → ReadsBoth (option_map line_of (told names.0)) (option_map rest_of (told names.0)) result
       → ReadsBoth (plan_told told names) (text_told told names) result
@@ -34,7 +40,7 @@ module _ (told : Text → Option Telling) (names : Text × Text) (result : Resul
 
 -- ---- the names that were asked for
 
-module _ (names : Text × Text) (old new : Option (List Text)) (result : Result PlanAndText CommandError) where
+module _ (names : Text × Text) (old new : Option (List Text)) (result : Result PlanAndText Stop) where
   pub dashes_asked : (is_dash names.0 && is_dash names.1) ≡ true → Asks old new (names.0 ∷ []) → AsksBoth names old new result
   dashes_asked both h = rw both h
 

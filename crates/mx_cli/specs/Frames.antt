@@ -1,5 +1,5 @@
 -- What the frame makes of a command: what the two outputs get, and the exit status.
-use Rattle.std.specs.Prelude.{◌≡◌, ◌⊎◌, ◌&&◌, ℕ, Bool, true, false, List, [], ◌∷◌, Option, Some, None, Result, Ok, Err, IfSome, if◌then◌else◌, option_map, unwrap_or}
+use Rattle.std.specs.Prelude.{◌≡◌, ◌⊎◌, ◌&&◌, ℕ, Bool, true, false, List, [], ◌∷◌, Option, Some, None, Err, IfSome, if◌then◌else◌, option_map, unwrap_or}
 use Rattle.std.specs.Io.KnownBytes.{Appends, Keeps}
 use Rattle.std.specs.List.{concat}
 use Rattle.mx_plan.specs.Text.{Text}
@@ -9,16 +9,13 @@ use Rattle.mx_plan.specs.declared.faults.PlanFault.TheVariants as plan_fault
 use Rattle.mx_io.specs.Outputs.{Held}
 use Rattle.mx_io.specs.Told.{Asks, Telling}
 use Rattle.mx_cli.specs.FaultLines.{fault_line}
-use Rattle.mx_cli.specs.Outputs.{AppendsSome}
 use Rattle.mx_cli.specs.Reading.{IsPlanOf, is_dash, ReadsBoth, plan_told, text_told}
 use Rattle.mx_cli.specs.Reports.{MayReport, Seen}
-use Rattle.mx_cli.specs.declared.faults.CommandError.{CommandError}
-use Rattle.mx_cli.specs.declared.faults.CommandError.TheVariants as command_error
 use Rattle.mx_cli.specs.declared.faults.Fault.{Fault}
 use Rattle.mx_cli.specs.declared.faults.Fault.TheVariants.{CannotRead, BadText, NotJson, NoParcel}
 use Rattle.mx_cli.specs.declared.faults.Named.{Named}
 use Rattle.mx_cli.specs.declared.faults.Named.TheVariants.{Plan, Events}
-use Rattle.mx_cli.specs.Printing.{Course, End, Report, comes_to, ends, has_fault, has_line, has_status, is_refused, is_short}
+use Rattle.mx_cli.specs.Printing.{AppendsSome, Course, End, Report, comes_to, ends, has_fault, has_line, has_status, is_refused, is_short}
 use Rattle.mx_cli.specs.declared.files.Files.{Files as Given}
 use Rattle.mx_cli.specs.declared.stop.Stop.{Stop}
 use Rattle.mx_cli.specs.declared.stop.Stop.TheVariants as stop
@@ -100,24 +97,18 @@ end_for names_texts (has_line line) = has_line line
 abbrev pub report_for : Bool → Report → Report
 report_for names_texts r = record { texts = r.texts; end = end_for names_texts r.end }
 
-abbrev pub ended_for : Bool → Result ℕ Stop → Result ℕ Stop
-ended_for names_texts (Ok status) = Ok status
-ended_for names_texts (Err (stop.Fault fault)) = Err (stop.Fault (fault_for names_texts Events fault))
-ended_for names_texts (Err (stop.Line line)) = Err (stop.Line line)
-ended_for names_texts (Err stop.Writer) = Err stop.Writer
-ended_for names_texts (Err stop.Memory) = Err stop.Memory
-
-abbrev pub unread_for : Bool → CommandError → Stop
-unread_for names_texts (command_error.Fault fault) = stop.Fault (fault_for names_texts Plan fault)
-unread_for names_texts command_error.Writer = stop.Writer
-unread_for names_texts command_error.Memory = stop.Memory
+abbrev pub stop_for : Bool → Named → Stop → Stop
+stop_for names_texts part (stop.Fault fault) = stop.Fault (fault_for names_texts part fault)
+stop_for names_texts part (stop.Line line) = stop.Line line
+stop_for names_texts part stop.Writer = stop.Writer
+stop_for names_texts part stop.Memory = stop.Memory
 
 -- ---- the reports of files
 
 -- the files were not read, for this fault
 abbrev pub IsUnreadReport : Bool → Option Telling → Option Telling → Report → Type 0
 IsUnreadReport names_texts plan text r =
-    (fault : Fault) × ReadsBoth plan text (Err (command_error.Fault fault))
+    (fault : Fault) × ReadsBoth plan text (Err (stop.Fault fault))
     × (r ≡ ends (has_fault (fault_for names_texts Plan fault)))
 
 -- the files were read, and it is a report of the plan and the text in them

@@ -1,5 +1,5 @@
 -- What a command prints, and how it ends.
-use Rattle.std.specs.Prelude.{◌≡◌, ◌⊎◌, ℕ, Bool, true, false, List, [], ◌∷◌, ⊤, Result, Ok, Err, string_bytes}
+use Rattle.std.specs.Prelude.{◌≡◌, ◌⊎◌, ℕ, Bool, true, false, List, [], ◌∷◌, None, ⊤, Result, Ok, Err, string_bytes, take}
 use Rattle.std.specs.Io.KnownBytes.{Appends, Keeps}
 use Rattle.std.specs.List.{concat}
 use Rattle.mx_plan.specs.Text.{Text}
@@ -9,9 +9,6 @@ use Rattle.mx_io.specs.Outputs.{Held}
 use Rattle.mx_io.specs.declared.output.Output.{Ghosts as OutputOf}
 use Rattle.mx_io.specs.declared.output.OutputFault.{OutputFault}
 use Rattle.mx_io.specs.declared.output.OutputFault.TheVariants as output_fault
-use Rattle.mx_cli.specs.Outputs.{AppendsSome}
-use Rattle.mx_cli.specs.declared.faults.CommandError.{CommandError}
-use Rattle.mx_cli.specs.declared.faults.CommandError.TheVariants as command_error
 use Rattle.mx_cli.specs.declared.faults.Fault.{Fault}
 use Rattle.mx_cli.specs.declared.faults.Fault.TheVariants.{BadText}
 use Rattle.mx_cli.specs.declared.stop.Stop.{Stop}
@@ -39,8 +36,12 @@ whole text status = record { texts = text ∷ []; end = has_status status }
 abbrev pub ends : End → Report
 ends end = record { texts = []; end = end }
 
+-- this report, and (below) that of one text and a status
+abbrev pub IsReport : Report → Report → Type 0
+IsReport report r = r ≡ report
+
 abbrev pub IsWhole : Text → ℕ → Report → Type 0
-IsWhole text status r = r ≡ whole text status
+IsWhole text status = IsReport (whole text status)
 
 -- ---- how far a run comes
 
@@ -73,6 +74,14 @@ pub record Sight : Type 0 where
 abbrev pub sight : {A : Type 0} → OutputOf A → A → Sight
 sight o out =
     record { held = o.written out; refused = o.has_refused out; takes_all = o.takes_all out }
+
+-- the same of an output that takes all texts, and keeps nothing
+abbrev pub null_output : Sight
+null_output = record { held = None; refused = false; takes_all = true }
+
+-- the first n of these texts, for some n, were appended, each whole
+abbrev pub AppendsSome : Held → Held → List Text → Type 0
+AppendsSome old new texts = (n : ℕ) × Appends old new (concat (take n texts))
 
 -- the texts of a report were printed, all or the first of them, each whole
 abbrev pub Shows : Bool → Report → Held → Held → Course → Type 0
@@ -113,11 +122,6 @@ IsStopWith text stop.Memory = ⊤
 abbrev pub stop_of : OutputFault → Stop
 stop_of output_fault.Refused = stop.Writer
 stop_of output_fault.Memory = stop.Memory
-
-abbrev pub stop_as : CommandError → Stop
-stop_as (command_error.Fault fault) = stop.Fault fault
-stop_as command_error.Writer = stop.Writer
-stop_as command_error.Memory = stop.Memory
 
 abbrev pub stop_at : PlanFault → Stop
 stop_at plan_fault.Memory = stop.Memory

@@ -1,22 +1,20 @@
 -- What is read from a source: a plan, and the text that comes with it (events, a script or a
 -- trace); and why it is refused.
-use Rattle.std.specs.Prelude.{◌≡◌, ◌⊎◌, ◌&&◌, ◌==◌, ℕ, Bool, List, Option, Some, None, Result, Ok, Err, Vec, IfOk, IfSome, codes, if◌then◌else◌, option_map}
+use Rattle.std.specs.Prelude.{◌≡◌, ◌⊎◌, ◌&&◌, ◌==◌, ℕ, ⊤, Bool, List, Option, Some, None, Result, Ok, Err, Vec, IfOk, IfSome, codes, if◌then◌else◌, option_map}
 use Rattle.std.specs.List.{after_first, before_first}
-use Rattle.std.specs.Option.{option_map_or}
 use Rattle.std.specs.Str.{bytes_eq}
 use Rattle.std.specs.declared.alloc.Global.{Global}
 use Rattle.mx_plan.specs.Text.{Text}
 use Rattle.mx_plan.specs.Fields.{Fields, IsPlan}
 use Rattle.mx_plan.specs.Plans.{IsOutcome, draft_at}
 use Rattle.mx_plan.specs.declared.faults.PlanFault.{PlanFault}
-use Rattle.mx_plan.specs.declared.faults.PlanFault.TheVariants as plan_fault
-use Rattle.mx_cli.specs.declared.faults.Fault.{Fault}
-use Rattle.mx_cli.specs.declared.faults.Fault.TheVariants.{CannotRead, BadText}
+use Rattle.mx_cli.specs.declared.faults.Fault.TheVariants.{CannotRead}
 use Rattle.mx_cli.specs.declared.faults.Named.{Named}
 use Rattle.mx_cli.specs.declared.faults.Named.TheVariants.{Plan, Events}
-use Rattle.mx_cli.specs.declared.faults.CommandError.{CommandError}
-use Rattle.mx_cli.specs.declared.faults.CommandError.TheVariants as command_error
 use Rattle.mx_cli.specs.declared.planning.PlanAndText.{PlanAndText}
+use Rattle.mx_cli.specs.declared.stop.Stop.{Stop}
+use Rattle.mx_cli.specs.declared.stop.Stop.TheVariants as stop
+use Rattle.mx_cli.specs.Printing.{stop_at}
 use Rattle.mx_io.specs.Told.{Telling}
 
 -- the name is that of standard input
@@ -44,16 +42,11 @@ text_told told names =
 
 -- the bytes of a name were fetched, as the source states them; or the name can't be read, or memory
 -- ran out
-abbrev pub Fetches : Named → Telling → Result (Vec ℕ Global) CommandError → Type 0
+abbrev pub Fetches : Named → Telling → Result (Vec ℕ Global) Stop → Type 0
 Fetches named (Some bytes) (Ok v) = v.items ≡ bytes
 Fetches named None (Ok v) = ⊥
-Fetches named (Some bytes) (Err fault) = fault ≡ command_error.Memory
-Fetches named None (Err fault) = (fault ≡ command_error.Fault (CannotRead named)) ⊎ (fault ≡ command_error.Memory)
-
--- why a text is refused; `None` if memory ran out, since the text is not refused then
-abbrev pub fault_of : PlanFault → Option Fault
-fault_of plan_fault.Memory = None
-fault_of fault = Some (BadText fault)
+Fetches named (Some bytes) (Err fault) = fault ≡ stop.Memory
+Fetches named None (Err fault) = (fault ≡ stop.Fault (CannotRead named)) ⊎ (fault ≡ stop.Memory)
 
 -- what the bytes of a plan give by the rules of plans: a plan, with the properties of every plan,
 -- or a fault
@@ -61,18 +54,21 @@ pub record IsRead (bytes : List ℕ) (planned : Result Fields PlanFault) : Type 
   pub outcome : IsOutcome (draft_at bytes) planned
   pub valid : IfOk planned IsPlan
 
--- why a run stops at a text that has this fault
-abbrev pub refusal_of : PlanFault → CommandError
-refusal_of fault = option_map_or command_error.Fault (fault_of fault) command_error.Memory
+-- why nothing is read: a fault, or that memory ran out
+abbrev pub IsUnread : Stop → Type 0
+IsUnread (stop.Fault fault) = ⊤
+IsUnread (stop.Line line) = ⊥
+IsUnread stop.Writer = ⊥
+IsUnread stop.Memory = ⊤
 
 -- a plan was read from what the source holds, or this is why it was not
-abbrev pub Reads : Telling → Result Fields CommandError → Type 0
+abbrev pub Reads : Telling → Result Fields Stop → Type 0
 Reads None (Ok p) = ⊥
-Reads None (Err end) = (end ≡ command_error.Fault (CannotRead Plan)) ⊎ (end ≡ command_error.Memory)
+Reads None (Err end) = (end ≡ stop.Fault (CannotRead Plan)) ⊎ (end ≡ stop.Memory)
 Reads (Some bytes) (Ok p) = IsRead bytes (Ok p)
 Reads (Some bytes) (Err end) =
-    (end ≡ command_error.Memory) ⊎ ((fault : PlanFault) × IsRead bytes (Err fault)
-    × (end ≡ refusal_of fault))
+    (end ≡ stop.Memory) ⊎ ((fault : PlanFault) × IsRead bytes (Err fault)
+    × (end ≡ stop_at fault))
 
 -- the plan was read, if the source states what it holds
 abbrev pub IsPlanOf : Option Telling → Fields → Type 0
@@ -80,7 +76,7 @@ IsPlanOf told p = IfSome told (λ telling. Reads telling (Ok p))
 
 -- a plan was read, and the text that comes with it was fetched; or the plan was not read; or the
 -- plan was, and the text was not fetched
-abbrev pub ReadsBoth : Option Telling → Option Telling → Result PlanAndText CommandError → Type 0
+abbrev pub ReadsBoth : Option Telling → Option Telling → Result PlanAndText Stop → Type 0
 ReadsBoth plan text (Ok both) =
     IsPlanOf plan both.plan × IfSome text (λ telling. telling ≡ Some both.text.items)
 ReadsBoth plan text (Err end) =

@@ -1,13 +1,15 @@
-//! The interface of a command.
+//! The interface of a command, and what a command of one text prints.
 
+ghost use Rattle.std.specs.Prelude.{IfSome};
 ghost use Rattle.mx_plan.specs.Text.{Text};
 ghost use Rattle.mx_plan.specs.Fields.{Fields};
-ghost use Rattle.mx_cli.specs.Printing.{Prints, Report, sight};
+ghost use Rattle.mx_cli.specs.Printing.{IsWhole, Prints, Report, sight};
 
 use crate::stop::Stop;
 use mx_io::Output;
 use mx_plan::Plan;
 use std::alloc::Global;
+use std::fmt::Display;
 
 /// A command, with its options: what it prints of a plan and of the text that comes with the plan.
 pub trait Command {
@@ -29,4 +31,31 @@ pub trait Command {
     ) -> Result<u8, Stop>
         ensures prints { Prints (reports self.now plan.now text.now)
             (sight O.Output out.old) (sight O.Output out.new) result };
+}
+
+/// Prints a text, the only one of a command, and returns the status.
+pub fn print<O: Output>(text: &[u8], status: u8, out: &mut O) -> Result<u8, Stop>
+    ensures prints { Prints (IsWhole text.now status)
+        (sight O.Output out.old) (sight O.Output out.new) result }
+{
+    match out.put(text) {
+        Ok(()) => Ok(status),
+        Err(fault) => Err(Stop::from(fault)),
+    }
+}
+
+/// Prints a line, the only one of a command, and returns the status.
+pub fn print_line<O: Output, D: Display + Drop>(
+    alloc: Global,
+    line: D,
+    status: u8,
+    out: &mut O,
+) -> Result<u8, Stop>
+    ensures prints { IfSome (D.output line) (λ text. Prints (IsWhole text status)
+        (sight O.Output out.old) (sight O.Output out.new) result) }
+{
+    match line.to_string(alloc) {
+        Ok(text) => print(text.as_bytes(), status, out),
+        Err(_) => Err(Stop::Memory),
+    }
 }

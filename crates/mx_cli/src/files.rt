@@ -1,15 +1,15 @@
 //! The files of a command.
 
-ghost use Rattle.std.specs.Prelude.{◌≡◌, [], ◌∷◌, Bool, Some};
+ghost use Rattle.std.specs.Prelude.{◌≡◌, [], ◌∷◌, IfErr, Some};
 ghost use Rattle.mx_io.specs.Told.{Asks};
-ghost use Rattle.mx_cli.specs.Outputs.{refused_after};
-ghost use Rattle.mx_cli.specs.Reading.{ReadsBoth};
+ghost use Rattle.mx_cli.specs.Reading.{IsUnread, ReadsBoth};
 ghost use Rattle.mx_cli.specs.Words.{names_of};
 ghost use Rattle.mx_cli.specs.Frames as spec;
 
-use crate::faults::{CommandError, Fault, Named};
+use crate::faults::{Fault, Named};
 use crate::planning::{PlanAndText, fetch_both, fetch_plan};
 use crate::request::Names;
+use crate::stop::Stop;
 use mx_io::Source;
 use mx_plan::PlanFault;
 use std::alloc::Global;
@@ -51,15 +51,9 @@ impl<'a> Files<'a> {
     pub(crate) fn names(&self) -> Names<'a>
         ensures { names_of result ≡ spec.names_of (spec.files_of self.now) }
     {
-        match self.text {
-            Some(text) => Names {
-                plan: self.plan,
-                events: text,
-            },
-            None => Names {
-                plan: self.plan,
-                events: self.plan,
-            },
+        Names {
+            plan: self.plan,
+            events: self.text.unwrap_or(self.plan),
         }
     }
 }
@@ -69,11 +63,11 @@ pub(crate) fn fetch_files<S: Source>(
     alloc: Global,
     source: &mut S,
     files: &Files<'_>,
-) -> Result<PlanAndText, CommandError>
+) -> Result<PlanAndText, Stop>
     ensures read { ReadsBoth (spec.told_plan (S.told source.old) (spec.files_of files.now))
         (spec.told_text (S.told source.old) (spec.files_of files.now)) result }
     ensures asks { spec.AsksFiles (spec.files_of files.now) (S.asked source.old) (S.asked source.new) }
-    ensures taken { (before : Bool) → refused_after result before ≡ before }
+    ensures unread { IfErr result IsUnread }
 {
     match files.text {
         Some(text) => {
@@ -88,21 +82,17 @@ pub(crate) fn fetch_files<S: Source>(
 }
 
 /// Reads the plan of this name. The text that comes with it is empty.
-fn fetch_alone<S: Source>(
-    alloc: Global,
-    source: &mut S,
-    name: &str,
-) -> Result<PlanAndText, CommandError>
+fn fetch_alone<S: Source>(alloc: Global, source: &mut S, name: &str) -> Result<PlanAndText, Stop>
     ensures read { ReadsBoth (S.told source.old name.now) (Some (Some [])) result }
     ensures asks { Asks (S.asked source.old) (S.asked source.new) (name.now ∷ []) }
-    ensures taken { (before : Bool) → refused_after result before ≡ before }
+    ensures unread { IfErr result IsUnread }
 {
     match fetch_plan(alloc, source, name) {
         Ok(plan) => Ok(PlanAndText {
             plan,
             text: Vec::new(alloc),
         }),
-        Err(error) => Err(error),
+        Err(stop) => Err(stop),
     }
 }
 

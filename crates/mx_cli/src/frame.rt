@@ -3,11 +3,11 @@
 ghost use Rattle.std.specs.Prelude.{◌≡◌};
 ghost use Rattle.mx_cli.specs.Reports.{ReportsFault, seen};
 ghost use Rattle.mx_cli.specs.Words.{names_of};
-ghost use Rattle.mx_cli.specs.Printing.{Prints, course_of, sight, stop_as};
-ghost use Rattle.mx_cli.specs.Frames.{AsksFiles, Closes, IsReportOf, Runs, TellsEnd, ended_for, files_of, told_plan, told_text, unread_for};
+ghost use Rattle.mx_cli.specs.Printing.{Prints, course_of, sight};
+ghost use Rattle.mx_cli.specs.Frames.{AsksFiles, Closes, IsReportOf, Runs, TellsEnd, files_of, stop_for, told_plan, told_text};
 
 use crate::command::Command;
-use crate::faults::{CommandError, Named};
+use crate::faults::Named;
 use crate::files::{Files, fault_for, fetch_files};
 use crate::report::{report_fault, report_memory};
 use crate::request::Names;
@@ -54,35 +54,22 @@ pub fn run_files<C: Command, S: Source, O: Output>(
     ensures asks { AsksFiles (files_of files.now) (S.asked source.old) (S.asked source.new) }
 {
     match fetch_files(alloc, source, files) {
-        Ok(both) => {
-            let ended = command.run(alloc, &both.plan, both.text.as_slice(), out);
-            ended_for(ended, files.names_texts)
-        }
-        Err(error) => Err(unread_for(error, files.names_texts)),
+        Ok(both) => match command.run(alloc, &both.plan, both.text.as_slice(), out) {
+            Ok(status) => Ok(status),
+            Err(stop) => Err(stop_for(stop, files.names_texts, Named::Events)),
+        },
+        Err(stop) => Err(stop_for(stop, files.names_texts, Named::Plan)),
     }
 }
 
-/// Returns how a run ended. If texts are named, a fault of the text that comes with the plan names
-/// it.
-fn ended_for(ended: Result<u8, Stop>, names_texts: bool) -> Result<u8, Stop>
-    ensures { result ≡ ended_for names_texts ended }
+/// Returns a reason to stop. If texts are named, the fault that a text is not JSON names the text
+/// `part`.
+pub fn stop_for(stop: Stop, names_texts: bool, part: Named) -> Stop
+    ensures { result ≡ stop_for names_texts part stop }
 {
-    match ended {
-        Err(Stop::Fault(fault)) => {
-            Err(Stop::Fault(fault_for(fault, names_texts, Named::Events)))
-        }
+    match stop {
+        Stop::Fault(fault) => Stop::Fault(fault_for(fault, names_texts, part)),
         other => other,
-    }
-}
-
-/// Returns why the files were not read. If texts are named, a fault of the plan names it.
-pub fn unread_for(error: CommandError, names_texts: bool) -> Stop
-    ensures { result ≡ unread_for names_texts error }
-{
-    match error {
-        CommandError::Fault(fault) => Stop::Fault(fault_for(fault, names_texts, Named::Plan)),
-        CommandError::Writer => Stop::Writer,
-        CommandError::Memory => Stop::Memory,
     }
 }
 

@@ -15,21 +15,19 @@ mod frame;
 mod help;
 mod line;
 mod planning;
-mod printing;
 mod reader;
 mod report;
 mod request;
 mod stop;
 mod table;
 
-pub use command::Command;
+pub use command::{Command, print, print_line};
 pub use fault_lines::FaultLine;
-pub use faults::{CommandError, Fault, Named};
+pub use faults::{Fault, Named};
 pub use files::Files;
 pub use first_line::{are_dashes, split_line};
-pub use frame::{close, front, run_files, unread_for};
+pub use frame::{close, front, run_files, stop_for};
 pub use planning::{PlanAndText, fetch, fetch_both, fetch_plan, plan_in};
-pub use printing::{print, print_line};
 pub use reader::parse;
 pub use report::{refuse, report_fault, report_memory, report_misfit, write_line};
 pub use request::{

@@ -1,15 +1,15 @@
 //! Fetches the bytes that a command names, and reads its plan.
 
-ghost use Rattle.std.specs.Prelude.{◌≡◌, [], ◌∷◌, Bool, Some, IfSome, option_map};
+ghost use Rattle.std.specs.Prelude.{◌≡◌, [], ◌∷◌, Some, IfErr, IfSome, option_map};
 ghost use Rattle.mx_io.specs.Told.{Asks};
 ghost use Rattle.mx_cli.specs.Asked.{AsksBoth, AsksInTurn};
-ghost use Rattle.mx_cli.specs.Outputs.{refused_after};
-ghost use Rattle.mx_cli.specs.Reading.{Reads, ReadsBoth, Fetches, line_of, plan_told, rest_of, text_told};
+ghost use Rattle.mx_cli.specs.Reading.{Fetches, IsUnread, Reads, ReadsBoth, line_of, plan_told, rest_of, text_told};
 ghost use Rattle.mx_cli.specs.Words.{names_of};
 
-use crate::faults::{CommandError, Fault, Named};
+use crate::faults::{Fault, Named};
 use crate::first_line::{are_dashes, split_line};
 use crate::request::Names;
+use crate::stop::Stop;
 use mx_io::{Source, SourceFault};
 use mx_plan::{Plan, read_plan};
 use std::alloc::Global;
@@ -27,29 +27,25 @@ pub fn fetch<S: Source>(
     source: &mut S,
     name: &str,
     named: Named,
-) -> Result<Vec<u8>, CommandError>
+) -> Result<Vec<u8>, Stop>
     ensures told { IfSome (S.told source.old name.now) (λ telling. Fetches named telling result) }
     ensures asks { Asks (S.asked source.old) (S.asked source.new) (name.now ∷ []) }
-    ensures taken { (before : Bool) → refused_after result before ≡ before }
+    ensures unread { IfErr result IsUnread }
     ensures stays { S.told source.new ≡ S.told source.old }
 {
     match source.bytes(alloc, name) {
         Ok(bytes) => Ok(bytes),
-        Err(SourceFault::Unreadable) => Err(CommandError::Fault(Fault::CannotRead(named))),
-        Err(SourceFault::Memory) => Err(CommandError::Memory),
+        Err(SourceFault::Unreadable) => Err(Stop::Fault(Fault::CannotRead(named))),
+        Err(SourceFault::Memory) => Err(Stop::Memory),
     }
 }
 
 /// Reads the plan that the source has under a name. What the source has under its names does not
 /// change.
-pub fn fetch_plan<S: Source>(
-    alloc: Global,
-    source: &mut S,
-    name: &str,
-) -> Result<Plan, CommandError>
+pub fn fetch_plan<S: Source>(alloc: Global, source: &mut S, name: &str) -> Result<Plan, Stop>
     ensures told { IfSome (S.told source.old name.now) (λ telling. Reads telling result) }
     ensures asks { Asks (S.asked source.old) (S.asked source.new) (name.now ∷ []) }
-    ensures taken { (before : Bool) → refused_after result before ≡ before }
+    ensures unread { IfErr result IsUnread }
     ensures stays { S.told source.new ≡ S.told source.old }
 {
     let bytes = fetch(alloc, source, name, Named::Plan)?;
@@ -57,13 +53,13 @@ pub fn fetch_plan<S: Source>(
 }
 
 /// Reads a plan from its text.
-pub fn plan_in(alloc: Global, text: &[u8]) -> Result<Plan, CommandError>
+pub fn plan_in(alloc: Global, text: &[u8]) -> Result<Plan, Stop>
     ensures read { Reads (Some text.now) result }
-    ensures taken { (before : Bool) → refused_after result before ≡ before }
+    ensures unread { IfErr result IsUnread }
 {
     match read_plan(alloc, text) {
         Ok(plan) => Ok(plan),
-        Err(fault) => Err(CommandError::from(fault)),
+        Err(fault) => Err(Stop::from(fault)),
     }
 }
 
@@ -75,11 +71,11 @@ pub fn fetch_both<S: Source>(
     alloc: Global,
     source: &mut S,
     names: &Names<'_>,
-) -> Result<PlanAndText, CommandError>
+) -> Result<PlanAndText, Stop>
     ensures read { ReadsBoth (plan_told (S.told source.old) (names_of names.now))
         (text_told (S.told source.old) (names_of names.now)) result }
     ensures asks { AsksBoth (names_of names.now) (S.asked source.old) (S.asked source.new) result }
-    ensures taken { (before : Bool) → refused_after result before ≡ before }
+    ensures unread { IfErr result IsUnread }
 {
     if are_dashes(names) {
         fetch_one(alloc, source, names.plan)
@@ -88,24 +84,20 @@ pub fn fetch_both<S: Source>(
     }
 }
 
-fn fetch_one<S: Source>(
-    alloc: Global,
-    source: &mut S,
-    name: &str,
-) -> Result<PlanAndText, CommandError>
+fn fetch_one<S: Source>(alloc: Global, source: &mut S, name: &str) -> Result<PlanAndText, Stop>
     ensures read { ReadsBoth (option_map line_of (S.told source.old name.now))
         (option_map rest_of (S.told source.old name.now)) result }
     ensures asks { Asks (S.asked source.old) (S.asked source.new) (name.now ∷ []) }
-    ensures taken { (before : Bool) → refused_after result before ≡ before }
+    ensures unread { IfErr result IsUnread }
 {
     let one = fetch(alloc, source, name, Named::Plan)?;
     both_in(alloc, one.as_slice())
 }
 
-fn both_in(alloc: Global, bytes: &[u8]) -> Result<PlanAndText, CommandError>
+fn both_in(alloc: Global, bytes: &[u8]) -> Result<PlanAndText, Stop>
     ensures read { ReadsBoth (Some (line_of (Some bytes.now)))
         (Some (rest_of (Some bytes.now))) result }
-    ensures taken { (before : Bool) → refused_after result before ≡ before }
+    ensures unread { IfErr result IsUnread }
 {
     let (line, rest) = split_line(bytes);
     let plan = plan_in(alloc, line)?;
@@ -117,11 +109,11 @@ fn fetch_two<S: Source>(
     alloc: Global,
     source: &mut S,
     names: &Names<'_>,
-) -> Result<PlanAndText, CommandError>
+) -> Result<PlanAndText, Stop>
     ensures read { ReadsBoth (S.told source.old names.now.plan.now)
         (S.told source.old names.now.events.now) result }
     ensures asks { AsksInTurn (names_of names.now) (S.asked source.old) (S.asked source.new) result }
-    ensures taken { (before : Bool) → refused_after result before ≡ before }
+    ensures unread { IfErr result IsUnread }
 {
     let plan = fetch_plan(alloc, source, names.plan)?;
     let text = fetch(alloc, source, names.events, Named::Events)?;

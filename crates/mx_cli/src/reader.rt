@@ -73,9 +73,7 @@ fn request_in<'a>(name: &str, matches: &ArgMatches<'a>) -> Option<Request<'a>>
 fn check_in<'a>(matches: &ArgMatches<'a>) -> Option<Request<'a>>
     ensures { option_map spec.request_of result ≡ spec.check_in (rows_of (found_of matches.now)) }
 {
-    let Some(plan) = text_at(matches, "PLAN") else {
-        return None;
-    };
+    let plan = text_at(matches, "PLAN")?;
     Some(Request::Check {
         plan,
         has_asks: is_given(matches, "asks"),
@@ -86,9 +84,7 @@ fn check_in<'a>(matches: &ArgMatches<'a>) -> Option<Request<'a>>
 fn replay_in<'a>(matches: &ArgMatches<'a>) -> Option<Request<'a>>
     ensures { option_map spec.request_of result ≡ spec.replay_in (rows_of (found_of matches.now)) }
 {
-    let Some(names) = names_in(matches, "EVENTS") else {
-        return None;
-    };
+    let names = names_in(matches, "EVENTS")?;
     let view = ViewOptions {
         is_quiet: is_given(matches, "quiet"),
         node: text_at(matches, "node"),
@@ -101,9 +97,7 @@ fn replay_in<'a>(matches: &ArgMatches<'a>) -> Option<Request<'a>>
 fn explore_in<'a>(matches: &ArgMatches<'a>) -> Option<Request<'a>>
     ensures { option_map spec.request_of result ≡ spec.explore_in (rows_of (found_of matches.now)) }
 {
-    let Some(exploration) = exploration_at(matches) else {
-        return None;
-    };
+    let exploration = exploration_at(matches)?;
     if is_given(matches, "walk") {
         return Some(walk_in(matches, exploration));
     }
@@ -133,12 +127,8 @@ fn walk_in<'a>(matches: &ArgMatches<'a>, exploration: Exploration<'a>) -> Reques
 fn live_in<'a>(matches: &ArgMatches<'a>) -> Option<Request<'a>>
     ensures { option_map spec.request_of result ≡ spec.live_in (rows_of (found_of matches.now)) }
 {
-    let Some(plan) = text_at(matches, "PLAN") else {
-        return None;
-    };
-    let Some(sections) = number_at(matches, "sections") else {
-        return None;
-    };
+    let plan = text_at(matches, "PLAN")?;
+    let sections = number_at(matches, "sections")?;
     Some(Request::Live(LiveRequest {
         plan,
         sections,
@@ -152,9 +142,7 @@ fn live_in<'a>(matches: &ArgMatches<'a>) -> Option<Request<'a>>
 fn draw_in<'a>(matches: &ArgMatches<'a>) -> Option<Request<'a>>
     ensures { option_map spec.request_of result ≡ spec.draw_in (rows_of (found_of matches.now)) }
 {
-    let Some(exploration) = exploration_at(matches) else {
-        return None;
-    };
+    let exploration = exploration_at(matches)?;
     if is_given(matches, "walk") {
         return Some(Request::Draw(exploration, Some(conditions_in(matches))));
     }
@@ -187,9 +175,7 @@ fn has_conditions(matches: &ArgMatches<'_>) -> bool
 fn play_in<'a>(matches: &ArgMatches<'a>) -> Option<Request<'a>>
     ensures { option_map spec.request_of result ≡ spec.play_in (rows_of (found_of matches.now)) }
 {
-    let Some(plan) = text_at(matches, "PLAN") else {
-        return None;
-    };
+    let plan = text_at(matches, "PLAN")?;
     Some(Request::Play {
         plan,
         script: text_at(matches, "SCRIPT"),
@@ -199,9 +185,7 @@ fn play_in<'a>(matches: &ArgMatches<'a>) -> Option<Request<'a>>
 fn picture_in<'a>(matches: &ArgMatches<'a>) -> Option<Request<'a>>
     ensures { option_map spec.request_of result ≡ spec.picture_in (rows_of (found_of matches.now)) }
 {
-    let Some(names) = names_in(matches, "EVENTS") else {
-        return None;
-    };
+    let names = names_in(matches, "EVENTS")?;
     let options = PictureOptions {
         from: number_or(matches, "from", 0),
         to: number_or(matches, "to", u64::MAX),
@@ -214,9 +198,7 @@ fn picture_in<'a>(matches: &ArgMatches<'a>) -> Option<Request<'a>>
 fn count_in<'a>(matches: &ArgMatches<'a>) -> Option<Request<'a>>
     ensures { option_map spec.request_of result ≡ spec.count_in (rows_of (found_of matches.now)) }
 {
-    let Some(names) = names_in(matches, "EVENTS") else {
-        return None;
-    };
+    let names = names_in(matches, "EVENTS")?;
     Some(Request::Count {
         names,
         is_json: is_given(matches, "json"),
@@ -226,9 +208,7 @@ fn count_in<'a>(matches: &ArgMatches<'a>) -> Option<Request<'a>>
 fn explain_in<'a>(matches: &ArgMatches<'a>) -> Option<Request<'a>>
     ensures { option_map spec.request_of result ≡ spec.explain_in (rows_of (found_of matches.now)) }
 {
-    let Some(plan) = text_at(matches, "PLAN") else {
-        return None;
-    };
+    let plan = text_at(matches, "PLAN")?;
     Some(Request::Explain {
         plan,
         second: text_at(matches, "EVENTS"),
@@ -240,12 +220,8 @@ fn explain_in<'a>(matches: &ArgMatches<'a>) -> Option<Request<'a>>
 fn names_in<'a>(matches: &ArgMatches<'a>, id: &str) -> Option<Names<'a>>
     ensures { option_map names_of result ≡ spec.names_in id.now (rows_of (found_of matches.now)) }
 {
-    let Some(plan) = text_at(matches, "PLAN") else {
-        return None;
-    };
-    let Some(events) = text_at(matches, id) else {
-        return None;
-    };
+    let plan = text_at(matches, "PLAN")?;
+    let events = text_at(matches, id)?;
     Some(Names { plan, events })
 }
 
@@ -253,15 +229,9 @@ fn names_in<'a>(matches: &ArgMatches<'a>, id: &str) -> Option<Names<'a>>
 fn exploration_at<'a>(matches: &ArgMatches<'a>) -> Option<Exploration<'a>>
     ensures { option_map explored result ≡ exploration_at (rows_of (found_of matches.now)) }
 {
-    let Some(plan) = text_at(matches, "PLAN") else {
-        return None;
-    };
-    let Some(seed) = number_at(matches, "seed") else {
-        return None;
-    };
-    let Some(steps) = number_at(matches, "steps") else {
-        return None;
-    };
+    let plan = text_at(matches, "PLAN")?;
+    let seed = number_at(matches, "seed")?;
+    let steps = number_at(matches, "steps")?;
     Some(Exploration { plan, seed, steps })
 }
 

@@ -16,36 +16,6 @@ use mx_io::{Output, OutputFault};
 use std::alloc::Global;
 use std::fmt::Display;
 
-const DRAW_WITHOUT_WALK: &str = "error: the following required arguments were not provided:
-  --walk
-
-Usage: mx draw --seed <seed> --steps <steps> --walk <PLAN>
-
-For more information, try '--help'.
-";
-
-const EXPLORE_WITHOUT_WALK: &str = "error: the following required arguments were not provided:
-  --walk
-
-Usage: mx explore --seed <seed> --steps <steps> --walk <PLAN>
-
-For more information, try '--help'.
-";
-
-const WALK_WITH_COUNT: &str = "error: unexpected argument '--count' found
-
-Usage: mx explore --seed <seed> --steps <steps> --walk <PLAN>
-
-For more information, try '--help'.
-";
-
-const WALK_WITH_JSON: &str = "error: unexpected argument '--json' found
-
-Usage: mx explore --seed <seed> --steps <steps> --walk <PLAN>
-
-For more information, try '--help'.
-";
-
 /// Writes the help that was requested to `out`, or what is wrong with the arguments to `err`.
 /// Returns the exit status.
 pub fn refuse<O: Output, E: Output>(alloc: Global, e: &clap::Error, out: &mut O, err: &mut E) -> u8
@@ -63,16 +33,10 @@ pub fn refuse<O: Output, E: Output>(alloc: Global, e: &clap::Error, out: &mut O,
 }
 
 /// Writes which options do not go together, and returns the exit status 2.
-pub fn report_misfit<E: Output>(misfit: Misfit, err: &mut E) -> u8
+pub fn report_misfit<E: Output>(alloc: Global, misfit: Misfit, err: &mut E) -> u8
     ensures { result ≡ 2 }
 {
-    let text = match misfit {
-        Misfit::DrawWithoutWalk => DRAW_WITHOUT_WALK,
-        Misfit::ExploreWithoutWalk => EXPLORE_WITHOUT_WALK,
-        Misfit::WalkWithCount => WALK_WITH_COUNT,
-        Misfit::WalkWithJson => WALK_WITH_JSON,
-    };
-    let _ = err.put(text.as_bytes());
+    let _ = write_line(alloc, err, misfit);
     2
 }
 

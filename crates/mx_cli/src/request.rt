@@ -1,5 +1,7 @@
 //! What the words of a command line ask for.
 
+use std::fmt;
+
 /// The names of a plan and of its events, or of a script or a trace in place of events. The name
 /// `-` is standard input.
 #[derive(Clone, Copy, Debug, PartialEq, Eq)]
@@ -8,7 +10,7 @@ pub struct Names<'a> {
     pub events: &'a str,
 }
 
-/// What is drawn: for the plan of this name, from this seed, so many steps.
+/// The name of a plan, and the seed and the number of steps of a random run.
 #[derive(Clone, Copy, Debug, PartialEq, Eq)]
 pub struct Exploration<'a> {
     pub plan: &'a str,
@@ -71,6 +73,26 @@ pub enum Misfit {
     WalkWithCount,
     /// `explore` with `--walk` and `--json`.
     WalkWithJson,
+}
+
+const LACKS_WALK: &str = "error: the following required arguments were not provided:\n  --walk";
+
+/// The message, in the form of those of `clap`.
+impl fmt::Display for Misfit {
+    fn fmt<W: fmt::Write>(&self, f: &mut fmt::Formatter<W>) -> fmt::Result {
+        let (error, command) = match self {
+            Misfit::DrawWithoutWalk => (LACKS_WALK, "draw"),
+            Misfit::ExploreWithoutWalk => (LACKS_WALK, "explore"),
+            Misfit::WalkWithCount => ("error: unexpected argument '--count' found", "explore"),
+            Misfit::WalkWithJson => ("error: unexpected argument '--json' found", "explore"),
+        };
+        writeln!(f, "{error}\n")?;
+        writeln!(
+            f,
+            "Usage: mx {command} --seed <seed> --steps <steps> --walk <PLAN>\n"
+        )?;
+        writeln!(f, "For more information, try '--help'.")
+    }
 }
 
 /// What a command line asks for.

@@ -3,7 +3,7 @@
 ghost use Rattle.std.specs.Prelude.{◌≡◌, IfSome};
 ghost use Rattle.mx_cli.specs.Printing.{IsStopWith};
 
-use crate::faults::{CommandError, Fault};
+use crate::faults::Fault;
 use mx_io::OutputFault;
 use mx_plan::PlanFault;
 use std::alloc::{AllocError, Global};
@@ -52,21 +52,6 @@ impl From<OutputFault> for Stop {
         match fault {
             OutputFault::Refused => Stop::Writer,
             OutputFault::Memory => Stop::Memory,
-        }
-    }
-}
-
-impl From<CommandError> for Stop {
-    ghost use Rattle.std.specs.Prelude.{◌≡◌};
-    ghost use Rattle.mx_cli.specs.Printing.{stop_as};
-
-    ghost from_gives = { λ error s. s ≡ stop_as error };
-
-    fn from(error: CommandError) -> Stop {
-        match error {
-            CommandError::Fault(fault) => Stop::Fault(fault),
-            CommandError::Writer => Stop::Writer,
-            CommandError::Memory => Stop::Memory,
         }
     }
 }

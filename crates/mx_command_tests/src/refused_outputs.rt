@@ -1,6 +1,6 @@
 //! Outputs that refuse.
 
-use mx_commands::command;
+use mx_dispatch::command;
 use mx_io::{Output, OutputFault, Table};
 use mx_live::live;
 use std::alloc::Global;

@@ -3,4 +3,3 @@ pub mod SinkLemmas
 pub mod EventLemmas
 pub mod ExploreLemmas
 pub mod ReplayLemmas
-pub mod CommandLemmas

@@ -1,6 +1,5 @@
 -- The texts of events, one after another.
 use Rattle.std.proofs.Common.{◌≡◌, ◌∙◌, ℕ, zero, suc, ◌+◌, ◌<◌, ◌≤◌, Bool, true, false, List, [], ◌∷◌, ◌++◌, length, take, drop, get_or, slice_get, ap, ap₂, sym, refl, append_assoc, Result, Ok, Err, OnOk, Option, Some, None, subst, inl, inr, arith}
-use Rattle.std.specs.Prelude.{IsErrAnd}
 use Rattle.std.specs.Bool.{⊤}
 use Rattle.std.specs.Io.KnownBytes.{Appends, Keeps}
 use Rattle.std.specs.List.{concat}
@@ -19,25 +18,19 @@ use Rattle.mx_network.specs.declared.faults.StepFault.{StepFault}
 use Rattle.mx_network.specs.declared.faults.StepFault.TheVariants as step_fault
 use Rattle.mx_plan.specs.Text.{Text}
 use Rattle.mx_plan.specs.Fields.{Fields}
-use Rattle.mx_cli.specs.declared.faults.CommandError.{CommandError}
-use Rattle.mx_cli.specs.declared.faults.CommandError.TheVariants as command_error
-use Rattle.mx_cli.specs.declared.faults.Fault.{Fault}
+use Rattle.mx_cli.specs.declared.stop.Stop.{Stop}
+use Rattle.mx_cli.specs.declared.stop.Stop.TheVariants as stop
 use Rattle.mx_cli.specs.declared.faults.Fault.TheVariants.{NoParcel}
 use Rattle.mx_io.specs.declared.output.OutputFault.{OutputFault}
 use Rattle.mx_io.specs.declared.output.OutputFault.TheVariants as output_fault
 use Rattle.mx_format.specs.EventTexts.{event_line}
 use Rattle.mx_format.specs.ParcelTexts.{parcel_lines}
-use Rattle.mx_cli.proofs.OutputLemmas.{Keeps-refl, none_some, some_keeps}
-use Rattle.mx_commands.specs.Runs.{Report, Texts, at_rest, after_texts, whole, ends_with, event_lines, text_of, stepped, report_from, NamesNodes, AllNameNodes}
+use Rattle.mx_cli.proofs.OutputLemmas.{some_keeps}
+use Rattle.mx_commands.specs.Runs.{AllNameNodes, NamesNodes, StopsAt, Texts, after_texts, at_rest, event_lines, report_from, stepped, text_of}
 use Rattle.mx_io.specs.Outputs.{Held, refused_by}
-use Rattle.mx_cli.specs.Outputs.{AppendsSome, refused_after, error_of}
-use Rattle.mx_commands.specs.Ran.{Ran, StopsAt}
+use Rattle.mx_cli.specs.Printing.{AppendsSome, Course, End, IsReport, Prints, Report, ShowsOne, Sight, comes_to, course_of, ends, has_fault, refused_on, stop_of, whole}
 
 -- ---- one event
-
-pub err_is : {T E : Type 0} (r : Result T E) (s : E) → IsErrAnd r (λ e. e ≡ s) → r ≡ Err s
-err_is (Ok t) s h = absurd h
-err_is (Err e) s h = ap Err h
 
 same_Ok : {A E : Type 0} (x y : A) → ◌≡◌ {A = Result A E} (Ok x) (Ok y) → x ≡ y
 same_Ok x y e = cc
@@ -82,7 +75,7 @@ has_nodes g (event.Restart i) lt le = absurd (omega (arith, lt, le))
 has_nodes g (event.Deliver k) lt le = le
 
 -- an event that stops a run delivers a parcel that was not sent
-pub stops_without : {G : Type 0} (k : ℕ) (wanted : Result G StepFault) → IsFaultOf wanted step_fault.NoParcel → StopsAt k wanted (command_error.Fault (NoParcel k))
+pub stops_without : {G : Type 0} (k : ℕ) (wanted : Result G StepFault) → IsFaultOf wanted step_fault.NoParcel → StopsAt k wanted (stop.Fault (NoParcel k))
 stops_without k wanted (inl memory) = let bad : step_fault.NoParcel ≡ step_fault.Memory = memory.0 in cc
 stops_without k wanted (inr none) = inr (refl, none)
 
@@ -131,71 +124,66 @@ module _ {H S M : Type 0} (core : Core H S M) (texts : Texts S M) (es : List Eve
   remaining_ok k g new d h is = remaining_one k g d h ∙ ap (λ r. stepped texts k g r (λ next. remaining (k + 1) next)) is
 
   pub remaining_err : (k : ℕ) (g : ClusterState S M) (f : StepFault) (d : Event) → k < length es → step_of core g (get_or es k d) ≡ Err f
-      → remaining k g ≡ ends_with (Some (NoParcel k))
+      → remaining k g ≡ ends (has_fault (NoParcel k))
   remaining_err k g f d h is = remaining_one k g d h ∙ ap (λ r. stepped texts k g r (λ next. remaining (k + 1) next)) is
 
-  pub remaining_end : (k : ℕ) (g : ClusterState S M) → length es ≤ k → remaining k g ≡ whole (texts.closing g)
+  pub remaining_end : (k : ℕ) (g : ClusterState S M) → length es ≤ k → remaining k g ≡ whole (texts.closing g) 0
   unfolding report_from
   remaining_end k g h = at_drop_all (report_from core texts k g) es k h
 
--- what was done so far is some of the whole
-pub done_some : (a b : Held) (r more : Report) (done : List Text) → r ≡ after_texts done more → Appends a b (concat done) → AppendsSome a b r.texts
+-- ---- what the driver has printed
+
+-- the report is that of these texts and of what is left
+abbrev pub IsSoFar : Report → List Text → Report → Type 0
+IsSoFar r done more = r ≡ after_texts done more
+
+-- these texts are some of the whole
+done_some : (a b : Held) (r more : Report) (done : List Text) → IsSoFar r done more → Appends a b (concat done) → AppendsSome a b r.texts
 done_some a b r more done e h =
     (length done, subst (λ (l : List Text). Appends a b (concat l)) (sym (ap (λ (q : Report). take (length done) q.texts) e ∙ take_at done more.texts (length done) refl)) h)
 
--- a run that comes to its end, or to a fault of its own
-pub ran_to : (t : Bool) (a b : Held) (r : Report) (done : List Text) (end : Option Fault) → r ≡ after_texts done (ends_with end) → Appends a b (concat done)
-    → (r.end ≡ end) × Appends a b (concat r.texts)
-ran_to t a b r done end e h =
-    (ap (λ (q : Report). q.end) e, subst (λ (l : List Text). Appends a b (concat l)) (sym (ap (λ (q : Report). q.texts) e ∙ append_nil done)) h)
-
--- a run that stops at an event
-pub stopped_at : {H S M : Type 0} (core : Core H S M) (texts : Texts S M) (t : Bool) (a b : Held) (es : List Event) (r : Report) (k : ℕ) (g : ClusterState S M) (d : Event)
-    (s : CommandError) (done : List Text) → k < length es → r ≡ after_texts done (remaining core texts es k g) → Appends a b (concat done)
-    → StopsAt k (step_of core g (get_or es k d)) s → Ran t a b r (Err s)
-stopped_at core texts t a b es r k g d s done lt so_far h (inl memory) =
-    subst (λ (x : CommandError). Ran t a b r (Err x)) (sym memory) (done_some a b r (remaining core texts es k g) done so_far h)
-stopped_at core texts t a b es r k g d s done lt so_far h (inr none) =
-    subst (λ (x : CommandError). Ran t a b r (Err x)) (sym none.0)
-    (ran_to t a b r done (Some (NoParcel k)) (so_far ∙ ap (after_texts done) (remaining_err core texts es k g step_fault.NoParcel d lt none.1)) h)
-
-pub is_false : (b : Bool) → (b ≡ true → ⊥) → b ≡ false
+is_false : (b : Bool) → (b ≡ true → ⊥) → b ≡ false
 is_false true h = absurd (h refl)
 is_false false h = refl
 
-pub refused_not_memory : output_fault.Refused ≡ output_fault.Memory → ⊥
+refused_not_memory : output_fault.Refused ≡ output_fault.Memory → ⊥
 refused_not_memory e = cc
 
--- a run that stops at its output
-pub stopped_by : (t u : Bool) (a b c : Held) (r more : Report) (done : List Text) (f : OutputFault)
-    → r ≡ after_texts done more → Appends a b (concat done) → Keeps b c → u ≡ t → (u ≡ true → f ≡ output_fault.Memory)
-    → Ran t a c r (Err (error_of f))
-stopped_by t u a b c r more done output_fault.Refused so_far h same is takes =
-    (sym is ∙ is_false u (λ e. refused_not_memory (takes e)), some_keeps a b c r.texts (done_some a b r more done so_far h) same)
-stopped_by t u a b c r more done output_fault.Memory so_far h same is takes = some_keeps a b c r.texts (done_some a b r more done so_far h) same
+module _ (o m : Sight) (r : Report) (done : List Text) (printed : Appends o.held m.held (concat done)) (refused : m.refused ≡ o.refused) (stays : m.takes_all ≡ o.takes_all) where
+  -- a run that comes to its end
+  pub run_ends : (end : End) (res : Result ℕ Stop) → course_of res ≡ comes_to end → IsSoFar r done (ends end) → Prints (IsReport r) o m res
+  run_ends end res is so_far = record {
+    shows = subst (λ (c : Course). ShowsOne (IsReport r) o.takes_all o.held m.held c) (sym is) (inr (r, refl, (ap (λ (q : Report). q.end) so_far, subst (λ (l : List Text). Appends o.held m.held (concat l)) (sym (ap (λ (q : Report). q.texts) so_far ∙ append_nil done)) printed)));
+    refused = refused ∙ ap (λ (c : Course). refused_on c o.refused) (sym is);
+    stays = stays;
+  }
+
+  -- a run that lacks memory
+  pub run_lacks : (more : Report) → IsSoFar r done more → Prints (IsReport r) o m (Err stop.Memory)
+  run_lacks more so_far = record { shows = inr (r, refl, done_some o.held m.held r more done so_far printed); refused = refused; stays = stays }
+
+  -- a run that stops at its output
+  pub run_refused : (n : Sight) (more : Report) (f : OutputFault) → IsSoFar r done more → Keeps m.held n.held → n.refused ≡ refused_by {T = ⊤} (Err f) m.refused → n.takes_all ≡ m.takes_all → (m.takes_all ≡ true → f ≡ output_fault.Memory)
+      → Prints (IsReport r) o n (Err (stop_of f))
+  run_refused n more output_fault.Refused so_far keeps answered same takes = record {
+    shows = inr (r, refl, (sym stays ∙ is_false m.takes_all (λ e. refused_not_memory (takes e)), some_keeps o.held m.held n.held r.texts (done_some o.held m.held r more done so_far printed) keeps));
+    refused = answered;
+    stays = same ∙ stays;
+  }
+  run_refused n more output_fault.Memory so_far keeps answered same takes = record {
+    shows = inr (r, refl, some_keeps o.held m.held n.held r.texts (done_some o.held m.held r more done so_far printed) keeps);
+    refused = answered ∙ refused;
+    stays = same ∙ stays;
+  }
+
+  -- a run that stops at an event
+  pub run_stops : {H S M : Type 0} (core : Core H S M) (texts : Texts S M) (es : List Event) (k : ℕ) (g : ClusterState S M) (d : Event) (s : Stop) → k < length es → IsSoFar r done (remaining core texts es k g)
+      → StopsAt k (step_of core g (get_or es k d)) s → Prints (IsReport r) o m (Err s)
+  run_stops core texts es k g d s lt so_far (inl memory) = rw memory (run_lacks (remaining core texts es k g) so_far)
+  run_stops core texts es k g d s lt so_far (inr none) =
+      rw none.0 (run_ends (has_fault (NoParcel k)) (Err (stop.Fault (NoParcel k))) refl (so_far ∙ ap (after_texts done) (remaining_err core texts es k g step_fault.NoParcel d lt none.1)))
 
 -- a cluster at rest has the members of its shape
 pub members_at_rest : {H S M : Type 0} (core : Core H S M) (p : Fields) (shape : H) (n : ℕ) (g : ClusterState S M) → g ≡ at_rest core p shape → core.count shape ≡ n → length g.members ≡ n
 members_at_rest {H} {S} {M} core p shape n g e count =
     ap (λ (q : ClusterState S M). length q.members) e ∙ length_each_below (λ i. start_of core shape i p.origin p.sections (length p.registers)) (core.count shape) ∙ count
-
--- ---- refusals
-
--- a run that stops at what an output answered has refused where that did
-pub refused_on : (f : OutputFault) (b : Bool) → refused_by {T = ⊤} (Err f) b ≡ refused_after {T = ℕ} (Err (error_of f)) b
-refused_on output_fault.Refused b = refl
-refused_on output_fault.Memory b = refl
-
--- and one that stops at an event has not
-pub stops_taken : {G : Type 0} (k : ℕ) (wanted : Result G StepFault) (s : CommandError) (b : Bool) → StopsAt k wanted s → b ≡ refused_after {T = ℕ} (Err s) b
-stops_taken k wanted s b (inl memory) = subst (λ (x : CommandError). b ≡ refused_after {T = ℕ} (Err x) b) (sym memory) refl
-stops_taken k wanted s b (inr none) = subst (λ (x : CommandError). b ≡ refused_after {T = ℕ} (Err x) b) (sym none.0) refl
-
--- ---- memory
-
-ran_out : (t : Bool) (a : Held) (r : Report) → Ran t a a r (Err command_error.Memory)
-ran_out t a r = none_some a a r.texts (Keeps-refl a)
-
--- memory ran out before any event
-pub ran_short : (t : Bool) (a : Held) (r : Report) (result : Result ℕ CommandError) → IsErrAnd result (λ s. s ≡ command_error.Memory) → Ran t a a r result
-ran_short t a r result out = subst (λ (res : Result ℕ CommandError). Ran t a a r res) (sym (err_is result command_error.Memory out)) (ran_out t a r)

@@ -1,5 +1,5 @@
 -- What a sink prints does not change how a run ends.
-use Rattle.std.proofs.Common.{◌≡◌, ◌∙◌, ◌+◌, ℕ, Bool, true, false, List, [], ◌∷◌, None, Result, Ok, Err, refl}
+use Rattle.std.proofs.Common.{◌≡◌, ◌+◌, ℕ, List, [], ◌∷◌, Result, Ok, Err, refl}
 use Rattle.mx_nodelaws.specs.Core.{Core}
 use Rattle.mx_ricart.specs.Step.{ricart_core}
 use Rattle.mx_maekawa.specs.Step.{maekawa_core}
@@ -10,12 +10,8 @@ use Rattle.mx_network.specs.declared.faults.StepFault.{StepFault}
 use Rattle.mx_plan.specs.Fields.{Fields}
 use Rattle.mx_plan.specs.declared.shape.Shape.{Shape}
 use Rattle.mx_plan.specs.declared.shape.Shape.TheVariants.{Ricart, Maekawa, Raymond}
-use Rattle.mx_cli.specs.declared.faults.CommandError.{CommandError}
-use Rattle.mx_cli.specs.declared.faults.CommandError.TheVariants as command_error
-use Rattle.mx_commands.specs.Jobs.{run_by}
-use Rattle.mx_commands.specs.Ran.{Ran, StopsAs}
-use Rattle.mx_commands.specs.Runs.{Report, Texts, at_rest, report_from, stepped}
-use Rattle.mx_commands.specs.Sinks.{TextsBy, replay_lines, report_by}
+use Rattle.mx_commands.specs.Runs.{Texts, at_rest, report_from, stepped}
+use Rattle.mx_commands.specs.Sinks.{TextsBy, report_by}
 
 module _ {H S M : Type 0} (core : Core H S M) (texts others : Texts S M) where
   step_end : (es : List Event) (k : ℕ) (g : ClusterState S M) (r : Result (ClusterState S M) StepFault)
@@ -33,16 +29,3 @@ pub end_alike : (texts others : TextsBy) (p : Fields) (es : List Event) (shape :
 end_alike texts others p es (Ricart count) = same_end ricart_core texts.ricart others.ricart es 0 (at_rest ricart_core p count)
 end_alike texts others p es (Maekawa family) = same_end maekawa_core texts.maekawa others.maekawa es 0 (at_rest maekawa_core p family)
 end_alike texts others p es (Raymond tree) = same_end raymond_core texts.raymond others.raymond es 0 (at_rest raymond_core p tree)
-
--- ---- a run that prints nothing
-
--- it ends as the replay of the same events
-pub ends_well : (texts : TextsBy) (p : Fields) (es : List Event) (shape : Shape) (status : ℕ)
-    → Ran true None None (report_by texts p shape es) (Ok status) → (run_by p shape es).end ≡ None
-ends_well texts p es shape status ran = end_alike (replay_lines p) texts p es shape ∙ ran.0
-
-pub stops_alike : (texts : TextsBy) (p : Fields) (es : List Event) (shape : Shape) (error : CommandError)
-    → Ran true None None (report_by texts p shape es) (Err error) → StopsAs (run_by p shape es) error
-stops_alike texts p es shape (command_error.Fault fault) ran = end_alike (replay_lines p) texts p es shape ∙ ran.0
-stops_alike texts p es shape command_error.Writer ran = absurd (let bad : true ≡ false = ran.0 in cc)
-stops_alike texts p es shape command_error.Memory ran = tt

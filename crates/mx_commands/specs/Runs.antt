@@ -1,5 +1,5 @@
 -- What is printed of a run of events, for any algorithm.
-use Rattle.std.specs.Prelude.{ℕ, ◌+◌, ◌<◌, ⊤, List, [], ◌∷◌, ◌++◌, Option, Some, None, Result, Ok, Err, length, drop}
+use Rattle.std.specs.Prelude.{ℕ, ◌≡◌, ◌⊎◌, ◌+◌, ◌<◌, ⊤, List, [], ◌∷◌, ◌++◌, Result, Ok, Err, length, drop}
 use Rattle.mx_stamps.specs.Lists.{each_below}
 use Rattle.mx_nodelaws.specs.Core.{Core}
 use Rattle.mx_member.specs.Steps.{start_of}
@@ -7,11 +7,14 @@ use Rattle.mx_network.specs.Step.{ClusterState, step_of}
 use Rattle.mx_events.specs.declared.event.Event.{Event}
 use Rattle.mx_events.specs.declared.event.Event.TheVariants.{Ask, Enter, Read, Write, Leave, Cancel, Tick, Want, Settle, Restart, Deliver}
 use Rattle.mx_network.specs.declared.faults.StepFault.{StepFault}
+use Rattle.mx_network.specs.declared.faults.StepFault.TheVariants as step_fault
 use Rattle.mx_trace.specs.declared.outcome.Entry.{Entry}
 use Rattle.mx_plan.specs.Text.{Text}
 use Rattle.mx_plan.specs.Fields.{Fields}
-use Rattle.mx_cli.specs.declared.faults.Fault.{Fault}
 use Rattle.mx_cli.specs.declared.faults.Fault.TheVariants.{NoParcel}
+use Rattle.mx_cli.specs.Printing.{Report, ends, has_fault, whole}
+use Rattle.mx_cli.specs.declared.stop.Stop.{Stop}
+use Rattle.mx_cli.specs.declared.stop.Stop.TheVariants as stop
 use Rattle.mx_format.specs.EventTexts.{event_line}
 use Rattle.mx_format.specs.Lines.{texts_from}
 use Rattle.mx_format.specs.ParcelTexts.{parcel_lines}
@@ -19,18 +22,7 @@ use Rattle.mx_explorer.specs.declared.verdict.Verdict.TheVariants.{Sound}
 use Rattle.mx_format.specs.NodeTexts.{node_lines}
 use Rattle.mx_commands.specs.VerdictLines.{verdict_line}
 
--- the texts in order, and the fault that ends the run, if one does
-pub record Report : Type 0 where
-  pub texts : List Text
-  pub end : Option Fault
-
-abbrev pub ends_with : Option Fault → Report
-ends_with end = record { texts = []; end = end }
-
--- one text, and no fault
-abbrev pub whole : Text → Report
-whole text = record { texts = text ∷ []; end = None }
-
+-- these texts, and then those of a report
 abbrev pub after_texts : List Text → Report → Report
 after_texts texts r = record { texts = texts ++ r.texts; end = r.end }
 
@@ -51,6 +43,12 @@ NamesNodes n (Deliver k) = ⊤
 abbrev pub AllNameNodes : ℕ → List Event → Type 0
 AllNameNodes n [] = ⊤
 AllNameNodes n (e ∷ es) = NamesNodes n e × AllNameNodes n es
+
+-- event k did not happen: it delivers a parcel that was not sent, or memory ran out
+abbrev pub StopsAt : {G : Type 0} → ℕ → Result G StepFault → Stop → Type 0
+StopsAt k wanted end =
+    (end ≡ stop.Memory)
+    ⊎ ((end ≡ stop.Fault (NoParcel k)) × (wanted ≡ Err step_fault.NoParcel))
 
 -- the lines of these entries of a trace, numbered from k on
 abbrev pub event_lines : Fields → ℕ → List Entry → Text
@@ -81,12 +79,13 @@ module _ {S M : Type 0} (texts : Texts S M) where
   abbrev pub stepped : ℕ → ClusterState S M → Result (ClusterState S M) StepFault
       → (ClusterState S M → Report) → Report
   stepped k old (Ok new) rest = after_texts (texts.event k old new ∷ []) (rest new)
-  stepped k old (Err fault) rest = ends_with (Some (NoParcel k))
+  stepped k old (Err fault) rest = ends (has_fault (NoParcel k))
 
 module _ {H S M : Type 0} (core : Core H S M) (texts : Texts S M) where
   -- the texts of these events, numbered from k on, from this cluster on, and then the closing text
+  -- and status 0
   unfoldable pub report_from : ℕ → ClusterState S M → List Event → Report
-  report_from k g [] = whole (texts.closing g)
+  report_from k g [] = whole (texts.closing g) 0
   report_from k g (e ∷ es) =
       stepped texts k g (step_of core g e) (λ new. report_from (k + 1) new es)
 

@@ -14,7 +14,8 @@ use Rattle.mx_plan.specs.Fields.{Fields}
 use Rattle.mx_plan.specs.declared.shape.Shape.{Shape}
 use Rattle.mx_plan.specs.declared.shape.Shape.TheVariants.{Ricart, Maekawa, Raymond}
 use Rattle.mx_format.specs.LetterTexts.{maekawa_text, raymond_text, ricart_text}
-use Rattle.mx_commands.specs.Runs.{Report, Texts, at_rest, lines, report_from}
+use Rattle.mx_cli.specs.Printing.{Report}
+use Rattle.mx_commands.specs.Runs.{Texts, at_rest, lines, report_from}
 
 -- what is printed of a run, for each algorithm
 pub record TextsBy : Type 0 where

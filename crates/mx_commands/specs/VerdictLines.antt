@@ -1,4 +1,4 @@
--- The line of a verdict, and its object of JSON.
+-- The line of a verdict, its object of JSON, and its status.
 use Rattle.std.specs.Prelude.{ℕ, ◌++◌, Bool, codes, decimal, if◌then◌else◌}
 use Rattle.mx_explorer.specs.declared.verdict.Clause.{Clause}
 use Rattle.mx_explorer.specs.declared.verdict.Clause.TheVariants.{Overlap, Number, Read}
@@ -16,6 +16,10 @@ abbrev pub verdict_line : Verdict → Text
 verdict_line Sound = codes "verdict sound" ++ line_feed
 verdict_line (Broken k clause) =
     codes "verdict broken at " ++ decimal k ++ codes ": " ++ clause_text clause ++ line_feed
+
+abbrev pub verdict_status : Verdict → ℕ
+verdict_status Sound = 0
+verdict_status (Broken k clause) = 4
 
 -- ---- as JSON
 

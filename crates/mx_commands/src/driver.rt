@@ -1,16 +1,15 @@
 //! The driver: applies the events of a plan in order, and lets a sink print each.
 
-ghost use Rattle.std.specs.Prelude.{◌≡◌, [], length, string_bytes, OnOk, IfOk, IfErr};
+ghost use Rattle.std.specs.Prelude.{◌≡◌, [], length, string_bytes, OnOk, IfErr};
 ghost use Rattle.mx_network.specs.Step.{step_of};
-ghost use Rattle.mx_cli.specs.Outputs.{refused_after};
-ghost use Rattle.mx_commands.specs.Runs.{NamesNodes, AllNameNodes, report_from};
-ghost use Rattle.mx_commands.specs.Ran.{Ran, StopsAt};
+ghost use Rattle.mx_cli.specs.Printing.{IsReport, Prints, sight};
+ghost use Rattle.mx_commands.specs.Runs.{AllNameNodes, NamesNodes, StopsAt, report_from};
 ghost use Rattle.mx_commands.specs.Sinks.{report_by};
 
 use crate::by_shape;
 use crate::runs::apply;
 use crate::sink::Sink;
-use mx_cli::CommandError;
+use mx_cli::Stop;
 use mx_io::Output;
 use mx_maekawa::Maekawa;
 use mx_network::{Cluster, Event};
@@ -33,19 +32,16 @@ pub fn drive<K, O: Output>(
     events: &[Event],
     sink: &mut K,
     out: &mut O,
-) -> Result<u8, CommandError>
+) -> Result<u8, Stop>
 where
     K: Sink<Cluster<Ricart>> + Sink<Cluster<Maekawa>> + Sink<Cluster<Raymond>>,
     requires { AllNameNodes (length plan.now.nodes) events.now }
-    ensures ran { Ran (O.takes_all out.old) (O.written out.old) (O.written out.new)
-        (report_by (record {
-          ricart = ⟦<K as Sink<Cluster<Ricart>>>⟧.texts sink.old plan.now;
-          maekawa = ⟦<K as Sink<Cluster<Maekawa>>>⟧.texts sink.old plan.now;
-          raymond = ⟦<K as Sink<Cluster<Raymond>>>⟧.texts sink.old plan.now;
-        }) plan.now plan.now.shape events.now) result }
-    ensures refused { O.has_refused out.new ≡ refused_after result (O.has_refused out.old) }
-    ensures zero { IfOk result (λ status. status ≡ 0) }
-    ensures stays { O.takes_all out.new ≡ O.takes_all out.old }
+    ensures prints { Prints (IsReport (report_by (record {
+      ricart = ⟦<K as Sink<Cluster<Ricart>>>⟧.texts sink.old plan.now;
+      maekawa = ⟦<K as Sink<Cluster<Maekawa>>>⟧.texts sink.old plan.now;
+      raymond = ⟦<K as Sink<Cluster<Raymond>>>⟧.texts sink.old plan.now;
+    }) plan.now plan.now.shape events.now))
+        (sight O.Output out.old) (sight O.Output out.new) result }
 {
     by_shape!(
         alloc,
@@ -61,14 +57,12 @@ fn drive_events<C: Exclusion, K: Sink<Cluster<C>>, O: Output>(
     events: &[Event],
     sink: &mut K,
     out: &mut O,
-) -> Result<u8, CommandError>
+) -> Result<u8, Stop>
     requires members { length cluster.members ≡ length plan.now.nodes }
     requires named { AllNameNodes (length plan.now.nodes) events.now }
-    ensures ran { Ran (O.takes_all out.old) (O.written out.old) (O.written out.new)
-        (report_from C.core (K.texts sink.old plan.now) 0 cluster events.now) result }
-    ensures refused { O.has_refused out.new ≡ refused_after result (O.has_refused out.old) }
-    ensures zero { IfOk result (λ status. status ≡ 0) }
-    ensures stays { O.takes_all out.new ≡ O.takes_all out.old }
+    ensures prints { Prints (IsReport
+        (report_from C.core (K.texts sink.old plan.now) 0 cluster events.now))
+        (sight O.Output out.old) (sight O.Output out.new) result }
 {
     let mut text = String::new(alloc);
     for (index, event) in events.iter().enumerate() {
@@ -89,7 +83,7 @@ fn drive_event<C: Exclusion, K: Sink<Cluster<C>>>(
     cluster: &mut Cluster<C>,
     sink: &mut K,
     text: &mut String,
-) -> Result<(), CommandError>
+) -> Result<(), Stop>
     requires named { NamesNodes (length cluster.old.members) event.now }
     requires empty { string_bytes text.old ≡ [] }
     ensures ok { OnOk result (step_of C.core cluster.old event.now ≡ Ok cluster.new) }

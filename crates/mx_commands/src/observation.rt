@@ -1,13 +1,13 @@
 //! A run that prints nothing: a sink sees its events, and its end.
 
-ghost use Rattle.std.specs.Prelude.{◌≡◌, None, length, true, false, IfErr, OnOk};
+ghost use Rattle.std.specs.Prelude.{length, true, false};
+ghost use Rattle.mx_cli.specs.Printing.{IsReport, Prints, null_output};
 ghost use Rattle.mx_commands.specs.Jobs.{run_by};
-ghost use Rattle.mx_commands.specs.Ran.{StopsAs};
 ghost use Rattle.mx_commands.specs.Runs.{AllNameNodes};
 
 use crate::driver::drive;
 use crate::sink::Sink;
-use mx_cli::CommandError;
+use mx_cli::Stop;
 use mx_io::{Output, OutputFault};
 use mx_maekawa::Maekawa;
 use mx_network::{Cluster, Event};
@@ -35,26 +35,19 @@ impl Output for NullOutput {
 }
 
 /// Applies events in order to the cluster of a plan. The sink is told of each event, and of the end
-/// of a run without fault. The text that the sink appends is dropped.
+/// of a run without fault. The text that the sink appends is dropped. Returns the status that the
+/// sink returns at the end.
 ///
 /// # Errors
 ///
 /// Returns `Fault` with the first event that delivers a parcel that was not sent, and `Memory` if
 /// memory runs out.
-pub fn observe<K>(
-    alloc: Global,
-    plan: &Plan,
-    events: &[Event],
-    sink: &mut K,
-) -> Result<(), CommandError>
+pub fn observe<K>(alloc: Global, plan: &Plan, events: &[Event], sink: &mut K) -> Result<u8, Stop>
 where
     K: Sink<Cluster<Ricart>> + Sink<Cluster<Maekawa>> + Sink<Cluster<Raymond>>,
     requires { AllNameNodes (length plan.now.nodes) events.now }
-    ensures ok { OnOk result ((run_by plan.now plan.now.shape events.now).end ≡ None) }
-    ensures err { IfErr result (StopsAs (run_by plan.now plan.now.shape events.now)) }
+    ensures prints { Prints (IsReport (run_by plan.now plan.now.shape events.now))
+        null_output null_output result }
 {
-    match drive(alloc, plan, events, sink, &mut NullOutput) {
-        Ok(_) => Ok(()),
-        Err(error) => Err(error),
-    }
+    drive(alloc, plan, events, sink, &mut NullOutput)
 }

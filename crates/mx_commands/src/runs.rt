@@ -2,10 +2,9 @@
 
 ghost use Rattle.std.specs.Prelude.{◌≡◌, ◌<◌, List, [], ◌∷◌, ◌++◌, length, OnOk, IfOk, IfErr};
 ghost use Rattle.mx_network.specs.Step.{step_of};
-ghost use Rattle.mx_commands.specs.Runs.{NamesNodes, at_rest};
-ghost use Rattle.mx_commands.specs.Ran.{StopsAt};
+ghost use Rattle.mx_commands.specs.Runs.{NamesNodes, StopsAt, at_rest};
 
-use mx_cli::{CommandError, Fault};
+use mx_cli::{Fault, Stop};
 use mx_network::{Cluster, Entry, Event, StepFault};
 use mx_nodelaws::Exclusion;
 use mx_plan::Plan;
@@ -32,15 +31,15 @@ pub(crate) fn apply<C: Exclusion>(
     index: u64,
     event: &Event,
     cluster: &mut Cluster<C>,
-) -> Result<(), CommandError>
+) -> Result<(), Stop>
     requires named { NamesNodes (length cluster.old.members) event.now }
     ensures ok { OnOk result (step_of C.core cluster.old event.now ≡ Ok cluster.new) }
     ensures err { IfErr result (StopsAt index (step_of C.core cluster.old event.now)) }
 {
     match cluster.advance(*event) {
         Ok(()) => Ok(()),
-        Err(StepFault::NoParcel) => Err(CommandError::Fault(Fault::NoParcel(index))),
-        Err(StepFault::Memory) => Err(CommandError::Memory),
+        Err(StepFault::NoParcel) => Err(Stop::Fault(Fault::NoParcel(index))),
+        Err(StepFault::Memory) => Err(Stop::Memory),
         Err(StepFault::NoNode) => unreachable!(),
     }
 }

@@ -1,8 +1,7 @@
 //! The line of a verdict, and its status.
 
 ghost use Rattle.std.specs.Prelude.{◌≡◌, ◌++◌, OnOk, Some, string_bytes};
-ghost use Rattle.mx_commands.specs.Ran.{verdict_status};
-ghost use Rattle.mx_commands.specs.VerdictLines.{clause_text, verdict_line, verdict_text};
+ghost use Rattle.mx_commands.specs.VerdictLines.{clause_text, verdict_line, verdict_status, verdict_text};
 
 use crate::verdict_json::VerdictJson;
 use mx_explorer::{Clause, Verdict};

@@ -1,5 +1,6 @@
 -- The program: what each request does.
 use Rattle.std.specs.Prelude.{◌||◌, ℕ, Bool, true, false, Option}
+use Rattle.std.specs.Option.{option_map_or}
 use Rattle.mx_plan.specs.Text.{Text}
 use Rattle.mx_plan.specs.Fields.{Fields}
 use Rattle.mx_io.specs.Told.{Telling}
@@ -8,14 +9,15 @@ use Rattle.mx_cli.specs.Printing.{IsWhole, Report}
 use Rattle.mx_cli.specs.Reports.{Declines, ReportsUsage, Seen}
 use Rattle.mx_cli.specs.Requests.{Request, View, check, count, draw, explain, explore, explore_walk, judge, live, misfit, picture, play, replay, script}
 use Rattle.mx_cli.specs.declared.request.Conditions.{Conditions}
-use Rattle.mx_commands.specs.Commands.{IsCheck, IsExplored, IsReplay, is_view}
+use Rattle.mx_commands.specs.Commands.{IsCheck, IsExplored, IsReplay}
 use Rattle.mx_count.specs.Printed.{IsCount, IsExploreCount}
 use Rattle.mx_explain.specs.Explained.{Explains}
 use Rattle.mx_judge.specs.Judged.{IsJudgement}
 use Rattle.mx_picture.specs.Pictures.{IsPictured}
-use Rattle.mx_scripts.specs.Printed.{IsDraw, IsScript}
+use Rattle.mx_scripts.specs.Printed.{IsScript}
 use Rattle.mx_views.specs.PlanObjects.{IsPlanObjects}
 use Rattle.mx_views.specs.Viewed.{IsView}
+use Rattle.mx_walks.specs.Drawn.{IsDraw}
 use Rattle.mx_walks.specs.Summaries.{walk_text}
 
 -- the reports that a command may print of a plan and of the text that comes with it
@@ -29,6 +31,11 @@ Form false with plain = plain
 
 abbrev pub IsChecked : Bool → Bool → Reports
 IsChecked has_asks is_json = Form is_json (IsPlanObjects has_asks) (IsCheck has_asks)
+
+-- a replay is shown in another way than without options
+abbrev pub is_view : View → Bool
+is_view v =
+    v.is_quiet || option_map_or (λ _. true) v.node false || v.is_json || v.has_state
 
 abbrev pub IsReplayed : View → Reports
 IsReplayed view = Form (is_view view) (IsView view) IsReplay

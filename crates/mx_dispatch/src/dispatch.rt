@@ -10,7 +10,7 @@ ghost use Rattle.mx_dispatch.specs.Program.{Does};
 use crate::forms::{run_both, run_check, run_draw, run_explore, run_replay, run_walk};
 use mx_cli::{Request, parse, refuse, report_misfit};
 use mx_count::Count;
-use mx_explain::{DetailedSource, explain};
+use mx_explain::explain;
 use mx_io::{Output, Source};
 use mx_judge::Judge;
 use mx_picture::Picture;
@@ -21,7 +21,7 @@ use std::alloc::Global;
 /// all went well, or for help and the version; 1 for an error in a plan, its events, a file or an
 /// output; 2 for wrong arguments, and for `live` and `play`, which other functions run; 4 if the
 /// trace is broken; 5 if memory ran out.
-pub fn run<S: Source + DetailedSource, O: Output, E: Output>(
+pub fn command<S: Source, O: Output, E: Output>(
     alloc: Global,
     words: &[&str],
     source: &mut S,
@@ -44,7 +44,7 @@ pub fn run<S: Source + DetailedSource, O: Output, E: Output>(
 }
 
 /// Runs the command that is asked for. For `live` and `play`, writes nothing and returns 2.
-fn carry_out<S: Source + DetailedSource, O: Output, E: Output>(
+fn carry_out<S: Source, O: Output, E: Output>(
     alloc: Global,
     request: &Request<'_>,
     source: &mut S,
@@ -87,7 +87,7 @@ fn carry_out<S: Source + DetailedSource, O: Output, E: Output>(
             second,
             is_script,
         } => explain(alloc, plan, *second, *is_script, source, out, err),
-        Request::Misfit(misfit) => report_misfit(*misfit, err),
+        Request::Misfit(misfit) => report_misfit(alloc, *misfit, err),
         Request::Live(_) | Request::Play { .. } => 2,
     }
 }

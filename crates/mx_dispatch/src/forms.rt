@@ -5,16 +5,14 @@ ghost use Rattle.mx_cli.specs.Words.{names_of};
 ghost use Rattle.mx_cli.specs.Requests.{view_of};
 ghost use Rattle.mx_cli.specs.Frames.{Runs, alone, both};
 ghost use Rattle.mx_cli.specs.Reports.{seen};
-ghost use Rattle.mx_commands.specs.Commands.{is_view};
-ghost use Rattle.mx_dispatch.specs.Program.{IsChecked, IsDrawing, IsExploration, IsReplayed, IsWalk};
+ghost use Rattle.mx_dispatch.specs.Program.{IsChecked, IsDrawing, IsExploration, IsReplayed, IsWalk, is_view};
 
 use mx_cli::{Command, Conditions, Exploration, Files, Names, ViewOptions, front};
-use mx_commands::{Check, Explore, Replay, is_view};
+use mx_commands::{Check, Explore, Replay};
 use mx_count::ExploreCount;
 use mx_io::{Output, Source};
-use mx_scripts::Draw;
 use mx_views::{CheckJson, ReplayView};
-use mx_walks::ExploreWalk;
+use mx_walks::{Draw, ExploreWalk};
 use std::alloc::Global;
 
 pub(crate) fn run_check<S: Source, O: Output, E: Output>(
@@ -56,6 +54,13 @@ pub(crate) fn run_replay<S: Source, O: Output, E: Output>(
     } else {
         run_both(alloc, &Replay, names, false, source, out, err)
     }
+}
+
+/// Whether a replay is shown in another way than without options.
+fn is_view(view: &ViewOptions<'_>) -> bool
+    ensures { result ≡ is_view (view_of view.now) }
+{
+    view.is_quiet || view.node.is_some() || view.is_json || view.has_state
 }
 
 pub(crate) fn run_explore<S: Source, O: Output, E: Output>(

@@ -5,4 +5,4 @@
 mod dispatch;
 mod forms;
 
-pub use dispatch::run;
+pub use dispatch::command;

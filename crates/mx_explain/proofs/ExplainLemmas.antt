@@ -2,50 +2,22 @@
 use Rattle.std.proofs.Common.{◌≡◌, ℕ, Bool, true, false, List, Option, Some, None, Result, Ok, Err, IfSome, ap, append-nil, inl, inr, refl, subst, sym}
 use Rattle.std.specs.Prelude.{◌↔◌, is_ok, string_bytes, ⊤}
 use Rattle.std.specs.Io.KnownBytes.{Appends, Keeps}
-use Rattle.mx_events.specs.declared.event.Event.{Event}
 use Rattle.mx_plan.specs.Text.{Text}
 use Rattle.mx_plan.specs.Fields.{Fields}
-use Rattle.mx_plan.specs.Events.{events_at}
 use Rattle.mx_io.specs.Outputs.{Held, refused_by}
 use Rattle.mx_io.specs.Told.{Telling}
 use Rattle.mx_io.specs.declared.output.OutputFault.{OutputFault}
 use Rattle.mx_io.specs.declared.output.OutputFault.TheVariants as output_fault
 use Rattle.mx_cli.specs.Frames.{IsReportOf, end_for, report_for}
-use Rattle.mx_cli.specs.Printing.{Course, End, Prints, Report, ShowsOne, Sight, comes_to, course_of, has_fault, has_line, has_status, is_refused, is_short, refused_on, stop_as, stop_of}
+use Rattle.mx_cli.specs.Printing.{Course, End, Prints, Report, ShowsOne, Sight, comes_to, course_of, has_fault, has_line, has_status, is_refused, is_short, null_output, refused_on, stop_of}
 use Rattle.mx_cli.specs.Reading.{IsPlanOf}
-use Rattle.mx_cli.specs.declared.faults.CommandError.{CommandError}
-use Rattle.mx_cli.specs.declared.faults.CommandError.TheVariants as command_error
 use Rattle.mx_cli.specs.declared.stop.Stop.{Stop}
 use Rattle.mx_cli.specs.declared.stop.Stop.TheVariants as stop
 use Rattle.mx_cli.proofs.FrameLemmas.{prints_as}
-use Rattle.mx_commands.specs.Commands.{IsReplay}
-use Rattle.mx_commands.specs.Jobs.{run_by}
-use Rattle.mx_commands.specs.Ran.{StopsAs}
-use Rattle.mx_commands.specs.Runs.{Report as Lines}
-use Rattle.mx_commands.proofs.ReplayLemmas.{IsAs, driven, is_replay}
-use Rattle.mx_explain.specs.Explained.{IsExplanation, IsTextReport, IsToldOf, is_told, null_output, told_as}
+use Rattle.mx_explain.specs.Explained.{IsExplanation, IsTextReport, IsToldOf, is_told, told_as}
 use Rattle.mx_explain.specs.Reports.{AreShown, last_line, nothing_at_fault}
 
--- ---- a run of which nothing is printed
-
--- why a run of events stops
-stops : (r : Lines) (e : CommandError) → StopsAs r e → Prints (IsAs r) null_output null_output (Err (stop_as e))
-stops r (command_error.Fault fault) h = driven null_output null_output r (Err (command_error.Fault fault)) (h, tt) refl tt refl
-stops r command_error.Writer h = absurd h
-stops r command_error.Memory h = driven null_output null_output r (Err command_error.Memory) (0, tt) refl tt refl
-
-module _ (p : Fields) (text : Text) (es : List Event) (read : events_at p text ≡ Ok es) where
-  -- a run of these events
-  replayed : (res : Result ℕ Stop) → Prints (IsAs (run_by p p.shape es)) null_output null_output res → Prints (IsReplay p text) null_output null_output res
-  replayed res h = prints_as (IsAs (run_by p p.shape es)) (IsReplay p text) (is_replay p text es read) null_output null_output res h
-
-  pub replay_ends : (run_by p p.shape es).end ≡ None → Prints (IsReplay p text) null_output null_output (Ok 0)
-  replay_ends end = replayed (Ok 0) (driven null_output null_output (run_by p p.shape es) (Ok 0) (end, tt) refl refl refl)
-
-  pub replay_stops : (e : CommandError) (s : Stop) → StopsAs (run_by p p.shape es) e → s ≡ stop_as e → Prints (IsReplay p text) null_output null_output (Err s)
-  replay_stops e s h is = rw is (replayed (Err (stop_as e)) (stops (run_by p p.shape es) e h))
-
--- ---- its files
+-- ---- files of which nothing is printed
 
 same_end : (e : End) → end_for false e ≡ e
 same_end (has_status status) = refl

@@ -4,7 +4,7 @@ use Rattle.mx_plan.specs.Text.{Text}
 use Rattle.mx_plan.specs.Fields.{Fields}
 use Rattle.mx_io.specs.Told.{Telling}
 use Rattle.mx_cli.specs.Frames.{FailsAtOnce, Files, IsReportOf, PrintsReport, alone, both, told_plan, told_text}
-use Rattle.mx_cli.specs.Printing.{Course, End, Report, Sight, comes_to, has_fault, has_line, has_status, is_refused, is_short}
+use Rattle.mx_cli.specs.Printing.{Course, End, Report, comes_to, has_fault, has_line, has_status, is_refused, is_short}
 use Rattle.mx_cli.specs.Reports.{Seen}
 use Rattle.mx_cli.specs.Requests.{text_of}
 use Rattle.mx_commands.specs.Commands.{IsCheck, IsReplay}
@@ -38,10 +38,6 @@ IsAsked told asked = IsExplained told asked.plan.now (text_of asked.second) aske
 -- the names for the lines of faults
 abbrev pub names_in : Text → Option Text → Text × Text
 names_in plan second = (plan, unwrap_or second plan)
-
--- what is seen of an output that keeps nothing, and takes all bytes
-abbrev pub null_output : Sight
-null_output = record { held = None; refused = false; takes_all = true }
 
 -- ---- explanations
 

@@ -2,38 +2,8 @@
 
 ghost use Rattle.std.specs.Prelude.{◌<◌, IfSome, length};
 
-use mx_io::{Refusal, Source, SourceFault, Streams, Table, read_name};
+use mx_io::{Refusal, Source, SourceFault};
 use std::alloc::{AllocError, Global};
-use std::rt::Files;
-
-/// A source of named bytes that can say why a name cannot be read.
-pub trait DetailedSource: Source {
-    /// Returns the bytes that the source has under a name, perhaps read before.
-    ///
-    /// # Errors
-    ///
-    /// Returns `Because` with the reason if the name cannot be read, and `Memory` if memory runs
-    /// out.
-    fn fetched(&mut self, alloc: Global, name: &str) -> Result<Vec<u8>, Refusal>;
-}
-
-impl DetailedSource for Table<'_> {
-    fn fetched(&mut self, alloc: Global, name: &str) -> Result<Vec<u8>, Refusal> {
-        match self.bytes(alloc, name) {
-            Ok(bytes) => Ok(bytes),
-            Err(SourceFault::Memory) => Err(Refusal::Memory),
-            Err(SourceFault::Unreadable) => {
-                Err(Refusal::Because("there is no entry of this name"))
-            }
-        }
-    }
-}
-
-impl<R: Files + Input> DetailedSource for Streams<'_, R> {
-    fn fetched(&mut self, alloc: Global, name: &str) -> Result<Vec<u8>, Refusal> {
-        read_name(self.rt, alloc, name)
-    }
-}
 
 #[derive(Drop)]
 pub(crate) struct Entry {
@@ -42,12 +12,12 @@ pub(crate) struct Entry {
 }
 
 #[derive(Drop)]
-pub(crate) struct CachedSource<'s, S: Source + DetailedSource> {
+pub(crate) struct CachedSource<'s, S: Source> {
     pub(crate) source: &'s mut S,
     pub(crate) entries: Vec<Entry>,
 }
 
-impl<'s, S: Source + DetailedSource> Source for CachedSource<'s, S> {
+impl<'s, S: Source> Source for CachedSource<'s, S> {
     ghost told = { λ c. S.told c.source.now };
 
     fn bytes(&mut self, alloc: Global, name: &str) -> Result<Vec<u8>, SourceFault> {
@@ -60,9 +30,7 @@ impl<'s, S: Source + DetailedSource> Source for CachedSource<'s, S> {
             Err(_) => Err(SourceFault::Memory),
         }
     }
-}
 
-impl<'s, S: Source + DetailedSource> DetailedSource for CachedSource<'s, S> {
     fn fetched(&mut self, alloc: Global, name: &str) -> Result<Vec<u8>, Refusal> {
         match index_of(self.entries.as_slice(), name) {
             Some(index) => Ok(self.entries.swap_remove(index).bytes),

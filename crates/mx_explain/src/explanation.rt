@@ -7,7 +7,7 @@ ghost use Rattle.mx_cli.specs.Requests.{text_of};
 ghost use Rattle.mx_cli.specs.Words.{names_of};
 ghost use Rattle.mx_explain.specs.Explained.{Explains, IsAsked, IsExplanation, names_in};
 
-use crate::cached_source::{CachedSource, DetailedSource};
+use crate::cached_source::CachedSource;
 use crate::files::print_files;
 use crate::notes::Notes;
 use crate::runs::run;
@@ -28,15 +28,9 @@ impl<'a> Asked<'a> {
     pub(crate) fn names(&self) -> Names<'a>
         ensures { names_of result ≡ names_in self.now.plan.now (text_of self.now.second) }
     {
-        match self.second {
-            Some(second) => Names {
-                plan: self.plan,
-                events: second,
-            },
-            None => Names {
-                plan: self.plan,
-                events: self.plan,
-            },
+        Names {
+            plan: self.plan,
+            events: self.second.unwrap_or(self.plan),
         }
     }
 }
@@ -44,7 +38,7 @@ impl<'a> Asked<'a> {
 /// Prints what is wrong in a plan; and in its events, if `second` names them, or in its script, if
 /// `is_script`. Then writes the line of the fault. Returns the exit status of the check, the replay
 /// or the script, 1 if an output refuses, and 5 if memory runs out.
-pub fn explain<S: Source + DetailedSource, O: Output, E: Output>(
+pub fn explain<S: Source, O: Output, E: Output>(
     alloc: Global,
     plan: &str,
     second: Option<&str>,
@@ -68,7 +62,7 @@ pub fn explain<S: Source + DetailedSource, O: Output, E: Output>(
 
 /// Carries out a check, a replay or a script without its output, and prints what is wrong in its
 /// files. Returns how it ended, or why printing failed.
-fn run_and_explain<S: Source + DetailedSource, O: Output>(
+fn run_and_explain<S: Source, O: Output>(
     alloc: Global,
     asked: &Asked<'_>,
     source: &mut S,

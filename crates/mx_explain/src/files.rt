@@ -5,7 +5,6 @@ ghost use Rattle.mx_cli.specs.Printing.{Prints, course_of, sight};
 ghost use Rattle.mx_explain.specs.Explained.{IsToldOf, is_told};
 ghost use Rattle.mx_explain.specs.Reports.{AreShown, last_line, nothing_at_fault};
 
-use crate::cached_source::DetailedSource;
 use crate::event_fault::explain_events;
 use crate::explanation::Asked;
 use crate::location::Part;
@@ -20,7 +19,7 @@ use std::alloc::{AllocError, Global};
 
 /// Prints what is wrong in the files of a run that ended so, and returns how it ended. If it ended
 /// well, these are warnings alone, and that nothing is at fault. Prints nothing if memory runs out.
-pub(crate) fn print_files<S: Source + DetailedSource, O: Output>(
+pub(crate) fn print_files<S: Source, O: Output>(
     alloc: Global,
     asked: &Asked<'_>,
     notes: &Notes,
@@ -49,7 +48,7 @@ fn is_told(ended: &Result<u8, Stop>) -> bool
     }
 }
 
-fn explanation<S: Source + DetailedSource>(
+fn explanation<S: Source>(
     alloc: Global,
     asked: &Asked<'_>,
     notes: &Notes,
@@ -65,7 +64,7 @@ fn explanation<S: Source + DetailedSource>(
     report.into_text(is_well)
 }
 
-fn explain_files<S: Source + DetailedSource>(
+fn explain_files<S: Source>(
     report: &mut Report,
     asked: &Asked<'_>,
     notes: &Notes,
@@ -114,7 +113,7 @@ fn explain_second(
     notes.explain_script(report, &part)
 }
 
-fn fetched<S: Source + DetailedSource>(
+fn fetched<S: Source>(
     report: &mut Report,
     name: &str,
     source: &mut S,

@@ -16,5 +16,4 @@ mod script_lines;
 mod shape_fault;
 mod spot;
 
-pub use cached_source::DetailedSource;
 pub use explanation::explain;

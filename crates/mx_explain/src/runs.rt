@@ -2,14 +2,14 @@
 
 ghost use Rattle.std.specs.Prelude.{false};
 ghost use Rattle.mx_cli.specs.Frames.{alone, both};
-ghost use Rattle.mx_cli.specs.Printing.{Prints};
+ghost use Rattle.mx_cli.specs.Printing.{Prints, null_output};
 ghost use Rattle.mx_cli.specs.Words.{names_of};
 ghost use Rattle.mx_commands.specs.Commands.{IsCheck, IsReplay};
-ghost use Rattle.mx_explain.specs.Explained.{IsAsked, IsReportFor, IsTextReport, null_output};
+ghost use Rattle.mx_explain.specs.Explained.{IsAsked, IsReportFor, IsTextReport};
 
 use crate::explanation::Asked;
 use crate::notes::Notes;
-use mx_cli::{Files, Names, Stop, fetch_both, run_files, unread_for};
+use mx_cli::{Files, Named, Names, Stop, fetch_both, run_files, stop_for};
 use mx_commands::{Check, NullOutput, observe};
 use mx_io::Source;
 use mx_plan::{Plan, read_events};
@@ -58,7 +58,7 @@ fn run_both<S: Source>(
 {
     match fetch_both(alloc, source, names) {
         Ok(both) => run_text(alloc, &both.plan, both.text.as_slice(), is_script, notes),
-        Err(error) => Err(unread_for(error, is_script)),
+        Err(stop) => Err(stop_for(stop, is_script, Named::Plan)),
     }
 }
 
@@ -81,8 +81,5 @@ fn replay(alloc: Global, plan: &Plan, text: &[u8], notes: &mut Notes) -> Result<
     ensures { Prints (IsReplay plan.now text.now) null_output null_output result }
 {
     let events = read_events(alloc, text, plan)?;
-    match observe(alloc, plan, events.as_slice(), notes) {
-        Ok(()) => Ok(0),
-        Err(error) => Err(Stop::from(error)),
-    }
+    observe(alloc, plan, events.as_slice(), notes)
 }

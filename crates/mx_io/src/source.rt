@@ -1,6 +1,7 @@
 ghost use Rattle.std.specs.Prelude.{◌≡◌, ℕ, List, [], ◌∷◌, Option, Some, None, IfSome};
 ghost use Rattle.mx_io.specs.Told.{Asks, Telling, Tells, bytes_of, entries_of};
 
+use crate::streams::Refusal;
 use std::alloc::{AllocError, Global};
 
 /// Why a source returns no bytes.
@@ -30,6 +31,19 @@ pub trait Source {
         ensures tells { IfSome (told self.old name.now) (λ telling. Tells telling result) }
         ensures asks { Asks (asked self.old) (asked self.new) (name.now ∷ []) }
         ensures stays { told self.new ≡ told self.old };
+
+    /// Returns the same bytes, perhaps of an earlier read, or why they cannot be read.
+    ///
+    /// # Errors
+    ///
+    /// Returns `Because` with the reason, and `Memory` if memory runs out.
+    fn fetched(&mut self, alloc: Global, name: &str) -> Result<Vec<u8>, Refusal> {
+        match self.bytes(alloc, name) {
+            Ok(bytes) => Ok(bytes),
+            Err(SourceFault::Unreadable) => Err(Refusal::Because("no reason is known")),
+            Err(SourceFault::Memory) => Err(Refusal::Memory),
+        }
+    }
 }
 
 /// Named bytes in memory. If two entries have the same name, the first counts.

@@ -45,6 +45,10 @@ impl<R: Files + Input> Source for Streams<'_, R> {
             Err(refusal) => Err(refusal.fault()),
         }
     }
+
+    fn fetched(&mut self, alloc: Global, name: &str) -> Result<Vec<u8>, Refusal> {
+        read_name(self.rt, alloc, name)
+    }
 }
 
 /// Reads a file, or standard input if the name is `-`.

@@ -4,7 +4,7 @@ use Rattle.mx_plan.specs.Text.{Text}
 use Rattle.mx_plan.specs.Fields.{Fields}
 use Rattle.mx_trace.specs.declared.outcome.Entry.{Entry}
 use Rattle.mx_explorer.specs.declared.verdict.Verdict.{Verdict}
-use Rattle.mx_commands.specs.Ran.{verdict_status}
+use Rattle.mx_commands.specs.VerdictLines.{verdict_status}
 use Rattle.mx_commands.specs.VerdictLines.{verdict_line}
 use Rattle.mx_cli.specs.Printing.{IsStopWith, Prints, Sight, ends, has_line, whole}
 use Rattle.mx_cli.specs.declared.stop.Stop.{Stop}

@@ -7,7 +7,7 @@ use Rattle.mx_explorer.specs.Verdict.{IsFirstBroken, IsSoundTrace}
 use Rattle.mx_explorer.specs.declared.verdict.Clause.{Clause}
 use Rattle.mx_explorer.specs.declared.verdict.Verdict.{Verdict}
 use Rattle.mx_explorer.specs.declared.verdict.Verdict.TheVariants.{Sound, Broken}
-use Rattle.mx_commands.specs.Ran.{verdict_status}
+use Rattle.mx_commands.specs.VerdictLines.{verdict_status}
 use Rattle.mx_commands.specs.VerdictLines.{verdict_line}
 use Rattle.mx_cli.specs.Printing.{IsWhole, Report, ends, has_line}
 use Rattle.mx_judge.specs.Faults.{trace_line}

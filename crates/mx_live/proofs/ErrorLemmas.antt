@@ -1,6 +1,5 @@
 -- Why a live run has no journal.
 use Rattle.std.proofs.Common.{◌≡◌, ◌⊎◌, Bool, false, inl, inr, List, Option, IfSome, Result, Ok, Err, IfErr, OnErr, OnOk, length, sym, subst}
-use Rattle.std.proofs.lemmas.Bool.{false≢true}
 use Rattle.std.specs.Io.KnownBytes.{Appends, Keeps}
 use Rattle.mx_journal.specs.declared.receipts.Receipt.{Receipt}
 use Rattle.mx_journal.specs.Settled.{JournalState}
@@ -12,12 +11,11 @@ use Rattle.mx_ricart.specs.Step.{ricart_core}
 use Rattle.mx_maekawa.specs.Step.{maekawa_core}
 use Rattle.mx_raymond.specs.Step.{raymond_core}
 use Rattle.mx_cli.specs.Requests.{LiveRequest}
-use Rattle.mx_cli.specs.declared.faults.CommandError.{CommandError}
-use Rattle.mx_cli.specs.declared.faults.CommandError.TheVariants as command_error
+use Rattle.mx_cli.specs.declared.stop.Stop.{Stop}
+use Rattle.mx_cli.specs.declared.stop.Stop.TheVariants as stop
 use Rattle.mx_cli.specs.Reading.{IsPlanOf, Reads}
 use Rattle.mx_cli.proofs.OutputLemmas.{Keeps-refl}
 use Rattle.mx_io.specs.Outputs.{Held}
-use Rattle.mx_cli.specs.Outputs.{refused_after}
 use Rattle.mx_io.specs.Told.{Telling}
 use Rattle.mx_stations.specs.declared.worker.Worked.{Worked}
 use Rattle.mx_stations.specs.declared.worker.Worked.TheVariants as worked
@@ -25,7 +23,7 @@ use Rattle.mx_jobs.specs.Serial.{AreSerial}
 use Rattle.mx_live.specs.declared.live_error.LiveError.{LiveError}
 use Rattle.mx_live.specs.declared.live_error.LiveError.TheVariants.{Plan, TooFewSections, TurnsSpent, GateShut, Writer, Memory}
 use Rattle.mx_live.specs.declared.threads.WorkerConfig.{WorkerConfig}
-use Rattle.mx_live.specs.LiveErrors.{Fails, HasNone, InVain, InVainBy, IsWhy, RunsInVain, live_error_of}
+use Rattle.mx_live.specs.LiveErrors.{Fails, HasNone, InVain, InVainBy, IsWhy, RunsInVain, unread_error}
 use Rattle.mx_live.specs.Workers.{orders_in}
 use Rattle.mx_live.specs.Shown.{live_text}
 use Rattle.mx_live.specs.Together.{ComeOf, HaveSections}
@@ -46,16 +44,16 @@ vain_by (planned.Maekawa family) p orders error vain = vain_of maekawa_core fami
 vain_by (planned.Raymond tree) p orders error vain = vain_of raymond_core tree p orders error vain
 
 module _ (takes : Bool) (told : Option Telling) (request : LiveRequest) where
-  -- a plan that was not read
-  pub plan_fails : (stopped : CommandError) (held : Held) → IfSome told (λ telling. Reads telling (Err stopped))
-      → ((before : Bool) → refused_after {T = Fields} (Err stopped) before ≡ before) → Halts takes told request (live_error_of stopped) × Prints told request (live_error_of stopped) held held
-  plan_fails (command_error.Fault fault) held read taken = (read, Keeps-refl held)
-  plan_fails command_error.Writer held read taken = absurd (false≢true (sym (taken false)))
-  plan_fails command_error.Memory held read taken = (tt, inl (Keeps-refl held))
-
   -- what an error says
-  abbrev Halted : Held → Held → LiveError → Type 0
+  abbrev pub Halted : Held → Held → LiveError → Type 0
   Halted old new error = Halts takes told request error × Prints told request error old new
+
+  -- a plan that was not read
+  pub plan_halts : (stopped : Stop) (held : Held) → IfSome told (λ telling. Reads telling (Err stopped)) → Halted held held (unread_error stopped)
+  plan_halts (stop.Fault fault) held read = (read, Keeps-refl held)
+  plan_halts (stop.Line line) held read = (tt, inl (Keeps-refl held))
+  plan_halts stop.Writer held read = (tt, inl (Keeps-refl held))
+  plan_halts stop.Memory held read = (tt, inl (Keeps-refl held))
 
   -- threads that ran in vain
   pub vain_halts : (p : Fields) (error : LiveError) (held : Held) → IsPlanOf told p → Fits request p → HasNone p (orders_in request) error → Halted held held error
@@ -69,12 +67,6 @@ module _ (takes : Bool) (told : Option Telling) (request : LiveRequest) where
   pub output_halts : (error : LiveError) (old new : Held) → Fails takes error → Keeps old new ⊎ Shows told request old new → Halted old new error
   output_halts error old new (inl fails) whole = subst (λ h. Halted old new h) (sym fails.0) (fails.1, whole)
   output_halts error old new (inr is) whole = subst (λ h. Halted old new h) (sym is) (tt, whole)
-
-  -- the end of a run whose plan was not read
-  pub plan_ends : (r : Result (Unit {0}) LiveError) (error : LiveError) (stopped : CommandError) (held : Held) (kept_back : Bool) → r ≡ Err error → error ≡ live_error_of stopped → IfSome told (λ telling. Reads telling (Err stopped))
-      → ((before : Bool) → refused_after {T = Fields} (Err stopped) before ≡ before) → Ends takes told request held held kept_back r
-  plan_ends r error stopped held kept_back is from read taken =
-      subst (λ (x : Result (Unit {0}) LiveError). Ends takes told request held held kept_back x) (sym is) (subst (λ h. Halted held held h) (sym from) (plan_fails stopped held read taken))
 
   -- the end of a run that came to none
   pub none_ends : (p : Fields) (r : Result (Unit {0}) LiveError) (error why : LiveError) (held : Held) (kept_back : Bool) → r ≡ Err error → error ≡ why → IsPlanOf told p → Fits request p → HasNone p (orders_in request) why → Ends takes told request held held kept_back r

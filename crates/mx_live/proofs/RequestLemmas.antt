@@ -3,7 +3,7 @@ use Rattle.std.proofs.Common.{ℕ, Bool, Option, Err, inl, inr}
 use Rattle.mx_plan.specs.Text.{Text}
 use Rattle.mx_io.specs.Told.{Telling}
 use Rattle.mx_cli.specs.Reports.{Declines, RunsOut, Seen}
-use Rattle.mx_cli.specs.Requests.{Request, check, count, draw, explain, explore, explore_walk, judge, live, misfit, picture, play, replay, script}
+use Rattle.mx_cli.specs.Requests.{Request, live}
 use Rattle.mx_live.specs.declared.live_error.LiveError.TheVariants.{Memory}
 use Rattle.mx_live.specs.Lives.{LivesAs}
 use Rattle.mx_live.proofs.ProgressLemmas.{tells_none}
@@ -22,15 +22,4 @@ module _ (told : Text → Option Telling) (t u : Bool) (old new : Seen) (status 
     closes = inr (inl (memory.0, memory.2));
     whole = inl memory.1;
   }
-  short_lives (check plan has_asks is_json) = declines
-  short_lives (replay names view) = declines
-  short_lives (explore e has_counts is_json) = declines
-  short_lives (explore_walk e conditions) = declines
-  short_lives (draw e conditions) = declines
-  short_lives (script names) = declines
-  short_lives (play plan first) = declines
-  short_lives (picture names part) = declines
-  short_lives (count names is_json) = declines
-  short_lives (judge names) = declines
-  short_lives (explain plan second is_script) = declines
-  short_lives (misfit reason) = declines
+  short_lives _ = declines

@@ -8,8 +8,8 @@ use Rattle.mx_plan.specs.declared.shape.Shape.TheVariants as planned
 use Rattle.mx_ricart.specs.Step.{ricart_core}
 use Rattle.mx_maekawa.specs.Step.{maekawa_core}
 use Rattle.mx_raymond.specs.Step.{raymond_core}
-use Rattle.mx_cli.specs.declared.faults.CommandError.{CommandError}
-use Rattle.mx_cli.specs.declared.faults.CommandError.TheVariants as command_error
+use Rattle.mx_cli.specs.declared.stop.Stop.{Stop}
+use Rattle.mx_cli.specs.declared.stop.Stop.TheVariants as stop
 use Rattle.mx_io.specs.Outputs.{Held}
 use Rattle.mx_io.specs.declared.output.OutputFault.{OutputFault}
 use Rattle.mx_io.specs.declared.output.OutputFault.TheVariants as output_fault
@@ -93,11 +93,12 @@ HasNone p orders error = InVain p orders error ⊎ (error ≡ Memory)
 abbrev pub Fails : Bool → LiveError → Type 0
 Fails takes error = ((error ≡ Writer) × (takes ≢ true)) ⊎ (error ≡ Memory)
 
--- the error of a live run whose plan was not read for this reason
-abbrev pub live_error_of : CommandError → LiveError
-live_error_of (command_error.Fault fault) = Plan fault
-live_error_of command_error.Writer = Writer
-live_error_of command_error.Memory = Memory
+-- the error of a live run whose plan was not read: its fault, or that memory ran out
+abbrev pub unread_error : Stop → LiveError
+unread_error (stop.Fault fault) = Plan fault
+unread_error (stop.Line line) = Memory
+unread_error stop.Writer = Memory
+unread_error stop.Memory = Memory
 
 abbrev pub error_of_put : OutputFault → LiveError
 error_of_put output_fault.Refused = Writer

@@ -5,7 +5,7 @@ use Rattle.mx_journal.specs.Settled.{JournalState}
 use Rattle.mx_plan.specs.Fields.{Fields}
 use Rattle.mx_plan.specs.Text.{Text}
 use Rattle.mx_cli.specs.Requests.{LiveRequest, Request, live}
-use Rattle.mx_cli.specs.declared.faults.CommandError.TheVariants as command_error
+use Rattle.mx_cli.specs.declared.stop.Stop.TheVariants as stop
 use Rattle.mx_io.specs.Told.{Telling}
 use Rattle.mx_io.specs.Outputs.{Held}
 use Rattle.mx_cli.specs.Reading.{IsPlanOf, Reads}
@@ -38,7 +38,7 @@ Shows told request old new =
 -- `Writer` needs an output that may refuse. `Memory` is possible for every run
 abbrev pub Halts : Bool → Option Telling → LiveRequest → LiveError → Type 0
 Halts takes told request (Plan fault) =
-    IfSome told (λ telling. Reads telling (Err (command_error.Fault fault)))
+    IfSome told (λ telling. Reads telling (Err (stop.Fault fault)))
 Halts takes told request TooFewSections =
     (p : Fields) × IsPlanOf told p × (p.sections < length p.nodes * request.sections)
 Halts takes told request TurnsSpent =

@@ -14,7 +14,7 @@ ghost use Rattle.mx_cli.specs.Reading.{IsPlanOf};
 ghost use Rattle.mx_live.specs.Lives.{Ends, Lives, LivesAs};
 ghost use Rattle.mx_live.specs.Progress.{TellsProgress};
 
-use crate::live_error::{LiveError, report_error};
+use crate::live_error::{LiveError, report_error, unread_error};
 use crate::live_text::add_journal;
 use crate::node_runs::live_by_shape;
 use mx_cli::{LiveRequest, Request, fetch_plan, parse, refuse};
@@ -103,8 +103,10 @@ fn live_and_show<R: Threads + Clock, S: Source, O: Output, E: Output>(
         (E.written err.old) (E.written err.new) }
     ensures stays { E.takes_all err.new ≡ E.takes_all err.old }
 {
-    let plan = fetch_plan(alloc, source, request.plan)?;
-    live_plan(rt, alloc, &plan, request, out, err)
+    match fetch_plan(alloc, source, request.plan) {
+        Ok(plan) => live_plan(rt, alloc, &plan, request, out, err),
+        Err(stop) => Err(unread_error(stop)),
+    }
 }
 
 fn live_plan<R: Threads + Clock, O: Output, E: Output>(

@@ -1,9 +1,9 @@
 //! Why a live run ends without a journal, and the message for it.
 
 ghost use Rattle.std.specs.Prelude.{◌≡◌, Some};
-ghost use Rattle.mx_live.specs.LiveErrors.{ReportsError, error_line, error_status};
+ghost use Rattle.mx_live.specs.LiveErrors.{ReportsError, error_line, error_status, unread_error};
 
-use mx_cli::{CommandError, Fault, FaultLine, Names, report_memory, write_line};
+use mx_cli::{Fault, FaultLine, Names, Stop, report_memory, write_line};
 use mx_io::{Output, OutputFault};
 use std::alloc::{AllocError, Global};
 use std::fmt;
@@ -37,21 +37,6 @@ impl LiveError {
     }
 }
 
-impl From<CommandError> for LiveError {
-    ghost use Rattle.std.specs.Prelude.{◌≡◌};
-    ghost use Rattle.mx_live.specs.LiveErrors.{live_error_of};
-
-    ghost from_gives = { λ error live. live ≡ live_error_of error };
-
-    fn from(error: CommandError) -> LiveError {
-        match error {
-            CommandError::Fault(fault) => LiveError::Plan(fault),
-            CommandError::Writer => LiveError::Writer,
-            CommandError::Memory => LiveError::Memory,
-        }
-    }
-}
-
 impl From<OutputFault> for LiveError {
     ghost use Rattle.std.specs.Prelude.{◌≡◌};
     ghost use Rattle.mx_live.specs.LiveErrors.{error_of_put};
@@ -59,7 +44,10 @@ impl From<OutputFault> for LiveError {
     ghost from_gives = { λ fault error. error ≡ error_of_put fault };
 
     fn from(fault: OutputFault) -> LiveError {
-        LiveError::from(CommandError::from(fault))
+        match fault {
+            OutputFault::Refused => LiveError::Writer,
+            OutputFault::Memory => LiveError::Memory,
+        }
     }
 }
 
@@ -71,6 +59,16 @@ impl From<AllocError> for LiveError {
 
     fn from(_e: AllocError) -> LiveError {
         LiveError::Memory
+    }
+}
+
+/// Returns the error of a run whose plan was not read: its fault, or that memory ran out.
+pub(crate) fn unread_error(stop: Stop) -> LiveError
+    ensures { result ≡ unread_error stop }
+{
+    match stop {
+        Stop::Fault(fault) => LiveError::Plan(fault),
+        Stop::Line(_) | Stop::Writer | Stop::Memory => LiveError::Memory,
     }
 }
 

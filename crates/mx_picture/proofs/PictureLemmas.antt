@@ -1,24 +1,19 @@
 -- A picture, from its lines, and what is printed where there is none.
-use Rattle.std.proofs.Common.{◌≡◌, ◌∙◌, ◌⊎◌, ◌++◌, ℕ, List, [], Option, Some, Result, Ok, Err, ap, inl, inr, refl, subst, sym}
-use Rattle.std.specs.Prelude.{codes}
-use Rattle.std.specs.Option.{option_or}
+use Rattle.std.proofs.Common.{◌≡◌, ◌∙◌, ◌⊎◌, ◌++◌, ℕ, List, [], None, Result, Ok, Err, ap, false, inl, inr, length, refl, subst, sym, true}
+use Rattle.std.specs.Prelude.{codes, string_bytes}
 use Rattle.mx_events.specs.declared.event.Event.{Event}
 use Rattle.mx_plan.specs.Text.{Text, line_feed}
 use Rattle.mx_plan.specs.Fields.{Fields}
 use Rattle.mx_plan.specs.Events.{events_at}
 use Rattle.mx_plan.specs.declared.faults.PlanFault.{PlanFault}
 use Rattle.mx_plan.specs.declared.faults.PlanFault.TheVariants as plan_fault
-use Rattle.mx_cli.specs.Printing.{Prints, Report, Sight, ends, has_fault, stop_as, stop_at}
+use Rattle.mx_cli.specs.Printing.{End, IsReport, Prints, Report, ShowsOne, Sight, ends, has_fault, has_line, has_status, is_refused, null_output, stop_at, whole}
 use Rattle.mx_cli.specs.Requests.{Part}
-use Rattle.mx_cli.specs.declared.faults.CommandError.{CommandError}
-use Rattle.mx_cli.specs.declared.faults.CommandError.TheVariants as command_error
 use Rattle.mx_cli.specs.declared.faults.Fault.{Fault}
 use Rattle.mx_cli.specs.declared.faults.Fault.TheVariants.{BadText}
 use Rattle.mx_cli.specs.declared.stop.Stop.{Stop}
 use Rattle.mx_cli.specs.declared.stop.Stop.TheVariants as stop
-use Rattle.mx_cli.proofs.FrameLemmas.{fault_prints, memory_prints, text_prints}
-use Rattle.mx_commands.specs.Ran.{StopsAs}
-use Rattle.mx_commands.specs.Runs.{Report as Lines}
+use Rattle.mx_cli.proofs.FrameLemmas.{fault_prints, line_prints, memory_prints, silent_end, text_prints}
 use Rattle.mx_picture.specs.declared.opening.Frame.{Frame}
 use Rattle.mx_picture.specs.Drawn.{IsPicture, opening_line, title_line}
 use Rattle.mx_picture.specs.Pictures.{IsDrawn, IsPictured, IsPicturedBy}
@@ -30,20 +25,28 @@ picture_is p events frame body t t1 t2 t3 t4 none first second third fourth =
     let opened : t1 ≡ opening_line frame = first ∙ ap (λ (s : Text). s ++ opening_line frame) none in
     (frame, body, fourth ∙ ap (λ (s : Text). s ++ (codes "</svg>" ++ line_feed)) (third ∙ ap (λ (s : Text). s ++ body) (second ∙ ap (λ (s : Text). s ++ title_line p events) opened)))
 
--- the first fault of two
-pub first_fault : {first : Option Fault} {fault : Fault} (second : Option Fault) → Some fault ≡ first → option_or first second ≡ Some fault
-first_fault second is = ap (λ (f : Option Fault). option_or f second) (sym is)
+never_refused : (r : Report) → ShowsOne (IsReport r) true None None is_refused → ⊥
+never_refused r (inl early) = let bad : true ≡ false = early.0 in cc
+never_refused r (inr shown) = let bad : true ≡ false = shown.2.0 in cc
 
-module _ (p : Fields) (es : List Event) (o : Sight) where
-  -- a fault that is known
-  pub fault_drawn : (end : Option Fault) (fault : Fault) → end ≡ Some fault → Prints (IsDrawn p es end) o o (Err (stop.Fault fault))
-  fault_drawn end fault is = fault_prints (IsDrawn p es end) fault o (subst (λ (f : Option Fault). IsDrawn p es f (ends (has_fault fault))) (sym is) refl)
+module _ (p : Fields) (es : List Event) where
+  -- a run that ends well
+  pub run_drawn : (r : Report) (status : ℕ) (picture : Text) → Prints (IsReport r) null_output null_output (Ok status) → IsPicture p (length es) picture → IsDrawn p es r.end (whole picture 0)
+  run_drawn r status picture h is = subst (λ (end : End). IsDrawn p es end (whole picture 0)) (sym (silent_end r (has_status status) h.shows)) (picture, is, refl)
 
-  -- a run that stops
-  pub run_stops : (r : Lines) (e : CommandError) (s : Stop) → StopsAs r e → s ≡ stop_as e → Prints (IsDrawn p es r.end) o o (Err s)
-  run_stops r (command_error.Fault fault) s h is = rw is (fault_drawn r.end fault h)
-  run_stops r command_error.Writer s h is = absurd h
-  run_stops r command_error.Memory s h is = rw is (memory_prints (IsDrawn p es r.end) o)
+  module _ (o : Sight) where
+    -- a fault that is known
+    pub fault_drawn : (end : End) (fault : Fault) → end ≡ has_fault fault → Prints (IsDrawn p es end) o o (Err (stop.Fault fault))
+    fault_drawn end fault is = fault_prints (IsDrawn p es end) fault o (subst (λ (e : End). IsDrawn p es e (ends (has_fault fault))) (sym is) refl)
+
+    -- a run that stops
+    pub run_stops : (r : Report) (s : Stop) → Prints (IsReport r) null_output null_output (Err s) → Prints (IsDrawn p es r.end) o o (Err s)
+    run_stops r (stop.Fault fault) h = fault_drawn r.end fault (silent_end r (has_fault fault) h.shows)
+    run_stops r (stop.Line line) h =
+        line_prints (IsDrawn p es r.end) (string_bytes line) o (stop.Line line)
+        (subst (λ (e : End). IsDrawn p es e (ends (has_line (string_bytes line)))) (sym (silent_end r (has_line (string_bytes line)) h.shows)) refl) refl
+    run_stops r stop.Writer h = absurd (never_refused r h.shows)
+    run_stops r stop.Memory h = memory_prints (IsDrawn p es r.end) o
 
 module _ (part : Part) (p : Fields) (text : Text) where
   -- the events that a text lists

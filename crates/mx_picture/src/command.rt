@@ -1,19 +1,17 @@
 //! `picture`: the events of a text happen as in a replay, and are drawn.
 
-ghost use Rattle.std.specs.Prelude.{◌≡◌, None, length, string_bytes, IfErr, IfOk, OnOk};
+ghost use Rattle.std.specs.Prelude.{◌≡◌, length};
 ghost use Rattle.std.specs.Result.{result_err};
 ghost use Rattle.mx_cli.specs.Printing.{Prints, sight};
 ghost use Rattle.mx_cli.specs.Requests.{part_of, text_of};
 ghost use Rattle.mx_commands.specs.Jobs.{run_by};
-ghost use Rattle.mx_commands.specs.Ran.{StopsAs};
 ghost use Rattle.mx_commands.specs.Runs.{AllNameNodes};
-ghost use Rattle.mx_picture.specs.Drawn.{IsPicture};
-ghost use Rattle.mx_picture.specs.Pictures.{IsDrawn, IsPictured, fault_of_run, node_fault};
+ghost use Rattle.mx_picture.specs.Pictures.{IsDrawn, IsPictured, end_of_run, node_fault};
 
 use crate::drawing::Drawing;
 use crate::page::page_of;
 use crate::part::Part;
-use mx_cli::{Command, CommandError, Fault, PictureOptions, Stop, print};
+use mx_cli::{Command, Fault, PictureOptions, Stop, print};
 use mx_commands::observe;
 use mx_io::Output;
 use mx_network::Event;
@@ -52,7 +50,7 @@ fn draw<O: Output>(
 ) -> Result<u8, Stop>
     requires { AllNameNodes (length plan.now.nodes) events.now }
     ensures prints { Prints (IsDrawn plan.now events.now
-        (fault_of_run plan.now (text_of options.now.node) events.now))
+        (end_of_run plan.now (text_of options.now.node) events.now))
         (sight O.Output out.old) (sight O.Output out.new) result }
 {
     match part_of(plan, options) {
@@ -97,26 +95,8 @@ fn print_picture<O: Output>(
         (run_by plan.now plan.now.shape events.now).end)
         (sight O.Output out.old) (sight O.Output out.new) result }
 {
-    match picture_of(alloc, plan, part, events) {
-        Ok(picture) => print(picture.as_bytes(), 0, out),
-        Err(error) => Err(Stop::from(error)),
-    }
-}
-
-fn picture_of(
-    alloc: Global,
-    plan: &Plan,
-    part: &Part,
-    events: &[Event],
-) -> Result<String, CommandError>
-    requires { AllNameNodes (length plan.now.nodes) events.now }
-    ensures whole { IfOk result (λ page.
-        IsPicture plan.now (length events.now) (string_bytes page)) }
-    ensures ok { OnOk result ((run_by plan.now plan.now.shape events.now).end ≡ None) }
-    ensures err { IfErr result (StopsAs (run_by plan.now plan.now.shape events.now)) }
-{
     let mut drawing = Drawing::new(alloc, events, part)?;
     observe(alloc, plan, events, &mut drawing)?;
     let page = page_of(plan, events.len() as u64, part, &drawing.sheet)?;
-    Ok(page)
+    print(page.as_bytes(), 0, out)
 }

@@ -2,7 +2,7 @@
 use Rattle.std.proofs.Common.{◌≡◌, ◌≤◌, ◌⊎◌, true, List, [], ◌∷◌, Option, Some, None, Result, Ok, Err, IfOk, IfSome, length, sym, subst, inl, inr}
 use Rattle.std.specs.Str.{IsUtf8}
 use Rattle.mx_cli.specs.Reading.{IsRead, Reads}
-use Rattle.mx_cli.specs.declared.faults.CommandError.{CommandError}
+use Rattle.mx_cli.specs.declared.stop.Stop.{Stop}
 use Rattle.mx_lines.specs.declared.errors.LineError.{LineError}
 use Rattle.mx_plan.specs.Text.{Text}
 use Rattle.mx_plan.specs.Fields.{Fields}
@@ -76,7 +76,7 @@ module _ (rest : Option (List Text)) (buffer : Text) where
 
 -- the line that is the plan, or its absence, was read
 module _ (rest : Option (List Text)) (buffer : Text) (lines : Option (List Text)) where
-  pub plan_on_ok : (of : LineRead) (r : Result Fields CommandError) → (of ≡ read.Line) ⊎ (of ≡ read.End) → IfSome lines (λ known. ReadsNext known of buffer rest) → Reads (Some buffer) r
+  pub plan_on_ok : (of : LineRead) (r : Result Fields Stop) → (of ≡ read.Line) ⊎ (of ≡ read.End) → IfSome lines (λ known. ReadsNext known of buffer rest) → Reads (Some buffer) r
       → IfOk r (IsLinePlan lines)
   plan_on_ok of (Ok p) (inl is) x y = first_is_plan rest buffer p lines (subst (λ (of : LineRead). IfSome lines (λ known. ReadsNext known of buffer rest)) is x) y
   plan_on_ok of (Ok p) (inr is) x y = none_is_plan rest buffer p lines (subst (λ (of : LineRead). IfSome lines (λ known. ReadsNext known of buffer rest)) is x) y

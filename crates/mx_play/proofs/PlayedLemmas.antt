@@ -1,5 +1,5 @@
 -- Sessions that were played, of what was read.
-use Rattle.std.proofs.Common.{◌++◌, ℕ, IfOk, List, Option, Some, None, Result, Ok, Err, subst}
+use Rattle.std.proofs.Common.{◌++◌, List, Option, Some, None, subst}
 use Rattle.std.specs.Io.KnownBytes.{Keeps}
 use Rattle.mx_nodelaws.specs.Core.{Core}
 use Rattle.mx_knowledge.specs.Facts.{Known}
@@ -14,9 +14,7 @@ use Rattle.mx_plan.specs.Fields.{Fields}
 use Rattle.mx_plan.specs.declared.shape.Shape.{Shape}
 use Rattle.mx_plan.specs.declared.shape.Shape.TheVariants.{Ricart, Maekawa, Raymond}
 use Rattle.mx_format.specs.LetterTexts.{ricart_text, maekawa_text, raymond_text}
-use Rattle.mx_cli.specs.declared.faults.CommandError.{CommandError}
 use Rattle.mx_cli.proofs.OutputLemmas.{Appends-keeps}
-use Rattle.mx_commands.specs.Commands.{ended_as}
 use Rattle.mx_commands.specs.Runs.{closing_text}
 use Rattle.mx_io.specs.Outputs.{Held}
 use Rattle.mx_play.specs.Commands.{Turn}
@@ -66,8 +64,3 @@ module _ (p : Fields) (script : Text) (a b c : Held) where
   by_left lines rest (Ricart count) = played_left ricart_core ricart_text ricart_known p count script a b c lines rest
   by_left lines rest (Maekawa family) = played_left maekawa_core maekawa_text maekawa_known p family script a b c lines rest
   by_left lines rest (Raymond tree) = played_left raymond_core raymond_text raymond_known p tree script a b c lines rest
-
--- a run that went well, as a command ends
-pub as_ok : (P : ℕ → Type 0) (r : Result ℕ CommandError) → IfOk r P → IfOk (ended_as r) P
-as_ok P (Ok status) h = h
-as_ok P (Err error) h = tt

@@ -3,7 +3,7 @@ use Rattle.std.proofs.Common.{ℕ, List, Option, inr}
 use Rattle.mx_plan.specs.Text.{Text}
 use Rattle.mx_io.specs.Told.{Telling}
 use Rattle.mx_cli.specs.Reports.{Declines, RunsOut, Seen}
-use Rattle.mx_cli.specs.Requests.{Request, check, count, draw, explain, explore, explore_walk, judge, live, misfit, picture, play, replay, script}
+use Rattle.mx_cli.specs.Requests.{Request, play}
 use Rattle.mx_cli.proofs.ClosedLemmas.{not_five}
 use Rattle.mx_play.specs.Played.{PlaysAs}
 
@@ -18,15 +18,4 @@ module _ (told : Text → Option Telling) (lines : Option (List Text)) (old new 
     passed = λ zero. absurd (not_five status memory.0 zero);
     status_is = inr (inr memory.0);
   }
-  short_plays (check plan has_asks is_json) = declines
-  short_plays (replay names view) = declines
-  short_plays (explore e has_counts is_json) = declines
-  short_plays (explore_walk e conditions) = declines
-  short_plays (live run) = declines
-  short_plays (draw e conditions) = declines
-  short_plays (script names) = declines
-  short_plays (picture names part) = declines
-  short_plays (count names is_json) = declines
-  short_plays (judge names) = declines
-  short_plays (explain plan second is_script) = declines
-  short_plays (misfit reason) = declines
+  short_plays _ = declines

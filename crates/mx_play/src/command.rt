@@ -11,8 +11,7 @@ ghost use Rattle.mx_play.specs.Played.{HasPlayed, IsPlayedBy, PlaysAs};
 use crate::lines::Lines;
 use crate::session_files::fetch_start;
 use crate::shapes::run_by_plan;
-use mx_cli::{Names, PlanAndText, Request, Stop, close, parse, refuse};
-use mx_commands::ended_as;
+use mx_cli::{Names, PlanAndText, Request, close, parse, refuse};
 use mx_io::{Output, Source};
 use std::alloc::Global;
 
@@ -77,15 +76,9 @@ fn play_plan<S: Source, L: Lines, O: Output, E: Output>(
 {
     match fetch_start(alloc, plan, script, source, lines) {
         Ok(start) => play_and_close(alloc, plan, &start, lines, out, err),
-        Err(error) => {
+        Err(stop) => {
             let events = script.unwrap_or("-");
-            close(
-                alloc,
-                Err(Stop::from(error)),
-                &Names { plan, events },
-                out,
-                err,
-            )
+            close(alloc, Err(stop), &Names { plan, events }, out, err)
         }
     }
 }
@@ -105,5 +98,5 @@ fn play_and_close<L: Lines, O: Output, E: Output>(
 {
     let names = Names { plan, events: "-" };
     let ended = run_by_plan(alloc, start, lines, out, err);
-    close(alloc, ended_as(ended), &names, out, err)
+    close(alloc, ended, &names, out, err)
 }

@@ -6,7 +6,7 @@ ghost use Rattle.mx_play.specs.LineTurns.{Means, MeansText, ReadsInput, is_end};
 
 use crate::faults::InputFault;
 use crate::lines::{LineRead, Lines};
-use mx_cli::{CommandError, Fault, Named};
+use mx_cli::{Fault, Named, Stop};
 use mx_io::{Output, OutputFault};
 use mx_lines::{SessionCommand, read_command, words_in};
 use mx_plan::Plan;
@@ -28,7 +28,7 @@ pub(crate) fn read_input<L: Lines, E: Output>(
     lines: &mut L,
     line: &mut Vec<u8>,
     err: &mut E,
-) -> Result<Input, CommandError>
+) -> Result<Input, Stop>
     ensures over { IfOk result (IsInput plan.now) }
     ensures reads { IfSome (L.rest lines.old) (λ known. IfOk result (λ input.
         ReadsInput plan.now known input line.new.items (L.rest lines.new))) }
@@ -40,7 +40,7 @@ pub(crate) fn read_input<L: Lines, E: Output>(
         LineRead::Line => Ok(input_in(alloc, plan, line.as_slice())?),
         LineRead::TooLong => Ok(Input::Fault(InputFault::TooLong)),
         LineRead::End => Ok(Input::Eof),
-        LineRead::Unreadable => Err(CommandError::Fault(Fault::CannotRead(Named::Events))),
+        LineRead::Unreadable => Err(Stop::Fault(Fault::CannotRead(Named::Events))),
     }
 }
 

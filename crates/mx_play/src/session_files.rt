@@ -7,7 +7,7 @@ ghost use Rattle.mx_play.specs.Lines.{AreLeft, session_lines};
 ghost use Rattle.mx_play.specs.Played.{IsLinePlan, IsPlanNamed, IsScriptOf, told_of_script};
 
 use crate::lines::{LineRead, Lines};
-use mx_cli::{CommandError, Fault, Named, PlanAndText, fetch, fetch_plan, plan_in};
+use mx_cli::{Fault, Named, PlanAndText, Stop, fetch, fetch_plan, plan_in};
 use mx_io::Source;
 use mx_plan::Plan;
 use std::alloc::Global;
@@ -18,7 +18,7 @@ pub(crate) fn fetch_start<S: Source, L: Lines>(
     script: Option<&str>,
     source: &mut S,
     lines: &mut L,
-) -> Result<PlanAndText, CommandError>
+) -> Result<PlanAndText, Stop>
     ensures plan { IfOk result (λ start.
         IsPlanNamed (S.told source.old) plan.now (L.rest lines.old) start.plan) }
     ensures left { IfOk result (λ _.
@@ -37,7 +37,7 @@ fn plan_of<S: Source, L: Lines>(
     name: &str,
     source: &mut S,
     lines: &mut L,
-) -> Result<Plan, CommandError>
+) -> Result<Plan, Stop>
     ensures named { IfOk result (IsPlanNamed (S.told source.old) name.now (L.rest lines.old)) }
     ensures left { IfOk result (λ _.
         AreLeft (session_lines (is_dash name.now) (L.rest lines.old)) (L.rest lines.new)) }
@@ -50,7 +50,7 @@ fn plan_of<S: Source, L: Lines>(
     }
 }
 
-fn first_plan<L: Lines>(alloc: Global, lines: &mut L) -> Result<Plan, CommandError>
+fn first_plan<L: Lines>(alloc: Global, lines: &mut L) -> Result<Plan, Stop>
     ensures plan { IfOk result (IsLinePlan (L.rest lines.old)) }
     ensures left { IfOk result (λ _.
         AreLeft (session_lines true (L.rest lines.old)) (L.rest lines.new)) }
@@ -58,7 +58,7 @@ fn first_plan<L: Lines>(alloc: Global, lines: &mut L) -> Result<Plan, CommandErr
     let mut line = Vec::new(alloc);
     match lines.next(&mut line)? {
         LineRead::Line | LineRead::End => plan_in(alloc, line.as_slice()),
-        LineRead::TooLong | LineRead::Unreadable => Err(CommandError::Fault(Fault::CannotRead(
+        LineRead::TooLong | LineRead::Unreadable => Err(Stop::Fault(Fault::CannotRead(
             Named::Plan,
         ))),
     }
@@ -66,11 +66,7 @@ fn first_plan<L: Lines>(alloc: Global, lines: &mut L) -> Result<Plan, CommandErr
 
 /// Returns the bytes of the script. There are none if no script is named, or if it is `-`, standard
 /// input, since its lines are read later.
-fn script_of<S: Source>(
-    alloc: Global,
-    name: Option<&str>,
-    source: &mut S,
-) -> Result<Vec<u8>, CommandError>
+fn script_of<S: Source>(alloc: Global, name: Option<&str>, source: &mut S) -> Result<Vec<u8>, Stop>
     ensures { IfOk result (λ text. IsScriptOf (told_of_script (S.told source.old)
         (text_of name.entry)) text.items) }
 {

@@ -15,7 +15,7 @@ use crate::input::{Input, greet, is_end, read_input};
 use crate::lines::{Lines, Listed};
 use crate::run_texts::add_end;
 use crate::session::{Session, Setting};
-use mx_cli::{CommandError, Fault, Named, write_line};
+use mx_cli::{Fault, Named, Stop, write_line};
 use mx_format::Letter;
 use mx_io::Output;
 use mx_knowledge::Knowledge;
@@ -29,7 +29,7 @@ pub(crate) fn run_session<C: Exclusion + Knowledge, L: Lines, O: Output, E: Outp
     session: &mut Session<C>,
     out: &mut O,
     err: &mut E,
-) -> Result<u8, CommandError>
+) -> Result<u8, Stop>
 where
     C::Msg: Letter,
     requires count { C.core.count setting.now.shape.now ≡ length setting.now.plan.now.nodes }
@@ -53,7 +53,7 @@ fn run_rest<C: Exclusion + Knowledge, L: Lines, O: Output, E: Output>(
     session: &mut Session<C>,
     out: &mut O,
     err: &mut E,
-) -> Result<(), CommandError>
+) -> Result<(), Stop>
 where
     C::Msg: Letter,
     requires { IsSession C.core setting.now.plan.now setting.now.shape.now session.old }
@@ -80,7 +80,7 @@ fn run_lines<C: Exclusion + Knowledge, L: Lines, O: Output, E: Output>(
     session: &mut Session<C>,
     out: &mut O,
     err: &mut E,
-) -> Result<Option<u64>, CommandError>
+) -> Result<Option<u64>, Stop>
 where
     C::Msg: Letter,
     requires { IsSession C.core setting.now.plan.now setting.now.shape.now session.old }
@@ -101,7 +101,7 @@ where
             return Ok(None);
         }
     }
-    Err(CommandError::Fault(Fault::CannotRead(Named::Events)))
+    Err(Stop::Fault(Fault::CannotRead(Named::Events)))
 }
 
 fn turn<C: Exclusion + Knowledge, O: Output, E: Output>(
@@ -112,7 +112,7 @@ fn turn<C: Exclusion + Knowledge, O: Output, E: Output>(
     session: &mut Session<C>,
     out: &mut O,
     err: &mut E,
-) -> Result<(), CommandError>
+) -> Result<(), Stop>
 where
     C::Msg: Letter,
     requires is { IsSession C.core setting.now.plan.now setting.now.shape.now session.old }
@@ -134,7 +134,7 @@ fn execute_and_print<C: Exclusion + Knowledge, O: Output>(
     line: &[u8],
     session: &mut Session<C>,
     out: &mut O,
-) -> Result<Option<InputFault>, CommandError>
+) -> Result<Option<InputFault>, Stop>
 where
     C::Msg: Letter,
     requires is { IsSession C.core setting.now.plan.now setting.now.shape.now session.old }
@@ -177,7 +177,7 @@ where
     }
 }
 
-fn print<O: Output>(text: &str, out: &mut O) -> Result<(), CommandError>
+fn print<O: Output>(text: &str, out: &mut O) -> Result<(), Stop>
     ensures printed { OnOk result (Appends (O.written out.old) (O.written out.new) text.now) }
     ensures passed { OnOk result (O.keeps_back out.new ≡ false) }
 {
@@ -192,7 +192,7 @@ fn report<C: Exclusion, E: Output>(
     fault: &Option<InputFault>,
     line: &[u8],
     err: &mut E,
-) -> Result<(), CommandError> {
+) -> Result<(), Stop> {
     let Some(fault) = fault else {
         return Ok(());
     };
@@ -211,7 +211,7 @@ fn finish<C: Exclusion, O: Output>(
     setting: &Setting<'_, C>,
     session: &Session<C>,
     out: &mut O,
-) -> Result<u8, CommandError>
+) -> Result<u8, Stop>
 where
     C::Msg: Letter,
     requires members { length session.now.state.cluster.members

@@ -6,7 +6,7 @@ ghost use Rattle.mx_play.specs.Played.{IsPlayedBy};
 use crate::lines::Lines;
 use crate::session::{Setting, first_session};
 use crate::session_run::run_session;
-use mx_cli::{CommandError, PlanAndText};
+use mx_cli::{PlanAndText, Stop};
 use mx_io::Output;
 use mx_maekawa::Maekawa;
 use mx_plan::Shape;
@@ -20,7 +20,7 @@ pub(crate) fn run_by_plan<L: Lines, O: Output, E: Output>(
     lines: &mut L,
     out: &mut O,
     err: &mut E,
-) -> Result<u8, CommandError>
+) -> Result<u8, Stop>
     ensures played { IfOk result (λ _. IsPlayedBy start.now.plan start.now.text.items
         (L.rest lines.old) (O.written out.old) (O.written out.new) start.now.plan.shape) }
     ensures zero { IfOk result (λ status. status ≡ 0) }

@@ -1,11 +1,12 @@
 //! `mx`, the program. It passes the arguments, files and streams of the process to the functions that
-//! run commands: `live`, which starts threads, `play`, which reads lines as they are typed, and `run`.
+//! run commands: `live`, which starts threads, `play`, which reads lines as they are typed, and
+//! `command` for all others.
 #![tactic(auto)]
 
 mod hints;
 
 use crate::hints::tell_hint;
-use mx_dispatch::run;
+use mx_dispatch::command;
 use mx_io::{Output, Stream, Streams, as_slices, given_words, status_of};
 use mx_live::live;
 use mx_play::{Typed, play};
@@ -30,7 +31,7 @@ where
     match words.first() {
         Some(&"live") => live(rt, alloc, words, &mut source, out, err),
         Some(&"play") => play(alloc, words, &mut source, &mut typed_lines(rt), out, err),
-        _ => run(alloc, words, &mut source, out, err),
+        _ => command(alloc, words, &mut source, out, err),
     }
 }
 

@@ -4,7 +4,6 @@ pub mod FileLemmas
 pub mod PlayedLemmas
 pub mod ItemLemmas
 pub mod ReadLemmas
-pub mod DrawnLemmas
 pub mod StopLemmas
 pub mod OverLemmas
 pub mod LineLemmas

@@ -13,7 +13,7 @@ use Rattle.mx_scripts.specs.Scripts.{HasLine, IsLineOf, IsRefused, script_line}
 use Rattle.mx_scripts.specs.declared.line_failure.LineFailure.{LineFailure}
 use Rattle.mx_scripts.specs.declared.line_failure.RefusedLine.{RefusedLine}
 
--- a line that is one, and so the other
+-- what is known of the line of a stop follows from what else is known of it
 pub line_as : {P Q : Text → Type 0} (s : Stop) → ((line : Text) → P line → Q line) → HasLine P s → HasLine Q s
 line_as (stop.Line line) f h = f (string_bytes line) h
 line_as (stop.Fault fault) f h = absurd h

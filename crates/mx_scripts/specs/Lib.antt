@@ -1,6 +1,5 @@
 pub mod Files
 pub mod Played
-pub mod Drawn
 pub mod Scripts
 pub mod Links
 pub mod Fates

@@ -79,7 +79,7 @@ pub fn reads_back(plan: &Plan, events: &[Event])
         → events_at plan.now (file_text plan.now events.now) ≡ Ok events.now }
 {}
 
-pub(crate) fn file_of(alloc: Global, plan: &Plan, trace: &[Entry]) -> Result<String, AllocError>
+pub fn file_of(alloc: Global, plan: &Plan, trace: &[Entry]) -> Result<String, AllocError>
     ensures { IfOk result (λ text.
         string_bytes text ≡ file_text plan.now (events_of trace.now)) }
 {

@@ -1,8 +1,7 @@
-//! `mx draw` and `mx script` print files of events, drawn from a seed or made by a script.
+//! `mx script`: a file of the events that the lines of a script ask for. Files of events, and the
+//! interpreter of lines.
 #![tactic(auto)]
 
-mod draw_command;
-mod drawn_file;
 mod files;
 mod in_flight;
 mod line_failure;
@@ -14,11 +13,8 @@ mod script_command;
 mod state;
 mod texts;
 mod under_way;
-mod walked_file;
 
-pub use draw_command::Draw;
-pub use drawn_file::replays_as_explored;
-pub use files::{add_file, reads_back};
+pub use files::{add_file, file_of, reads_back};
 pub use in_flight::InFlight;
 pub use line_failure::{LineFailure, RefusedLine, message_of};
 pub use recorder::Recorder;

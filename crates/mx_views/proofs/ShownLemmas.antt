@@ -1,5 +1,5 @@
 -- What is shown of a run, event by event.
-use Rattle.std.proofs.Common.{◌≡◌, ◌∙◌, ◌+◌, ◌++◌, ℕ, Bool, true, false, List, [], ◌∷◌, Option, Some, None, Result, Ok, Err, OnOk, append_assoc, ap, ap₂, drop, length, refl, sym}
+use Rattle.std.proofs.Common.{◌≡◌, ◌∙◌, ◌+◌, ◌++◌, ℕ, Bool, true, false, List, [], ◌∷◌, Result, Ok, Err, OnOk, append_assoc, ap, ap₂, drop, length, refl, sym}
 use Rattle.std.specs.Prelude.{if◌then◌else◌}
 use Rattle.std.specs.List.{concat}
 use Rattle.std.proofs.lemmas.List.{drop_at}
@@ -24,7 +24,8 @@ use Rattle.mx_format.specs.Lines.{texts_from}
 use Rattle.mx_format.specs.Parts.{Parts, maekawa_parts, raymond_parts, ricart_parts}
 use Rattle.mx_cli.specs.declared.faults.Fault.{Fault}
 use Rattle.mx_cli.specs.declared.faults.Fault.TheVariants.{NoParcel}
-use Rattle.mx_commands.specs.Runs.{Report, at_rest, report_from, stepped}
+use Rattle.mx_cli.specs.Printing.{End, Report, has_fault, has_status}
+use Rattle.mx_commands.specs.Runs.{at_rest, report_from, stepped}
 use Rattle.mx_views.specs.Shown.{ShowsRunBy, closing_text, shown_entry, shown_from, shown_parcel, shown_step, shown_text, step_text, view_by, view_from, view_texts}
 use Rattle.mx_views.specs.declared.selection.View.{View}
 
@@ -52,8 +53,8 @@ both_before : (is_quiet : Bool) (x y : Text) → (if is_quiet then [] else x) ++
 both_before true x y = refl
 both_before false x y = refl
 
-some_is_none : (f : Fault) → ◌≡◌ {A = Option Fault} (Some f) None → ⊥
-some_is_none f e = cc
+fault_is_status : (f : Fault) → ◌≡◌ {A = End} (has_fault f) (has_status 0) → ⊥
+fault_is_status f e = cc
 
 module _ {H S M : Type 0} (core : Core H S M) (parts : M → Parts) (p : Fields) (view : View) (knows : S → List Known) where
   -- the events lead to a cluster, and the texts are these lines and its closing lines
@@ -62,12 +63,12 @@ module _ {H S M : Type 0} (core : Core H S M) (parts : M → Parts) (p : Fields)
       (new : ClusterState S M) × RunsTo core g es new × (concat r.texts ≡ (if view.is_quiet then [] else lines) ++ closing_text p view core knows new)
 
   step_leads : (e : Event) (es : List Event) (k : ℕ) (g : ClusterState S M) (r : Result (ClusterState S M) StepFault) → step_of core g e ≡ r
-      → ((new : ClusterState S M) → (view_from core parts p view knows (k + 1) new es).end ≡ None
+      → ((new : ClusterState S M) → (view_from core parts p view knows (k + 1) new es).end ≡ has_status 0
       → Leads new es (view_from core parts p view knows (k + 1) new es) (shown_from core parts p view (k + 1) new es))
-      → (stepped (view_texts core parts p view knows) k g r (λ new. view_from core parts p view knows (k + 1) new es)).end ≡ None
+      → (stepped (view_texts core parts p view knows) k g r (λ new. view_from core parts p view knows (k + 1) new es)).end ≡ has_status 0
       → Leads g (e ∷ es) (stepped (view_texts core parts p view knows) k g r (λ new. view_from core parts p view knows (k + 1) new es))
       (shown_step parts p view k g r (λ new. shown_from core parts p view (k + 1) new es))
-  step_leads e es k g (Err fault) is more end = absurd (some_is_none (NoParcel k) end)
+  step_leads e es k g (Err fault) is more end = absurd (fault_is_status (NoParcel k) end)
   step_leads e es k g (Ok mid) is more end =
       let h = more mid end in
       let text : Text = step_text parts p view k g mid in
@@ -80,14 +81,14 @@ module _ {H S M : Type 0} (core : Core H S M) (parts : M → Parts) (p : Fields)
       )
 
   -- the texts show the run, if it has no fault
-  leads : (es : List Event) (k : ℕ) (g : ClusterState S M) → (view_from core parts p view knows k g es).end ≡ None
+  leads : (es : List Event) (k : ℕ) (g : ClusterState S M) → (view_from core parts p view knows k g es).end ≡ has_status 0
       → Leads g es (view_from core parts p view knows k g es) (shown_from core parts p view k g es)
   unfolding report_from shown_from
   leads [] k g end = (g, refl, nothing_before view.is_quiet (closing_text p view core knows g))
   leads (e ∷ es) k g end = step_leads e es k g (step_of core g e) refl (λ new. leads es (k + 1) new) end
 
 -- the same, by the algorithm of a plan
-pub shown_by : (p : Fields) (view : View) (es : List Event) (shape : Shape) → (view_by p view shape es).end ≡ None → ShowsRunBy p view es (concat (view_by p view shape es).texts) shape
+pub shown_by : (p : Fields) (view : View) (es : List Event) (shape : Shape) → (view_by p view shape es).end ≡ has_status 0 → ShowsRunBy p view es (concat (view_by p view shape es).texts) shape
 shown_by p view es (Ricart count) end = leads ricart_core ricart_parts p view ricart_known es 0 (at_rest ricart_core p count) end
 shown_by p view es (Maekawa family) end = leads maekawa_core maekawa_parts p view maekawa_known es 0 (at_rest maekawa_core p family) end
 shown_by p view es (Raymond tree) end = leads raymond_core raymond_parts p view raymond_known es 0 (at_rest raymond_core p tree) end

@@ -7,13 +7,12 @@ use Rattle.mx_plan.specs.Fields.{Fields}
 use Rattle.mx_plan.specs.Events.{events_at}
 use Rattle.mx_plan.specs.declared.faults.PlanFault.{PlanFault}
 use Rattle.mx_plan.specs.declared.faults.PlanFault.TheVariants as plan_fault
-use Rattle.mx_cli.specs.Printing.{Prints, Report, Sight, ends, has_fault, has_line, stop_at}
+use Rattle.mx_cli.specs.Printing.{IsReport, Prints, Report, Sight, ends, has_fault, has_line, stop_at}
 use Rattle.mx_cli.specs.Requests.{View as Options}
 use Rattle.mx_cli.specs.declared.faults.Fault.TheVariants.{BadText}
 use Rattle.mx_cli.specs.declared.stop.Stop.{Stop}
 use Rattle.mx_cli.specs.declared.stop.Stop.TheVariants as stop
 use Rattle.mx_cli.proofs.FrameLemmas.{line_prints, memory_prints, text_prints}
-use Rattle.mx_commands.proofs.ReplayLemmas.{IsAs}
 use Rattle.mx_views.specs.Shown.{view_by}
 use Rattle.mx_views.specs.Viewed.{IsFound, IsShown, IsShownOn, IsView, IsViewBy, node_in, view_on}
 
@@ -21,7 +20,7 @@ use Rattle.mx_views.specs.Viewed.{IsFound, IsShown, IsShownOn, IsView, IsViewBy,
 
 module _ (options : Options) (p : Fields) (es : List Event) where
   -- the plan has it
-  pub is_shown : (index : Option ℕ) → node_in p options.node ≡ Some index → (r : Report) → IsAs (view_by p (view_on options index) p.shape es) r → IsShown options p es r
+  pub is_shown : (index : Option ℕ) → node_in p options.node ≡ Some index → (r : Report) → IsReport (view_by p (view_on options index) p.shape es) r → IsShown options p es r
   is_shown index found r is = subst (λ (n : Option (Option ℕ)). IsShownOn options p es n r) (sym found) is
 
   -- the plan lacks it, or memory ran out

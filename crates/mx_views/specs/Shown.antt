@@ -30,7 +30,8 @@ use Rattle.mx_format.specs.Lines.{texts_from}
 use Rattle.mx_format.specs.NodeTexts.{member_line}
 use Rattle.mx_format.specs.ParcelTexts.{parcel_line}
 use Rattle.mx_format.specs.Parts.{Parts, maekawa_parts, raymond_parts, ricart_parts}
-use Rattle.mx_commands.specs.Runs.{Report, Texts, at_rest, report_from}
+use Rattle.mx_cli.specs.Printing.{Report}
+use Rattle.mx_commands.specs.Runs.{Texts, at_rest, report_from}
 use Rattle.mx_commands.specs.Sinks.{TextsBy, report_by}
 use Rattle.mx_commands.specs.VerdictLines.{verdict_text}
 use Rattle.mx_views.specs.EventJson.{event_json}

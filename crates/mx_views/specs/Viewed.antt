@@ -11,7 +11,6 @@ use Rattle.mx_cli.specs.Requests.{View as Options}
 use Rattle.mx_cli.specs.declared.faults.Fault.TheVariants.{BadText}
 use Rattle.mx_cli.specs.declared.stop.Stop.{Stop}
 use Rattle.mx_cli.specs.declared.stop.Stop.TheVariants as stop
-use Rattle.mx_commands.specs.Commands.{report_as}
 use Rattle.mx_views.specs.Shown.{view_by}
 use Rattle.mx_views.specs.declared.selection.View.{View}
 
@@ -39,8 +38,7 @@ IsUnknownLine line =
 -- what is shown of these events, of this node or of all; or only the line that the plan lacks the
 -- node
 abbrev pub IsShownOn : Options → Fields → List Event → Option (Option ℕ) → Report → Type 0
-IsShownOn options p es (Some node) r =
-    r ≡ report_as (view_by p (view_on options node) p.shape es)
+IsShownOn options p es (Some node) r = r ≡ view_by p (view_on options node) p.shape es
 IsShownOn options p es None r = (line : Text) × IsUnknownLine line × (r ≡ ends (has_line line))
 
 abbrev pub IsShown : Options → Fields → List Event → Report → Type 0

@@ -1,7 +1,8 @@
 //! What views have in common with replays, and what they show.
 
-ghost use Rattle.std.specs.Prelude.{◌≡◌, None};
+ghost use Rattle.std.specs.Prelude.{◌≡◌};
 ghost use Rattle.std.specs.List.{concat};
+ghost use Rattle.mx_cli.specs.Printing.{has_status};
 ghost use Rattle.mx_commands.specs.Jobs.{run_by};
 ghost use Rattle.mx_views.specs.Shown.{ShowsRunBy, view_by};
 ghost use Rattle.mx_views.specs.declared.selection.View.{View};
@@ -19,7 +20,7 @@ pub fn ends_as_replay(plan: &Plan, events: &[Event])
 /// Proves that a view of a run without a fault has the lines of the events in order, unless it is
 /// quiet, and then the closing lines of the cluster to which they lead. The body does nothing.
 pub fn shows_run(plan: &Plan, events: &[Event])
-    ensures { (view : View) → (view_by plan.now view plan.now.shape events.now).end ≡ None
+    ensures { (view : View) → (view_by plan.now view plan.now.shape events.now).end ≡ has_status 0
         → ShowsRunBy plan.now view events.now
         (concat (view_by plan.now view plan.now.shape events.now).texts) plan.now.shape }
 {}

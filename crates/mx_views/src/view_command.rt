@@ -8,7 +8,7 @@ ghost use Rattle.mx_views.specs.Viewed.{IsFound, IsShown, IsUnknownLine, IsView}
 
 use crate::selection::View;
 use mx_cli::{Command, Stop, ViewOptions};
-use mx_commands::{drive, ended_as};
+use mx_commands::drive;
 use mx_io::Output;
 use mx_lines::message_of_unknown_node;
 use mx_network::Event;
@@ -57,7 +57,7 @@ fn show<O: Output>(
                 is_json: options.is_json,
                 has_state: options.has_state,
             };
-            ended_as(drive(alloc, plan, events, &mut view, out))
+            drive(alloc, plan, events, &mut view, out)
         }
         Err(stop) => Err(stop),
     }

@@ -1,7 +1,7 @@
 use Rattle.std.proofs.Common.{◌∙◌, ap, subst}
 use Rattle.std.proofs.lemmas.List.{take_all}
 use Rattle.clap.specs.Words.{App, app_of}
-use Rattle.mx_cli.specs.Table.{command_app, with_commands}
+use Rattle.mx_cli.specs.Table.{with_commands}
 use Rattle.mx_cli.specs.Words.{IsCommand}
 use Rattle.mx_cli.proofs.LineLemmas.{commands_more}
 use Rattle.mx_cli.proofs.line.with_commands.Goals as goal

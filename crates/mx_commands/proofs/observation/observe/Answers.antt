@@ -1,10 +1,12 @@
-use Rattle.mx_commands.proofs.SinkLemmas.{ends_well, stops_alike}
+use Rattle.mx_cli.proofs.FrameLemmas.{silent_prints}
+use Rattle.mx_commands.specs.Jobs.{run_by}
+use Rattle.mx_commands.specs.Sinks.{TextsBy, replay_lines, report_by}
+use Rattle.mx_commands.proofs.SinkLemmas.{end_alike}
 use Rattle.mx_commands.proofs.observation.observe.Goals as goal
 
-pub returns-in-Ok-clause-ok : goal.returns-in-Ok-clause-ok
-returns-in-Ok-clause-ok g c =
-    ends_well (record { ricart = g.K.Sink-1.texts c.args.sink.now c.args.plan.now; maekawa = g.K.Sink-2.texts c.args.sink.now c.args.plan.now; raymond = g.K.Sink-3.texts c.args.sink.now c.args.plan.now }) c.args.plan.now c.args.events.now c.args.plan.now.shape c.in-Ok.field-0 c.in-Ok.ensures.ran
-
-pub returns-in-Err-clause-err : goal.returns-in-Err-clause-err
-returns-in-Err-clause-err g c =
-    stops_alike (record { ricart = g.K.Sink-1.texts c.args.sink.now c.args.plan.now; maekawa = g.K.Sink-2.texts c.args.sink.now c.args.plan.now; raymond = g.K.Sink-3.texts c.args.sink.now c.args.plan.now }) c.args.plan.now c.args.events.now c.args.plan.now.shape c.in-Err.error c.in-Err.ensures.ran
+pub returns : goal.returns
+returns g c =
+    let p = c.args.plan.now in
+    let es = c.args.events.now in
+    let texts : TextsBy = record { ricart = g.K.Sink-1.texts c.args.sink.now p; maekawa = g.K.Sink-2.texts c.args.sink.now p; raymond = g.K.Sink-3.texts c.args.sink.now p } in
+    record { prints = silent_prints (report_by texts p p.shape es) (run_by p p.shape es) (end_alike texts (replay_lines p) p es p.shape) c.drive.result c.drive.ensures.prints }

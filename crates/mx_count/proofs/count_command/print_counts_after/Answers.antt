@@ -2,7 +2,7 @@ use Rattle.std.proofs.Common.{◌≡◌, ◌∙◌, ◌++◌, Err, ap, inl, leng
 use Rattle.mx_format.specs.Parts.{word_by}
 use Rattle.mx_cli.specs.Printing.{sight, whole}
 use Rattle.mx_cli.proofs.FrameLemmas.{whole_prints}
-use Rattle.mx_commands.proofs.RunLemmas.{err_is}
+use Rattle.mx_cli.proofs.ReadLemmas.{err_is}
 use Rattle.mx_count.specs.Counted.{counts_text}
 use Rattle.mx_count.specs.Printed.{IsCountFrom}
 use Rattle.mx_count.proofs.PrintedLemmas.{count_stops}

@@ -1,6 +1,6 @@
 use Rattle.std.proofs.Common.{◌∙◌, ap, string_bytes}
 use Rattle.mx_format.specs.Parts.{word_by}
-use Rattle.mx_commands.specs.Ran.{verdict_status}
+use Rattle.mx_commands.specs.VerdictLines.{verdict_status}
 use Rattle.mx_count.specs.Counted.{all_nodes_text, cluster_text}
 use Rattle.mx_count.proofs.CountedLemmas.{with_counts}
 use Rattle.mx_count.proofs.counted_run.add_counts.Goals as goal

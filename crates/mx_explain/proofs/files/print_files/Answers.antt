@@ -5,7 +5,7 @@ use Rattle.mx_plan.specs.Text.{Text}
 use Rattle.mx_cli.specs.Printing.{course_of, sight, stop_of}
 use Rattle.mx_cli.specs.declared.stop.Stop.TheVariants as stop
 use Rattle.mx_cli.proofs.FrameLemmas.{memory_prints}
-use Rattle.mx_commands.proofs.RunLemmas.{err_is}
+use Rattle.mx_cli.proofs.ReadLemmas.{err_is}
 use Rattle.mx_explain.specs.Explained.{IsToldOf}
 use Rattle.mx_explain.specs.Reports.{last_line, nothing_at_fault}
 use Rattle.mx_explain.proofs.ExplainLemmas.{not_put, prints_told}

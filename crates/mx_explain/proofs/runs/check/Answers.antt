@@ -1,8 +1,8 @@
 use Rattle.std.proofs.Common.{false, subst}
 use Rattle.mx_cli.specs.Frames.{Files}
-use Rattle.mx_cli.specs.Printing.{Prints}
+use Rattle.mx_cli.specs.Printing.{Prints, null_output}
 use Rattle.mx_commands.specs.Commands.{IsCheck}
-use Rattle.mx_explain.specs.Explained.{IsReportFor, null_output}
+use Rattle.mx_explain.specs.Explained.{IsReportFor}
 use Rattle.mx_explain.proofs.runs.check.Goals as goal
 
 pub returns : goal.returns

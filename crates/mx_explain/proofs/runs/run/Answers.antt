@@ -1,9 +1,9 @@
 use Rattle.std.proofs.Common.{Option, subst, sym}
 use Rattle.std.specs.Borrow.{Bor}
 use Rattle.mx_plan.specs.Text.{Text}
-use Rattle.mx_cli.specs.Printing.{Prints}
+use Rattle.mx_cli.specs.Printing.{Prints, null_output}
 use Rattle.mx_cli.specs.Requests.{text_of}
-use Rattle.mx_explain.specs.Explained.{IsExplained, null_output}
+use Rattle.mx_explain.specs.Explained.{IsExplained}
 use Rattle.mx_explain.proofs.runs.run.Goals as goal
 
 pub returns-in-Some : goal.returns-in-Some

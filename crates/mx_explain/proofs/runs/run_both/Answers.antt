@@ -1,12 +1,12 @@
 use Rattle.std.proofs.Common.{Err, subst, sym}
 use Rattle.mx_plan.specs.Text.{Text}
-use Rattle.mx_cli.specs.Printing.{Prints}
+use Rattle.mx_cli.specs.Printing.{Prints, null_output}
 use Rattle.mx_cli.specs.Reading.{plan_told, text_told}
 use Rattle.mx_cli.specs.Words.{names_of}
 use Rattle.mx_cli.specs.Frames.{IsReportOf}
 use Rattle.mx_cli.specs.declared.stop.Stop.{Stop}
 use Rattle.mx_cli.proofs.FrameLemmas.{unread_prints}
-use Rattle.mx_explain.specs.Explained.{IsTextReport, null_output}
+use Rattle.mx_explain.specs.Explained.{IsTextReport}
 use Rattle.mx_explain.proofs.ExplainLemmas.{text_runs}
 use Rattle.mx_explain.proofs.runs.run_both.Goals as goal
 
@@ -27,5 +27,5 @@ returns-in-Err g c =
     let names = names_of c.args.names.now in
     let plan = plan_told told names in
     let text = text_told told names in
-    subst (λ (s : Stop). Prints (IsReportOf (IsTextReport b) b plan text) null_output null_output (Err s)) (sym c.unread_for.ensures)
-    (unread_prints (IsTextReport b) b plan text null_output c.in-Err.error c.in-Err.ensures.read c.in-Err.ensures.taken)
+    subst (λ (s : Stop). Prints (IsReportOf (IsTextReport b) b plan text) null_output null_output (Err s)) (sym c.stop_for.ensures)
+    (unread_prints (IsTextReport b) b plan text null_output c.in-Err.stop c.in-Err.ensures.read c.in-Err.ensures.unread)

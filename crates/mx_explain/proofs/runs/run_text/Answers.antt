@@ -1,6 +1,6 @@
 use Rattle.std.proofs.Common.{Bool, subst, sym}
-use Rattle.mx_cli.specs.Printing.{Prints}
-use Rattle.mx_explain.specs.Explained.{IsTextReport, null_output}
+use Rattle.mx_cli.specs.Printing.{Prints, null_output}
+use Rattle.mx_explain.specs.Explained.{IsTextReport}
 use Rattle.mx_explain.proofs.runs.run_text.Goals as goal
 
 pub returns-then-is_script : goal.returns-then-is_script

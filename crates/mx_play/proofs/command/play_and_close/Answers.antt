@@ -1,14 +1,8 @@
 use Rattle.std.specs.Prelude.{codes}
-use Rattle.std.proofs.Common.{◌≡◌, ℕ, Result, subst}
 use Rattle.mx_plan.specs.Text.{Text}
-use Rattle.mx_cli.specs.Frames.{Closes}
-use Rattle.mx_cli.specs.Printing.{course_of}
 use Rattle.mx_cli.specs.Reports.{seen}
-use Rattle.mx_cli.specs.declared.stop.Stop.{Stop}
 use Rattle.mx_cli.proofs.ClosedLemmas.{closed_done, closed_passed, closed_status}
-use Rattle.mx_commands.specs.Commands.{ended_as}
-use Rattle.mx_play.specs.Played.{IsPlayedBy}
-use Rattle.mx_play.proofs.PlayedLemmas.{as_ok, by_keeps}
+use Rattle.mx_play.proofs.PlayedLemmas.{by_keeps}
 use Rattle.mx_play.proofs.command.play_and_close.Goals as goal
 
 pub returns : goal.returns
@@ -20,11 +14,10 @@ returns g c =
     let old = seen g.O.Output g.E.Output c.run_by_plan-ended.new.out c.run_by_plan-ended.new.err in
     let new = seen g.O.Output g.E.Output c.close.new.out c.close.new.err in
     let run = c.run_by_plan-ended.result in
-    let closes = subst (λ (r : Result ℕ Stop). Closes names t u (course_of r) old new c.close.result) c.ended_as.ensures c.close.ensures.closes in
-    let Played = IsPlayedBy p c.args.start.now.text.items (g.L.Lines.rest c.args.lines.now) (g.O.Output.written c.args.out.now) (g.O.Output.written c.run_by_plan-ended.new.out) p.shape in
+    let closes = c.close.ensures.closes in
     record {
       played = λ zero. by_keeps p c.args.start.now.text.items (g.O.Output.written c.args.out.now) (g.O.Output.written c.run_by_plan-ended.new.out) (g.O.Output.written c.close.new.out) (g.L.Lines.rest c.args.lines.now) p.shape
-          (closed_done names t u old new c.close.result (ended_as run) (as_ok (λ _. Played) run c.run_by_plan-ended.ensures.played) closes zero) closes.0;
-      passed = λ zero. closed_passed names t u old new c.close.result (ended_as run) closes zero;
-      status = closed_status names t u old new c.close.result (ended_as run) (as_ok (λ own. own ≡ 0) run c.run_by_plan-ended.ensures.zero) closes;
+          (closed_done names t u old new c.close.result run c.run_by_plan-ended.ensures.played closes zero) closes.0;
+      passed = λ zero. closed_passed names t u old new c.close.result run closes zero;
+      status = closed_status names t u old new c.close.result run c.run_by_plan-ended.ensures.zero closes;
     }

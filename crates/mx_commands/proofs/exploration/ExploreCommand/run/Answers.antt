@@ -1,8 +1,7 @@
-use Rattle.std.proofs.Common.{◌∙◌, ◌++◌, ap, refl}
-use Rattle.mx_cli.specs.Printing.{IsWhole, sight}
-use Rattle.mx_cli.proofs.FrameLemmas.{whole_prints}
+use Rattle.std.proofs.Common.{◌∙◌, ◌++◌, ap}
+use Rattle.mx_cli.specs.Printing.{sight}
 use Rattle.mx_commands.specs.Explored.{explored_text}
-use Rattle.mx_commands.specs.Ran.{verdict_status}
+use Rattle.mx_commands.specs.VerdictLines.{verdict_status}
 use Rattle.mx_commands.proofs.ReplayLemmas.{sound_prints}
 use Rattle.mx_commands.proofs.exploration.ExploreCommand.run.Goals as goal
 

@@ -1,6 +1,6 @@
 use Rattle.std.proofs.Common.{◌∙◌, ap}
 use Rattle.mx_cli.specs.Printing.{sight}
-use Rattle.mx_commands.specs.Ran.{verdict_status}
+use Rattle.mx_commands.specs.VerdictLines.{verdict_status}
 use Rattle.mx_commands.proofs.ReplayLemmas.{sound_prints}
 use Rattle.mx_walks.specs.Summaries.{summary_text, walk_text}
 use Rattle.mx_walks.specs.declared.summary.Summary.{Summary}

@@ -2,8 +2,9 @@ use Rattle.std.proofs.Common.{◌∙◌, ap, length, string_bytes, subst, sym}
 use Rattle.mx_network.specs.Step.{ClusterState}
 use Rattle.mx_walks.specs.Walk.{at_first}
 use Rattle.mx_scripts.specs.Played.{Plays}
-use Rattle.mx_scripts.proofs.PlayedLemmas.{file_if_played, file_of_trace, plays_walked}
-use Rattle.mx_scripts.proofs.walked_file.file_of_walk.Goals as goal
+use Rattle.mx_scripts.proofs.PlayedLemmas.{file_if_played, file_of_trace}
+use Rattle.mx_walks.proofs.LeadsLemmas.{plays_walked}
+use Rattle.mx_walks.proofs.walked_file.file_of_walk.Goals as goal
 
 pub returns-clause-file : goal.returns-clause-file
 returns-clause-file g c =

@@ -2,17 +2,17 @@
 
 ghost use Rattle.std.specs.Prelude.{◌≡◌, [], string_bytes, IfOk};
 ghost use Rattle.mx_walks.specs.Walked.{after_walk};
-ghost use Rattle.mx_scripts.specs.Drawn.{walked_file};
+ghost use Rattle.mx_walks.specs.Drawn.{walked_file};
 ghost use Rattle.mx_scripts.specs.Files.{file_text};
 ghost use Rattle.mx_scripts.specs.Played.{IsEventFile, IsFileOf, events_of};
 
-use crate::files::file_of;
+use crate::steps::walk_cluster;
 use mx_cli::Conditions;
 use mx_commands::by_shape;
 use mx_network::Cluster;
 use mx_nodelaws::Exclusion;
 use mx_plan::Plan;
-use mx_walks::walk_cluster;
+use mx_scripts::file_of;
 use std::alloc::{AllocError, Global};
 
 pub(crate) fn walk_file(

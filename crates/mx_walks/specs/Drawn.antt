@@ -1,5 +1,6 @@
--- The events of a schedule, or of a walk, that is drawn from a seed, in the cluster of a plan.
-use Rattle.std.specs.Prelude.{ℕ, List, length}
+-- The events of a schedule, or of a walk, that is drawn from a seed, in the cluster of a plan; and
+-- what `draw` prints.
+use Rattle.std.specs.Prelude.{ℕ, List, Option, Some, None, length}
 use Rattle.mx_ricart.specs.Step.{ricart_core}
 use Rattle.mx_maekawa.specs.Step.{maekawa_core}
 use Rattle.mx_raymond.specs.Step.{raymond_core}
@@ -11,10 +12,11 @@ use Rattle.mx_plan.specs.declared.shape.Shape.{Shape}
 use Rattle.mx_plan.specs.declared.shape.Shape.TheVariants.{Ricart, Maekawa, Raymond}
 use Rattle.mx_commands.specs.Explored.{after_drawn, schedule_of}
 use Rattle.mx_commands.specs.Runs.{at_rest}
+use Rattle.mx_cli.specs.Printing.{IsWhole, Report}
 use Rattle.mx_cli.specs.declared.request.Conditions.{Conditions}
 use Rattle.mx_walks.specs.Walked.{after_walk}
 use Rattle.mx_scripts.specs.Files.{file_text}
-use Rattle.mx_scripts.specs.Played.{events_of}
+use Rattle.mx_scripts.specs.Played.{IsEventFile, events_of}
 
 -- the events that happen if the schedule `es` runs in the cluster of a plan, at rest: each drawn
 -- delivery is of one of the newest 64 parcels, and is passed over before any was sent
@@ -68,3 +70,11 @@ walked_in p conditions seed steps (Raymond tree) =
 -- the file of the events of that walk
 abbrev pub walked_file : Fields → Conditions → ℕ → ℕ → Text
 walked_file p conditions seed steps = file_text p (walked_in p conditions seed steps p.shape)
+
+-- a report of `draw`: the file of the schedule of a seed; or, under some conditions, that of the
+-- walk of the seed, whose events can happen in the plan's cluster
+abbrev pub IsDraw : ℕ → ℕ → Option Conditions → Fields → Report → Type 0
+IsDraw seed steps None p r = IsWhole (drawn_file p seed steps) 0 r
+IsDraw seed steps (Some conditions) p r =
+    IsEventFile p (walked_file p conditions seed steps) p.shape
+    × IsWhole (walked_file p conditions seed steps) 0 r

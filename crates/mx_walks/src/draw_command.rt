@@ -2,7 +2,7 @@
 
 ghost use Rattle.std.specs.Prelude.{string_bytes, IfOk};
 ghost use Rattle.mx_cli.specs.Printing.{whole};
-ghost use Rattle.mx_scripts.specs.Printed.{IsDraw};
+ghost use Rattle.mx_walks.specs.Drawn.{IsDraw};
 
 use crate::drawn_file::schedule_file;
 use crate::walked_file::walk_file;

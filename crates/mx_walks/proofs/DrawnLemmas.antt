@@ -26,7 +26,7 @@ use Rattle.mx_explorer.proofs.DrawnEvents.{all_drawn}
 use Rattle.mx_commands.specs.Explored.{after_drawn, after_placed, or_stay, schedule_of}
 use Rattle.mx_commands.specs.Runs.{at_rest}
 use Rattle.mx_commands.proofs.RunLemmas.{grows}
-use Rattle.mx_scripts.specs.Drawn.{drawn_file, parcels_in, placed_in, placed_schedule}
+use Rattle.mx_walks.specs.Drawn.{drawn_file, parcels_in, placed_in, placed_schedule}
 use Rattle.mx_scripts.specs.Played.{events_of, AreReadable, IsNumbered}
 use Rattle.mx_scripts.proofs.PlayedLemmas.{noted}
 use Rattle.mx_scripts.proofs.ReadLemmas.{read_back}

@@ -4,16 +4,16 @@ ghost use Rattle.std.specs.Prelude.{◌≡◌, ◌≤◌, ◌^◌, Ok, string_by
 ghost use Rattle.mx_plan.specs.Events.{events_at};
 ghost use Rattle.mx_plan.specs.Fields.{IsPlan};
 ghost use Rattle.mx_commands.specs.Explored.{after_drawn, schedule_of};
-ghost use Rattle.mx_scripts.specs.Drawn.{LeadsAs, drawn_file, parcels_in, placed_in, placed_schedule};
+ghost use Rattle.mx_walks.specs.Drawn.{LeadsAs, drawn_file, parcels_in, placed_in, placed_schedule};
 ghost use Rattle.mx_scripts.specs.Files.{file_text};
 ghost use Rattle.mx_scripts.specs.Played.{events_of};
 
-use crate::files::file_of;
 use mx_commands::{by_shape, happen};
 use mx_explorer::schedule;
 use mx_network::{Cluster, Event};
 use mx_nodelaws::Exclusion;
 use mx_plan::Plan;
+use mx_scripts::file_of;
 use mx_stamps::MAX_EVENTS;
 use std::alloc::{AllocError, Global};
 

@@ -1,7 +1,7 @@
 use Rattle.std.proofs.Common.{◌∙◌, ap, string_bytes, sym}
 use Rattle.mx_network.specs.Step.{ClusterState}
 use Rattle.mx_scripts.proofs.PlayedLemmas.{file_of_trace}
-use Rattle.mx_scripts.proofs.drawn_file.file_after.Goals as goal
+use Rattle.mx_walks.proofs.drawn_file.file_after.Goals as goal
 
 pub returns : goal.returns
 returns g c =

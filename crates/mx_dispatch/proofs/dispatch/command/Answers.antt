@@ -5,7 +5,7 @@ use Rattle.mx_cli.specs.Requests.{request_asked, request_in}
 use Rattle.mx_cli.specs.Reports.{seen}
 use Rattle.mx_cli.proofs.RefusedLemmas.{faultless, refused}
 use Rattle.mx_dispatch.proofs.RequestLemmas.{short_does}
-use Rattle.mx_dispatch.proofs.dispatch.run.Goals as goal
+use Rattle.mx_dispatch.proofs.dispatch.command.Goals as goal
 
 pub returns-in-Err : goal.returns-in-Err
 unfolding request_asked

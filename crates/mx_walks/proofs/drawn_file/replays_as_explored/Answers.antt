@@ -1,7 +1,7 @@
 use Rattle.mx_commands.specs.Explored.{schedule_of}
-use Rattle.mx_scripts.proofs.DrawnLemmas.{drawn_read}
-use Rattle.mx_scripts.proofs.PlayedLemmas.{leads}
-use Rattle.mx_scripts.proofs.drawn_file.replays_as_explored.Goals as goal
+use Rattle.mx_walks.proofs.DrawnLemmas.{drawn_read}
+use Rattle.mx_walks.proofs.LeadsLemmas.{leads}
+use Rattle.mx_walks.proofs.drawn_file.replays_as_explored.Goals as goal
 
 pub returns-clause-reads : goal.returns-clause-reads
 returns-clause-reads c = λ valid few sent. drawn_read c.args.plan.now valid c.args.seed c.args.steps few sent

@@ -1,8 +1,8 @@
 use Rattle.std.proofs.Common.{string_bytes}
 use Rattle.mx_cli.specs.Printing.{sight}
 use Rattle.mx_cli.proofs.FrameLemmas.{whole_prints}
-use Rattle.mx_scripts.specs.Printed.{IsDraw}
-use Rattle.mx_scripts.proofs.draw_command.DrawCommand.run.Goals as goal
+use Rattle.mx_walks.specs.Drawn.{IsDraw}
+use Rattle.mx_walks.proofs.draw_command.DrawCommand.run.Goals as goal
 
 pub returns-in-Ok : goal.returns-in-Ok
 returns-in-Ok g c =
