@@ -71,29 +71,59 @@ fn explain_files<S: Source>(
     source: &mut S,
 ) -> ReportResult {
     let names = asked.names();
-    let Some(text) = fetched(report, names.plan, source)? else {
-        return Ok(());
-    };
-    if are_dashes(&names) && asked.second.is_some() {
-        let (line, rest) = split_line(text.as_slice());
-        return match explain_plan(report, Part::of(names.plan, line, 0))? {
-            Some(plan) => {
-                let part = Part::of(names.events, rest, 1);
-                explain_second(report, asked, notes, &plan, part)
-            }
-            None => Ok(()),
-        };
+    match fetched(report, names.plan, source)? {
+        Some(text) if are_dashes(&names) && asked.second.is_some() => {
+            explain_one(report, asked, notes, text.as_slice())
+        }
+        Some(text) => {
+            let part = Part::of(names.plan, text.as_slice(), 0);
+            explain_each(report, asked, notes, part, source)
+        }
+        None => Ok(()),
     }
-    let Some(plan) = explain_plan(report, Part::of(names.plan, text.as_slice(), 0))? else {
-        return Ok(());
-    };
-    if asked.second.is_none() {
-        return Ok(());
+}
+
+/// Explains a text whose first line is the plan, and whose rest is what comes with it.
+fn explain_one(report: &mut Report, asked: &Asked<'_>, notes: &Notes, text: &[u8]) -> ReportResult {
+    let names = asked.names();
+    let (line, rest) = split_line(text);
+    match explain_plan(report, Part::of(names.plan, line, 0))? {
+        Some(plan) => {
+            let part = Part::of(names.events, rest, 1);
+            explain_second(report, asked, notes, &plan, part)
+        }
+        None => Ok(()),
     }
+}
+
+/// Explains a plan, and the file that comes with it, if one is named.
+fn explain_each<S: Source>(
+    report: &mut Report,
+    asked: &Asked<'_>,
+    notes: &Notes,
+    part: Part<'_>,
+    source: &mut S,
+) -> ReportResult {
+    match explain_plan(report, part)? {
+        Some(plan) if asked.second.is_some() => {
+            explain_file(report, asked, notes, &plan, source)
+        }
+        _ => Ok(()),
+    }
+}
+
+fn explain_file<S: Source>(
+    report: &mut Report,
+    asked: &Asked<'_>,
+    notes: &Notes,
+    plan: &Plan,
+    source: &mut S,
+) -> ReportResult {
+    let names = asked.names();
     match fetched(report, names.events, source)? {
         Some(text) => {
             let part = Part::of(names.events, text.as_slice(), 0);
-            explain_second(report, asked, notes, &plan, part)
+            explain_second(report, asked, notes, plan, part)
         }
         None => Ok(()),
     }

@@ -32,20 +32,36 @@ pub(crate) fn explain_plan(
     report: &mut Report,
     part: Part<'_>,
 ) -> Result<Option<Plan>, AllocError> {
-    let read = read_plan(report.alloc(), part.text);
-    if let Err(PlanFault::Memory) = read {
-        return Err(AllocError);
+    match read_plan(report.alloc(), part.text) {
+        Ok(plan) => {
+            let is_json = explain_text(report, part, None)?;
+            Ok(if is_json { Some(plan) } else { None })
+        }
+        Err(PlanFault::Memory) => Err(AllocError),
+        Err(fault) => {
+            explain_text(report, part, Some(fault))?;
+            Ok(None)
+        }
     }
+}
+
+/// Reports the fault of a plan's text, if it has one, and keys that no plan uses. Returns whether
+/// the text is JSON.
+fn explain_text(
+    report: &mut Report,
+    part: Part<'_>,
+    fault: Option<PlanFault>,
+) -> Result<bool, AllocError> {
     let mut scratch = Scratch::new(report.alloc());
     let Some(plan) = read_value(report, &part, &mut scratch)? else {
-        return Ok(None);
+        return Ok(false);
     };
     let mut report = JsonReport { report, part };
-    if let Err(fault) = &read {
-        add_fault(&mut report, Spot::root("", &plan), *fault)?;
+    if let Some(fault) = fault {
+        add_fault(&mut report, Spot::root("", &plan), fault)?;
     }
     add_unknown_keys(&mut report, &plan)?;
-    Ok(read.ok())
+    Ok(true)
 }
 
 fn add_fault(report: &mut JsonReport<'_>, plan: Spot<'_, '_>, fault: PlanFault) -> ReportResult {

@@ -1,8 +1,14 @@
-use Rattle.std.proofs.Common.{Option, subst}
+use Rattle.std.proofs.Common.{Option, arith, subst}
 use Rattle.mx_lines.specs.declared.lines.Line.{Line}
 use Rattle.mx_scripts.specs.Lines.{IsNotDone, Reads}
 use Rattle.mx_scripts.proofs.LineLemmas.{err_of, misread, not_repeated}
 use Rattle.mx_scripts.proofs.script.do_line.Goals as goal
+
+pub line_in-requires : goal.line_in-requires
+line_in-requires g c = omega arith
+
+pub repeat-requires : goal.repeat-requires
+repeat-requires g c = omega arith
 
 pub returns-in_err-line-clause-err : goal.returns-in_err-line-clause-err
 returns-in_err-line-clause-err g c =

@@ -3,6 +3,9 @@ use Rattle.mx_scripts.specs.Lines.{Repeats, StopsWithin}
 use Rattle.mx_scripts.proofs.LineLemmas.{err_of, repeats_end, repeats_next, within_here, within_next}
 use Rattle.mx_scripts.proofs.script.repeat.Goals as goal
 
+pub perform-requires : goal.perform-requires
+perform-requires g c = omega arith
+
 pub loop-count-init : goal.loop-count-init
 loop-count-init g c =
     let line = c.args.line.now in

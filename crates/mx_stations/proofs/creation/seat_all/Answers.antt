@@ -8,6 +8,9 @@ use Rattle.mx_stations.proofs.Waits.{none_wait}
 use Rattle.mx_stations.proofs.Seats.{splits}
 use Rattle.mx_stations.proofs.creation.seat_all.Goals as goal
 
+pub of-requires : goal.of-requires
+of-requires g c = omega arith
+
 never : false ≡ true → ⊥
 never e = cc
 

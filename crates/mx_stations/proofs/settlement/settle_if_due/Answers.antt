@@ -1,4 +1,4 @@
-use Rattle.std.proofs.Common.{◌≡◌, ◌+◌, List, inr, length, refl, subst, sym}
+use Rattle.std.proofs.Common.{◌≡◌, ◌+◌, List, arith, inr, length, refl, subst, sym}
 use Rattle.mx_stamps.proofs.Choices.{not_both}
 use Rattle.mx_journal.specs.declared.receipts.Receipt.{Receipt}
 use Rattle.mx_journal.specs.Settled.{JournalState}
@@ -6,6 +6,9 @@ use Rattle.mx_member.specs.Member.{first_gap}
 use Rattle.mx_stations.specs.Works.{IsDue}
 use Rattle.mx_stations.proofs.Rounding.{settling_due}
 use Rattle.mx_stations.proofs.settlement.settle_if_due.Goals as goal
+
+pub is_due-requires : goal.is_due-requires
+is_due-requires g c = omega arith
 
 pub returns-then-is_due : goal.returns-then-is_due
 returns-then-is_due g c =

@@ -4,6 +4,9 @@ use Rattle.mx_stations.proofs.Rounding.{rounds_made, rounds_on, rounds_rest}
 use Rattle.mx_stations.proofs.Within.{settling_within}
 use Rattle.mx_stations.proofs.settlement.settle_on.Goals as goal
 
+pub new-requires : goal.new-requires
+new-requires g c = omega arith
+
 pub returns-then-not-arrive : goal.returns-then-not-arrive
 returns-then-not-arrive g c = record {
   most = (0, omega arith, rounds_rest g.C.Exclusion.core c.args.script.now.register c.args.every _ _ refl);

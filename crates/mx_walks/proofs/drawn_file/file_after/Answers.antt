@@ -1,7 +1,16 @@
-use Rattle.std.proofs.Common.{◌∙◌, ap, string_bytes, sym}
+use Rattle.std.proofs.Common.{◌∙◌, ap, arith, string_bytes, sym}
 use Rattle.mx_network.specs.Step.{ClusterState}
 use Rattle.mx_scripts.proofs.PlayedLemmas.{file_of_trace}
 use Rattle.mx_walks.proofs.drawn_file.file_after.Goals as goal
+
+pub file_of-requires : goal.file_of-requires
+file_of-requires g c = omega arith
+
+pub happen-requires : goal.happen-requires
+happen-requires g c = omega arith
+
+pub trace-requires : goal.trace-requires
+trace-requires g c = omega arith
 
 pub returns : goal.returns
 returns g c =

@@ -4,6 +4,12 @@ use Rattle.mx_walks.specs.Walk.{is_ready_at}
 use Rattle.mx_walks.proofs.StepLemmas.{ready_end, ready_more, ready_there}
 use Rattle.mx_walks.proofs.own_actions.ready_or.Goals as goal
 
+pub get-requires : goal.get-requires
+get-requires g c = omega arith
+
+pub is_ready_at-requires : goal.is_ready_at-requires
+is_ready_at-requires g c = omega arith
+
 pub node_at-node-requires : goal.node_at-node-requires
 node_at-node-requires g c =
     let small = mod-lt (c.get.result + c.loop-offset.offset) c.requires.0 in

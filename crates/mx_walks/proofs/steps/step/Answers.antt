@@ -1,10 +1,16 @@
-use Rattle.std.proofs.Common.{◌∙◌, ap, length, sym}
+use Rattle.std.proofs.Common.{◌∙◌, ap, arith, length, sym}
 use Rattle.mx_events.specs.declared.event.Event.{Event}
 use Rattle.std.specs.Prelude.{Option}
 use Rattle.mx_commands.specs.Explored.{after_placed}
 use Rattle.mx_walks.specs.Walk.{state_of}
 use Rattle.mx_walks.proofs.StepLemmas.{on_ok, looked_after}
 use Rattle.mx_walks.proofs.steps.step.Goals as goal
+
+pub look-requires : goal.look-requires
+look-requires g c = omega arith
+
+pub play-requires : goal.play-requires
+play-requires g c = omega arith
 
 pub returns-clause-cluster : goal.returns-clause-cluster
 returns-clause-cluster g c =

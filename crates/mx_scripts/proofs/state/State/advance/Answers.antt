@@ -1,4 +1,4 @@
-use Rattle.std.proofs.Common.{subst, sym}
+use Rattle.std.proofs.Common.{arith, subst, sym}
 use Rattle.std.specs.Prelude.{IsTrue}
 use Rattle.mx_scripts.specs.Fates.{can_pass}
 use Rattle.mx_scripts.specs.States.{RunState}
@@ -15,3 +15,9 @@ returns-in_err-advance-clause-err g c =
     rw (← c.self.view_is)
     (not_applied g.C.Exclusion.core c.self.inside.in_flight c.from_residual.result c.self.inside.cluster c.advance.new.self c.args.event.now failed.field-0.0 c.from_residual.ensures.1
     failed.ensures.fault failed.ensures.err)
+
+pub advance-requires : goal.advance-requires
+advance-requires g c = omega arith
+
+pub note-requires : goal.note-requires
+note-requires g c = omega arith

@@ -1,3 +1,4 @@
+use Rattle.std.proofs.Common.{arith}
 use Rattle.mx_scripts.proofs.state.State.asked.Goals as goal
 
 pub returns-in-Arrives-clause-next : goal.returns-in-Arrives-clause-next
@@ -17,3 +18,18 @@ returns-in-IsLost-clause-next g c = rw c.in-IsLost.is c.loss_between.ensures.nex
 
 pub returns-in-IsLost-clause-err : goal.returns-in-IsLost-clause-err
 returns-in-IsLost-clause-err g c = rw c.in-IsLost.is c.loss_between.ensures.err
+
+pub next_arrival-requires : goal.next_arrival-requires
+next_arrival-requires g c = omega arith
+
+pub next_loss-requires : goal.next_loss-requires
+next_loss-requires g c = omega arith
+
+pub arrival_between-requires : goal.arrival_between-requires
+arrival_between-requires g c = omega arith
+
+pub arrival_again-requires : goal.arrival_again-requires
+arrival_again-requires g c = omega arith
+
+pub loss_between-requires : goal.loss_between-requires
+loss_between-requires g c = omega arith

@@ -1,4 +1,4 @@
-use Rattle.std.proofs.Common.{rules, sym, ap, ◌∙◌, subst, ◌≡◌, [], ◌∷◌, append-nil}
+use Rattle.std.proofs.Common.{arith, rules, sym, ap, ◌∙◌, subst, ◌≡◌, [], ◌∷◌, append-nil}
 use Rattle.std.specs.Arc.{arc_value}
 use Rattle.mx_member.specs.declared.acts.Act.TheVariants.{Deliver}
 use Rattle.mx_stations.specs.Posts.{after_act, left_in, post, shown}
@@ -6,6 +6,9 @@ use Rattle.mx_stations.specs.Running.{GoToNodes}
 use Rattle.mx_stations.proofs.Crossing.{held_takes}
 use Rattle.mx_stations.proofs.Posts.{acted_seat, acted_waits, happens, keeps_left, on_err, ready}
 use Rattle.mx_stations.proofs.station.Station.hand_over.Goals as goal
+
+pub clear-requires : goal.clear-requires
+clear-requires g c = omega arith
 
 pub receive-requires : goal.receive-requires
 receive-requires g c =

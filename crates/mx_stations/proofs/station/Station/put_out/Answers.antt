@@ -1,4 +1,4 @@
-use Rattle.std.proofs.Common.{refl, sym, ap, ◌∙◌, inl, subst, ℕ, ◌<◌}
+use Rattle.std.proofs.Common.{arith, refl, sym, ap, ◌∙◌, inl, subst, ℕ, ◌<◌}
 use Rattle.std.specs.Arc.{arc_value}
 use Rattle.mx_stations.specs.Links.{slot_at}
 use Rattle.mx_stations.specs.Posts.{post, sent_in, shown, Waits}
@@ -6,6 +6,9 @@ use Rattle.mx_stations.proofs.Posts.{idle, same_seat}
 use Rattle.mx_stations.proofs.Crossing.{fills, placed_seat, placed_waits, put_sent, put_full, turned_waits}
 use Rattle.mx_stamps.specs.Lists.{IsIn}
 use Rattle.mx_stations.proofs.station.Station.put_out.Goals as goal
+
+pub take_first-requires : goal.take_first-requires
+take_first-requires g c = omega arith
 
 pub claim_empty-requires-clause-link : goal.claim_empty-requires-clause-link
 claim_empty-requires-clause-link g c =

@@ -4,6 +4,18 @@ use Rattle.mx_walks.specs.Walk.{Step, acted, byte_of, is_delivery, is_empty, sta
 use Rattle.mx_walks.proofs.StepLemmas.{is_there, next_acts, next_repeats, next_takes}
 use Rattle.mx_walks.proofs.walk.Walk.next.Goals as goal
 
+pub act-requires : goal.act-requires
+act-requires g c = omega arith
+
+pub byte_of-requires : goal.byte_of-requires
+byte_of-requires g c = omega arith
+
+pub is_delivery-requires : goal.is_delivery-requires
+is_delivery-requires g c = omega arith
+
+pub repeat-requires : goal.repeat-requires
+repeat-requires g c = omega arith
+
 pub returns-then-byte_of-conditions-clause-event : goal.returns-then-byte_of-conditions-clause-event
 returns-then-byte_of-conditions-clause-event g c =
     let lt : byte_of c.next_word-word.result < c.args.conditions.now.repeat = omega (arith, c.byte_of.ensures, c.if-byte_of-conditions.true) in
