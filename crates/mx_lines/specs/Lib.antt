@@ -1,11 +1,10 @@
 -- Names: the names that a line may use. Words: the words of a line. Numbers: the numbers of a line.
--- Arguments: the arguments of events. Verbs: the first words of a line. Orders: what the words of a
--- line ask for, apart from how often. Lines: whole lines of a script. Commands: lines of a session.
--- Texts: the texts of faults. Escapes: how a text is shown without control characters.
+-- Verbs: the first words of a line. Orders: what the words of a line ask for, apart from how often.
+-- Lines: whole lines of a script. Commands: lines of a session. Texts: the texts of faults. Escapes:
+-- how a text is shown without control characters.
 pub mod Names
 pub mod Words
 pub mod Numbers
-pub mod Arguments
 pub mod Verbs
 pub mod Orders
 pub mod Lines

@@ -1,11 +1,11 @@
 -- What the words of a line ask for, apart from how often, or which word is wrong. Words have
 -- numbers from 0, which are their places in the line.
-use Rattle.std.specs.Prelude.{◌≡◌, ◌==◌, ℕ, ◌+◌, List, [], ◌∷◌, Option, Some, Result, Ok, Err, codes, length, position, if◌then◌else◌, option_map, option_and_then, slice_get}
+use Rattle.std.specs.Prelude.{◌≡◌, ◌==◌, ℕ, ◌+◌, List, [], ◌∷◌, Option, Some, None, Result, Ok, Err, codes, length, position, if◌then◌else◌, option_map, option_and_then}
 use Rattle.std.specs.Option.{option_map_or}
 use Rattle.std.specs.Str.{bytes_eq}
 use Rattle.arrayvec.specs.ArrayVec.{ArrayVec}
 use Rattle.mx_plan.specs.Text.{Text}
-use Rattle.mx_lines.specs.Arguments.{event_of, node_in}
+use Rattle.mx_events.specs.Arguments.{event_of, node_in}
 use Rattle.mx_lines.specs.Names.{Known}
 use Rattle.mx_lines.specs.Numbers.{number_of}
 use Rattle.mx_lines.specs.Verbs.{kinds_of, verb_of, verb_of_all}
@@ -73,17 +73,18 @@ order_between _ from to = Arrives from to
 
 -- the order of a verb between the two nodes in its arguments
 abbrev pub between : Verb → List Argument → Option Order
-between verb arguments =
-    option_and_then (λ from. option_map (order_between verb from) (node_in (slice_get arguments 1)))
-    (node_in (slice_get arguments 0))
+between verb (from ∷ to ∷ []) =
+    option_and_then (λ node. option_map (order_between verb node) (node_in to)) (node_in from)
+between _ _ = None
 
 abbrev pub order_by : Verb → List Argument → Option Order
 order_by (verb.Event kind) arguments = option_map Happens (event_of kind arguments)
 order_by verb.DeliverAll arguments = Some (AllArrive scope.All)
 order_by verb.LoseAll arguments = Some (AllAreLost scope.All)
 order_by verb.Heal arguments = Some (LinksChange change.Heal)
-order_by verb.CutNode arguments =
-    option_map (λ node. LinksChange (change.CutAll node)) (node_in (slice_get arguments 0))
+order_by verb.CutNode (node ∷ []) =
+    option_map (λ number. LinksChange (change.CutAll number)) (node_in node)
+order_by verb.CutNode _ = None
 order_by verb arguments = between verb arguments
 
 module _ (names : Known) where

@@ -2,7 +2,6 @@
 //! words is wrong, and what was expected there.
 #![tactic(auto)]
 
-mod arguments;
 mod commands;
 mod edits;
 mod errors;

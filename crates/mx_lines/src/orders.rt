@@ -2,13 +2,12 @@ ghost use Rattle.std.specs.Prelude.{◌≡◌, ◌≤◌, length};
 ghost use Rattle.mx_lines.specs.Orders.{Gives, argument_at, arguments_at, number_at, order_at, order_before, order_between, order_by, order_of, order_with};
 ghost use Rattle.mx_lines.specs.Names.{texts_of};
 
-use crate::arguments::{event_of, node_at};
 use crate::errors::{Expected, LineError, LineFault, refuse};
 use crate::names::Names;
 use crate::numbers::number_of;
 use crate::verbs::{Verb, verb_of, verb_of_all};
 use arrayvec::ArrayVec;
-use mx_events::{Argument, ArgumentKind, Event, EventKind};
+use mx_events::{Argument, ArgumentKind, Event};
 use mx_stamps::NodeId;
 
 /// What a line of a script asks for, apart from how often. A parcel is under way if it was neither
@@ -123,15 +122,18 @@ fn order_by(verb: Verb, arguments: &[Argument]) -> Option<Order>
     ensures { result ≡ order_by verb arguments.now }
 {
     match verb {
-        Verb::Event(kind) => Some(Order::Happens(event_of(kind, arguments)?)),
+        Verb::Event(kind) => Some(Order::Happens(Event::of(kind, arguments)?)),
         Verb::DeliverAll => Some(Order::AllArrive(Scope::All)),
         Verb::LoseAll => Some(Order::AllAreLost(Scope::All)),
         Verb::Heal => Some(Order::LinksChange(LinkChange::Heal)),
-        Verb::CutNode => Some(Order::LinksChange(LinkChange::CutAll(node_at(arguments, 0)?))),
-        _ => {
-            let from = node_at(arguments, 0)?;
-            Some(order_between(verb, from, node_at(arguments, 1)?))
-        }
+        Verb::CutNode => match arguments {
+            [node] => Some(Order::LinksChange(LinkChange::CutAll(node.node()?))),
+            _ => None,
+        },
+        _ => match arguments {
+            [from, to] => Some(order_between(verb, from.node()?, to.node()?)),
+            _ => None,
+        },
     }
 }
 

@@ -1,5 +1,5 @@
 -- What a line asks for is over the names by which it is read.
-use Rattle.std.proofs.Common.{◌≡◌, ◌<◌, subst, sym, ℕ, zero, suc, ◌+◌, ◌==◌, Bool, true, false, List, [], ◌∷◌, Option, Some, None, Result, Ok, Err, IfOk, IfSome, length, refl, slice_get}
+use Rattle.std.proofs.Common.{◌≡◌, ◌<◌, subst, sym, ℕ, ◌+◌, ◌==◌, Bool, true, false, List, [], ◌∷◌, Option, Some, None, Result, Ok, Err, IfOk, IfSome, length, refl}
 use Rattle.std.specs.Bool.{⊤}
 use Rattle.std.specs.List.{position, position_or_len}
 use Rattle.std.specs.Option.{option_map_or}
@@ -12,7 +12,7 @@ use Rattle.mx_events.specs.declared.kind.EventKind.{EventKind}
 use Rattle.mx_events.specs.declared.kind.EventKind.TheVariants as kind
 use Rattle.mx_plan.specs.Text.{Text}
 use Rattle.mx_explorer.specs.Drawn.{IsDrawn}
-use Rattle.mx_lines.specs.Arguments.{event_of, node_in, of_node, register_in}
+use Rattle.mx_events.specs.Arguments.{event_of, node_in, register_in}
 use Rattle.mx_lines.specs.Lines.{done_times, line_at, line_of, repeated, times_of}
 use Rattle.mx_lines.specs.Names.{Known}
 use Rattle.mx_lines.specs.Numbers.{number_of}
@@ -92,96 +92,86 @@ AreWithin nodes registers [] = ⊤
 AreWithin nodes registers (a ∷ others) = IsWithin nodes registers a × AreWithin nodes registers others
 
 module _ (nodes registers : ℕ) where
-  at : (arguments : List Argument) (k : ℕ) → AreWithin nodes registers arguments
-      → IfSome (slice_get arguments k) (IsWithin nodes registers)
-  unfolding IsWithin AreWithin
-  at [] k h = tt
-  at (a ∷ others) zero h = h.0
-  at (a ∷ others) (suc k) h = at others k h.1
-
-  a_node : (o : Option Argument) → IfSome o (IsWithin nodes registers) → IfSome (node_in o) (λ n. n < nodes)
+  a_node : (a : Argument) → IsWithin nodes registers a → IfSome (node_in a) (λ n. n < nodes)
   unfolding IsWithin
-  a_node None h = tt
-  a_node (Some (argument.Node node)) h = h
-  a_node (Some (argument.Register register)) h = tt
-  a_node (Some (argument.Number number)) h = tt
+  a_node (argument.Node node) h = h
+  a_node (argument.Register register) h = tt
+  a_node (argument.Number number) h = tt
 
-  a_register : (o : Option Argument) → IfSome o (IsWithin nodes registers) → IfSome (register_in o) (λ r. r < registers)
+  a_register : (a : Argument) → IsWithin nodes registers a → IfSome (register_in a) (λ r. r < registers)
   unfolding IsWithin
-  a_register None h = tt
-  a_register (Some (argument.Node node)) h = tt
-  a_register (Some (argument.Register register)) h = h
-  a_register (Some (argument.Number number)) h = tt
+  a_register (argument.Node node) h = tt
+  a_register (argument.Register register) h = h
+  a_register (argument.Number number) h = tt
 
-  module _ (arguments : List Argument) (h : AreWithin nodes registers arguments) where
-    node_at : (k : ℕ) → IfSome (node_in (slice_get arguments k)) (λ n. n < nodes)
-    node_at k = a_node (slice_get arguments k) (at arguments k h)
+  lone : (make : ℕ → Event) (a : Argument) → IsWithin nodes registers a → ((n : ℕ) → n < nodes → IsDrawn nodes registers (make n))
+      → IfSome (option_map make (node_in a)) (IsDrawn nodes registers)
+  lone make a h over = mapped (λ n. n < nodes) (IsDrawn nodes registers) (node_in a) make (a_node a h) over
 
-    register_at : (k : ℕ) → IfSome (register_in (slice_get arguments k)) (λ r. r < registers)
-    register_at k = a_register (slice_get arguments k) (at arguments k h)
+  pair : {B : Type 0} (P : B → Type 0) (make : ℕ → B → Event) (a : Argument) (o : Option B) → IsWithin nodes registers a → IfSome o P
+      → ((n : ℕ) → n < nodes → (b : B) → P b → IsDrawn nodes registers (make n b))
+      → IfSome (option_and_then (λ n. option_map (make n) o) (node_in a)) (IsDrawn nodes registers)
+  pair P make a o h k over =
+      chained (λ n. n < nodes) (IsDrawn nodes registers) (node_in a) _ (a_node a h) (λ n lt. mapped P (IsDrawn nodes registers) o (make n) k (over n lt))
 
-    lone : (make : ℕ → Event) → ((n : ℕ) → n < nodes → IsDrawn nodes registers (make n))
-        → IfSome (of_node arguments make) (IsDrawn nodes registers)
-    lone make over = mapped (λ n. n < nodes) (IsDrawn nodes registers) _ make (node_at 0) over
+  -- the event of a kind with these arguments
+  event_over : (kind : EventKind) (arguments : List Argument) → AreWithin nodes registers arguments
+      → IfSome (event_of kind arguments) (IsDrawn nodes registers)
+  unfolding AreWithin
+  event_over kind.Ask (a ∷ []) h = lone event.Ask a h.0 (λ n lt. lt)
+  event_over kind.Enter (a ∷ []) h = lone event.Enter a h.0 (λ n lt. lt)
+  event_over kind.Leave (a ∷ []) h = lone event.Leave a h.0 (λ n lt. lt)
+  event_over kind.Cancel (a ∷ []) h = lone event.Cancel a h.0 (λ n lt. lt)
+  event_over kind.Tick (a ∷ []) h = lone event.Tick a h.0 (λ n lt. lt)
+  event_over kind.Restart (a ∷ []) h = lone event.Restart a h.0 (λ n lt. lt)
+  event_over kind.Deliver (a ∷ []) h = mapped (λ v. ⊤) (IsDrawn nodes registers) _ event.Deliver (any _) (λ v t. tt)
+  event_over kind.Read (a ∷ b ∷ []) h =
+      pair (λ r. r < registers) event.Read a (register_in b) h.0 (a_register b h.1.0) (λ n lt r below. (lt, below))
+  event_over kind.Settle (a ∷ b ∷ []) h = pair (λ v. ⊤) event.Settle a _ h.0 (any _) (λ n lt v t. lt)
+  event_over kind.Want (a ∷ b ∷ []) h = pair (λ m. m < nodes) event.Want a (node_in b) h.0 (a_node b h.1.0) (λ n lt m below. (lt, below))
+  event_over kind.Write (a ∷ b ∷ c ∷ []) h =
+      chained (λ n. n < nodes) (IsDrawn nodes registers) (node_in a) _ (a_node a h.0)
+      (λ n lt. chained (λ r. r < registers) (IsDrawn nodes registers) (register_in b) _ (a_register b h.1.0)
+      (λ r below. mapped (λ v. ⊤) (IsDrawn nodes registers) _ (event.Write n r) (any _) (λ v t. (lt, below))))
+  event_over _ _ h = tt
 
-    -- the event of a kind with these arguments
-    event_over : (kind : EventKind) → IfSome (event_of kind arguments) (IsDrawn nodes registers)
-    event_over kind.Ask = lone event.Ask (λ n lt. lt)
-    event_over kind.Enter = lone event.Enter (λ n lt. lt)
-    event_over kind.Read =
-        chained (λ n. n < nodes) (IsDrawn nodes registers) _ _ (node_at 0)
-        (λ n lt. mapped (λ r. r < registers) (IsDrawn nodes registers) _ (event.Read n) (register_at 1) (λ r below. (lt, below)))
-    event_over kind.Write =
-        chained (λ n. n < nodes) (IsDrawn nodes registers) _ _ (node_at 0)
-        (λ n lt. chained (λ r. r < registers) (IsDrawn nodes registers) _ _ (register_at 1)
-        (λ r below. mapped (λ v. ⊤) (IsDrawn nodes registers) _ (event.Write n r) (any _) (λ v h. (lt, below))))
-    event_over kind.Leave = lone event.Leave (λ n lt. lt)
-    event_over kind.Cancel = lone event.Cancel (λ n lt. lt)
-    event_over kind.Settle =
-        chained (λ n. n < nodes) (IsDrawn nodes registers) _ _ (node_at 0)
-        (λ n lt. mapped (λ v. ⊤) (IsDrawn nodes registers) _ (event.Settle n) (any _) (λ v h. lt))
-    event_over kind.Tick = lone event.Tick (λ n lt. lt)
-    event_over kind.Want =
-        chained (λ n. n < nodes) (IsDrawn nodes registers) _ _ (node_at 0)
-        (λ n lt. mapped (λ m. m < nodes) (IsDrawn nodes registers) _ (event.Want n) (node_at 1) (λ m below. (lt, below)))
-    event_over kind.Deliver = mapped (λ v. ⊤) (IsDrawn nodes registers) _ event.Deliver (any _) (λ v h. tt)
-    event_over kind.Restart = lone event.Restart (λ n lt. lt)
+  between_over : (verb : Verb) (n m : ℕ) → IsOver nodes registers (order_between verb n m)
+  between_over (verb.Event kind) n m = tt
+  between_over verb.Deliver n m = tt
+  between_over verb.DeliverAll n m = tt
+  between_over verb.DeliverLink n m = tt
+  between_over verb.Lose n m = tt
+  between_over verb.LoseAll n m = tt
+  between_over verb.LoseLink n m = tt
+  between_over verb.Again n m = tt
+  between_over verb.CutLink n m = tt
+  between_over verb.CutNode n m = tt
+  between_over verb.Heal n m = tt
 
-    between_over : (verb : Verb) (n m : ℕ) → IsOver nodes registers (order_between verb n m)
-    between_over (verb.Event kind) n m = tt
-    between_over verb.Deliver n m = tt
-    between_over verb.DeliverAll n m = tt
-    between_over verb.DeliverLink n m = tt
-    between_over verb.Lose n m = tt
-    between_over verb.LoseAll n m = tt
-    between_over verb.LoseLink n m = tt
-    between_over verb.Again n m = tt
-    between_over verb.CutLink n m = tt
-    between_over verb.CutNode n m = tt
-    between_over verb.Heal n m = tt
+  linked : (verb : Verb) (arguments : List Argument) → IfSome (between verb arguments) (IsOver nodes registers)
+  linked verb (a ∷ b ∷ []) =
+      chained (λ n. ⊤) (IsOver nodes registers) (node_in a) (λ n. option_map (order_between verb n) (node_in b)) (any (node_in a))
+      (λ n h. mapped (λ m. ⊤) (IsOver nodes registers) (node_in b) (order_between verb n) (any (node_in b)) (λ m k. between_over verb n m))
+  linked verb _ = tt
 
-    linked : (verb : Verb) → IfSome (between verb arguments) (IsOver nodes registers)
-    linked verb =
-        chained (λ n. ⊤) (IsOver nodes registers) (node_in (slice_get arguments 0))
-        (λ n. option_map (order_between verb n) (node_in (slice_get arguments 1))) (any (node_in (slice_get arguments 0)))
-        (λ n h. mapped (λ m. ⊤) (IsOver nodes registers) (node_in (slice_get arguments 1)) (order_between verb n)
-        (any (node_in (slice_get arguments 1))) (λ m k. between_over verb n m))
+  cut_over : (arguments : List Argument) → IfSome (order_by verb.CutNode arguments) (IsOver nodes registers)
+  cut_over (a ∷ []) =
+      mapped (λ n. ⊤) (IsOver nodes registers) (node_in a) (λ node. order.LinksChange (change.CutAll node)) (any (node_in a)) (λ n h. tt)
+  cut_over _ = tt
 
-    order_over : (verb : Verb) → IfSome (order_by verb arguments) (IsOver nodes registers)
-    order_over (verb.Event kind) =
-        mapped (IsDrawn nodes registers) (IsOver nodes registers) _ order.Happens (event_over kind) (λ e over. over)
-    order_over verb.Deliver = linked verb.Deliver
-    order_over verb.DeliverAll = tt
-    order_over verb.DeliverLink = linked verb.DeliverLink
-    order_over verb.Lose = linked verb.Lose
-    order_over verb.LoseAll = tt
-    order_over verb.LoseLink = linked verb.LoseLink
-    order_over verb.Again = linked verb.Again
-    order_over verb.CutLink = linked verb.CutLink
-    order_over verb.CutNode =
-        mapped (λ n. ⊤) (IsOver nodes registers) (node_in (slice_get arguments 0)) (λ node. order.LinksChange (change.CutAll node))
-        (any (node_in (slice_get arguments 0))) (λ n h. tt)
-    order_over verb.Heal = tt
+  order_over : (verb : Verb) (arguments : List Argument) → AreWithin nodes registers arguments → IfSome (order_by verb arguments) (IsOver nodes registers)
+  order_over (verb.Event kind) arguments h =
+      mapped (IsDrawn nodes registers) (IsOver nodes registers) _ order.Happens (event_over kind arguments h) (λ e over. over)
+  order_over verb.Deliver arguments h = linked verb.Deliver arguments
+  order_over verb.DeliverAll arguments h = tt
+  order_over verb.DeliverLink arguments h = linked verb.DeliverLink arguments
+  order_over verb.Lose arguments h = linked verb.Lose arguments
+  order_over verb.LoseAll arguments h = tt
+  order_over verb.LoseLink arguments h = linked verb.LoseLink arguments
+  order_over verb.Again arguments h = linked verb.Again arguments
+  order_over verb.CutLink arguments h = linked verb.CutLink arguments
+  order_over verb.CutNode arguments h = cut_over arguments
+  order_over verb.Heal arguments h = tt
 
 -- ---- lines
 
@@ -221,7 +211,7 @@ module _ (names : Known) where
       (passed (AreWithin (length names.nodes) (length names.registers)) (IsOver (length names.nodes) (length names.registers)) (arguments_at names (kinds_of verb) (place + 1) words) _
       (arguments_within (kinds_of verb) (place + 1) words)
       (λ arguments h. or_wrong (IsOver (length names.nodes) (length names.registers)) (IsOver (length names.nodes) (length names.registers)) (order_by verb arguments) _ _
-      (order_over (length names.nodes) (length names.registers) arguments h verb) (λ o over. over)))
+      (order_over (length names.nodes) (length names.registers) verb arguments h) (λ o over. over)))
       tt
 
   of_over : (place : ℕ) (word : Text) (words : List Text)
