@@ -1,13 +1,16 @@
 -- The entry in an object: an event with its outcome.
-use Rattle.std.specs.Prelude.{◌||◌, ℕ, Bool, Option, Some, None, Result, Ok, Err, codes, if◌then◌else◌}
+use Rattle.std.specs.Prelude.{◌||◌, List, [], ◌∷◌, Bool, Option, Some, None, Result, Ok, Err, codes, if◌then◌else◌}
 use Rattle.std.specs.Option.{ok_or, option_map_or}
 use Rattle.serde_json.specs.Data.{Data}
 use Rattle.mx_plan.specs.Fields.{Fields, node_of, register_of}
+use Rattle.mx_events.specs.Arguments.{arguments_of, event_of}
 use Rattle.mx_events.specs.Words.{kind_named}
+use Rattle.mx_events.specs.declared.argument.Argument.{Argument}
+use Rattle.mx_events.specs.declared.argument.Argument.TheVariants as argument
+use Rattle.mx_events.specs.declared.argument.ArgumentKind.{ArgumentKind}
+use Rattle.mx_events.specs.declared.argument.ArgumentKind.TheVariants.{Node, Register, Value, Section, Parcel}
 use Rattle.mx_events.specs.declared.event.Event.{Event}
-use Rattle.mx_events.specs.declared.event.Event.TheVariants.{Ask, Enter, Read, Write, Leave, Cancel, Settle, Tick, Want, Deliver, Restart}
 use Rattle.mx_events.specs.declared.kind.EventKind.{EventKind}
-use Rattle.mx_events.specs.declared.kind.EventKind.TheVariants as kind
 use Rattle.mx_trace.specs.declared.outcome.Entry.{Entry}
 use Rattle.mx_judge.specs.Members.{and_then, has_member, number_at, text_at}
 use Rattle.mx_judge.specs.Outcomes.{outcome_of}
@@ -16,51 +19,46 @@ use Rattle.mx_judge.specs.declared.members.Member.TheVariants as member
 use Rattle.mx_judge.specs.declared.faults.ItemFault.{ItemFault}
 use Rattle.mx_judge.specs.declared.faults.ItemFault.TheVariants.{NotEvent, Wrong}
 
-abbrev pub delivery : Data → Result Event ItemFault
-delivery d = and_then (number_at member.Parcel d) (λ k. Ok (Deliver k))
-
 -- the object is that of a parcel, a node or a verdict; it is passed over if it has no `act`
 abbrev pub is_passed_over : Data → Bool
 is_passed_over d =
     has_member (codes "kind") d || has_member (codes "phase") d || has_member (codes "verdict") d
 
+abbrev pub event_by : EventKind → List Argument → Result Event ItemFault
+event_by kind arguments = ok_or (event_of kind arguments) (Wrong member.Act)
+
 module _ (p : Fields) (d : Data) where
-  -- the node that a member names, and (below) the register that `register` names
-  abbrev pub node_at : Member → Result ℕ ItemFault
-  node_at m = ok_or (node_of p (text_at m d)) (Wrong m)
+  abbrev pub number_in : Member → Result Argument ItemFault
+  number_in m = and_then (number_at m d) (λ number. Ok (argument.Number number))
 
-  abbrev pub register_at : Result ℕ ItemFault
-  register_at = ok_or (register_of p (text_at member.Register d)) (Wrong member.Register)
+  -- the argument of this kind; m is the member of a node
+  abbrev pub argument_at : Member → ArgumentKind → Result Argument ItemFault
+  argument_at m Node =
+      option_map_or (λ node. Ok (argument.Node node)) (node_of p (text_at m d)) (Err (Wrong m))
+  argument_at m Register =
+      option_map_or (λ register. Ok (argument.Register register))
+      (register_of p (text_at member.Register d)) (Err (Wrong member.Register))
+  argument_at m Value = number_in member.Value
+  argument_at m Section = number_in member.Upto
+  argument_at m Parcel = number_in member.Parcel
 
-  abbrev pub writing : ℕ → Result Event ItemFault
-  writing i =
-      and_then register_at
-      (λ register. and_then (number_at member.Value d) (λ value. Ok (Write i register value)))
+  -- the arguments of these kinds, or the fault of the first wrong member. A node is that of m if it
+  -- is the first argument, and else that of `from`
+  abbrev pub arguments_at : Member → List ArgumentKind → Result (List Argument) ItemFault
+  arguments_at m [] = Ok []
+  arguments_at m (kind ∷ kinds) =
+      and_then (argument_at m kind)
+      (λ a. and_then (arguments_at member.From kinds) (λ others. Ok (a ∷ others)))
 
-  abbrev pub event_at : ℕ → EventKind → Result Event ItemFault
-  event_at i kind.Ask = Ok (Ask i)
-  event_at i kind.Enter = Ok (Enter i)
-  event_at i kind.Read = and_then register_at (λ register. Ok (Read i register))
-  event_at i kind.Write = writing i
-  event_at i kind.Leave = Ok (Leave i)
-  event_at i kind.Cancel = Ok (Cancel i)
-  event_at i kind.Settle = and_then (number_at member.Upto d) (λ upto. Ok (Settle i upto))
-  event_at i kind.Tick = Ok (Tick i)
-  event_at i kind.Want = and_then (node_at member.From) (λ other. Ok (Want i other))
-  event_at i kind.Deliver = delivery d
-  event_at i kind.Restart = Ok (Restart i)
+  abbrev pub event_at : EventKind → Result Event ItemFault
+  event_at kind = and_then (arguments_at member.Node (arguments_of kind)) (event_by kind)
 
-  -- the event of this kind. A delivery names no node; each other event does
-  abbrev pub event_by : EventKind → Result Event ItemFault
-  event_by kind.Deliver = delivery d
-  event_by kind = and_then (node_at member.Node) (λ i. event_at i kind)
-
-  abbrev pub event_of : Result Event ItemFault
-  event_of = option_map_or event_by (kind_named (text_at member.Act d)) (Err (Wrong member.Act))
+  abbrev pub event_in : Result Event ItemFault
+  event_in = option_map_or event_at (kind_named (text_at member.Act d)) (Err (Wrong member.Act))
 
   abbrev pub entry_of : Result Entry ItemFault
   entry_of =
-      and_then event_of
+      and_then event_in
       (λ e. and_then (outcome_of e d) (λ outcome. Ok (record { event = e; outcome = outcome })))
 
   -- the entry of an object that has `act`; none, of an object that is passed over; or a fault

@@ -7,9 +7,8 @@ ghost use Rattle.mx_judge.specs.Entries as spec;
 use crate::faults::ItemFault;
 use crate::members::{Member, has_member, number_at, text_at};
 use crate::outcome_reader::outcome_in;
-use mx_events::{Event, EventKind};
+use mx_events::{Argument, ArgumentKind, Event, EventKind};
 use mx_plan::Plan;
-use mx_stamps::NodeId;
 use mx_trace::Entry;
 use serde_json::Value;
 
@@ -41,61 +40,58 @@ fn entry_in(plan: &Plan, value: &Value) -> Result<Entry, ItemFault>
 }
 
 fn event_in(plan: &Plan, value: &Value) -> Result<Event, ItemFault>
-    ensures { result ≡ spec.event_of plan.now (view value.now) }
+    ensures { result ≡ spec.event_in plan.now (view value.now) }
 {
     match EventKind::of_word(text_at(value, Member::Act)) {
-        Some(EventKind::Deliver) => delivery(value),
-        Some(kind) => event_at(plan, value, node_at(plan, value, Member::Node)?, kind),
+        Some(kind) => event_at(plan, value, kind),
         None => Err(ItemFault::Wrong(Member::Act)),
     }
 }
 
-fn event_at(plan: &Plan, value: &Value, node: NodeId, kind: EventKind) -> Result<Event, ItemFault>
-    ensures { result ≡ spec.event_at plan.now (view value.now) node kind }
+fn event_at(plan: &Plan, value: &Value, kind: EventKind) -> Result<Event, ItemFault>
+    ensures { result ≡ spec.event_at plan.now (view value.now) kind }
+{
+    match kind.arguments() {
+        [a] => event_of(kind, &[argument_at(plan, value, Member::Node, *a)?]),
+        [a, b] => {
+            let a = argument_at(plan, value, Member::Node, *a)?;
+            event_of(kind, &[a, argument_at(plan, value, Member::From, *b)?])
+        }
+        [a, b, c] => {
+            let a = argument_at(plan, value, Member::Node, *a)?;
+            let b = argument_at(plan, value, Member::From, *b)?;
+            event_of(kind, &[a, b, argument_at(plan, value, Member::From, *c)?])
+        }
+        _ => event_of(kind, &[]),
+    }
+}
+
+fn event_of(kind: EventKind, arguments: &[Argument]) -> Result<Event, ItemFault>
+    ensures { result ≡ spec.event_by kind arguments.now }
+{
+    Event::of(kind, arguments).ok_or(ItemFault::Wrong(Member::Act))
+}
+
+/// Returns the argument of a kind; `node` is the member of a node.
+fn argument_at(
+    plan: &Plan,
+    value: &Value,
+    node: Member,
+    kind: ArgumentKind,
+) -> Result<Argument, ItemFault>
+    ensures { result ≡ spec.argument_at plan.now (view value.now) node kind }
 {
     match kind {
-        EventKind::Ask => Ok(Event::Ask(node)),
-        EventKind::Enter => Ok(Event::Enter(node)),
-        EventKind::Read => Ok(Event::Read(node, register_at(plan, value)?)),
-        EventKind::Write => writing(plan, value, node),
-        EventKind::Leave => Ok(Event::Leave(node)),
-        EventKind::Cancel => Ok(Event::Cancel(node)),
-        EventKind::Settle => Ok(Event::Settle(node, number_at(value, Member::Upto)?)),
-        EventKind::Tick => Ok(Event::Tick(node)),
-        EventKind::Want => Ok(Event::Want(node, node_at(plan, value, Member::From)?)),
-        EventKind::Deliver => delivery(value),
-        EventKind::Restart => Ok(Event::Restart(node)),
-    }
-}
-
-fn writing(plan: &Plan, value: &Value, node: NodeId) -> Result<Event, ItemFault>
-    ensures { result ≡ spec.writing plan.now (view value.now) node }
-{
-    let register = register_at(plan, value)?;
-    let number = number_at(value, Member::Value)?;
-    Ok(Event::Write(node, register, number))
-}
-
-fn delivery(value: &Value) -> Result<Event, ItemFault>
-    ensures { result ≡ spec.delivery (view value.now) }
-{
-    Ok(Event::Deliver(number_at(value, Member::Parcel)?))
-}
-
-fn node_at(plan: &Plan, value: &Value, member: Member) -> Result<NodeId, ItemFault>
-    ensures { result ≡ spec.node_at plan.now (view value.now) member }
-{
-    match plan.node(text_at(value, member)) {
-        Some(node) => Ok(node),
-        None => Err(ItemFault::Wrong(member)),
-    }
-}
-
-fn register_at(plan: &Plan, value: &Value) -> Result<u8, ItemFault>
-    ensures { result ≡ spec.register_at plan.now (view value.now) }
-{
-    match plan.register(text_at(value, Member::Register)) {
-        Some(register) => Ok(register),
-        None => Err(ItemFault::Wrong(Member::Register)),
+        ArgumentKind::Node => match plan.node(text_at(value, node)) {
+            Some(node) => Ok(Argument::Node(node)),
+            None => Err(ItemFault::Wrong(node)),
+        },
+        ArgumentKind::Register => match plan.register(text_at(value, Member::Register)) {
+            Some(register) => Ok(Argument::Register(register)),
+            None => Err(ItemFault::Wrong(Member::Register)),
+        },
+        ArgumentKind::Value => Ok(Argument::Number(number_at(value, Member::Value)?)),
+        ArgumentKind::Section => Ok(Argument::Number(number_at(value, Member::Upto)?)),
+        ArgumentKind::Parcel => Ok(Argument::Number(number_at(value, Member::Parcel)?)),
     }
 }

@@ -73,8 +73,8 @@ pub(crate) fn text_at(value: &Value, member: Member) -> &str
 pub(crate) fn number_at(value: &Value, member: Member) -> Result<u64, ItemFault>
     ensures { result ≡ spec.number_at member (view value.now) }
 {
-    match value.get(member.key()).and_then(Value::as_u64) {
-        Some(number) => Ok(number),
-        None => Err(ItemFault::Wrong(member)),
-    }
+    value
+        .get(member.key())
+        .and_then(Value::as_u64)
+        .ok_or(ItemFault::Wrong(member))
 }
