@@ -1,5 +1,5 @@
 -- The text of an event in a file: its tokens, as a reader of JSON finds them.
-use Rattle.std.proofs.Common.{◌≡◌, ◌≢◌, ◌∙◌, ◌⊎◌, ◌&&◌, ◌==◌, ◌<◌, ◌≤◌, ◌^◌, ℕ, Bool, true, false, List, [], ◌∷◌, ◌++◌, Option, refl, sym, ap, ap₂, subst, arith, append_assoc, decimal, inl, inr, IsUtf8, nat_le}
+use Rattle.std.proofs.Common.{◌≡◌, ◌≢◌, ◌∙◌, ◌⊎◌, ◌&&◌, ◌==◌, ◌<◌, ◌≤◌, ◌^◌, ℕ, Bool, true, false, List, [], ◌∷◌, ◌++◌, Option, refl, sym, ap, ap₂, subst, arith, append_assoc, decimal, inl, inr, IsUtf8, map, nat_le}
 use Rattle.std.specs.List.{list_all}
 use Rattle.std.proofs.lemmas.Bool.{and_parts, lt-ltb, or_cases}
 use Rattle.std.proofs.lemmas.Bool.Decides.{nat_tests}
@@ -16,15 +16,18 @@ use Rattle.json.proofs.Printed.Strings.{content-escape, escape_byte_plain, lex-e
 use Rattle.json.proofs.Printed.Numbers.{lex-number}
 use Rattle.json.proofs.Printed.Decimals.{IsNumber-decimal}
 use Rattle.json.proofs.Printed.Utf8.{IsUtf8-are_ascii}
+use Rattle.mx_events.specs.declared.argument.Argument.{Argument}
+use Rattle.mx_events.specs.declared.argument.Argument.TheVariants as argument
 use Rattle.mx_events.specs.declared.event.Event.{Event}
 use Rattle.mx_events.specs.declared.event.Event.TheVariants.{Ask, Enter, Read, Write, Leave, Cancel, Tick, Want, Settle, Restart, Deliver}
-use Rattle.mx_events.specs.declared.kind.EventKind.TheVariants as kind
+use Rattle.mx_events.specs.Arguments.{given}
 use Rattle.mx_events.specs.Events.{kind_of}
 use Rattle.mx_events.specs.Words.{word_of}
 use Rattle.mx_plan.specs.Text.{Text, is_name_byte}
 use Rattle.mx_plan.specs.Fields.{Fields}
 use Rattle.mx_format.specs.EventTexts.{name_of, register_name_of}
-use Rattle.mx_scripts.specs.Files.{quoted, item_text}
+use Rattle.mx_format.specs.Lines.{each_text}
+use Rattle.mx_scripts.specs.Files.{item_text, quoted, value_text}
 
 -- ---- a word
 
@@ -92,18 +95,13 @@ AreParts (t ∷ ts) = IsPart t × AreParts ts
 abbrev pub event_word : Event → Text
 event_word e = word_of (kind_of e)
 
+abbrev part : Fields → Argument → Part
+part p (argument.Node node) = name (name_of p node)
+part p (argument.Register register) = name (register_name_of p register)
+part p (argument.Number n) = count n
+
 abbrev pub parts_of : Fields → Event → List Part
-parts_of p (Ask node) = name (name_of p node) ∷ []
-parts_of p (Enter node) = name (name_of p node) ∷ []
-parts_of p (Read node register) = name (name_of p node) ∷ name (register_name_of p register) ∷ []
-parts_of p (Write node register value) = name (name_of p node) ∷ name (register_name_of p register) ∷ count value ∷ []
-parts_of p (Leave node) = name (name_of p node) ∷ []
-parts_of p (Cancel node) = name (name_of p node) ∷ []
-parts_of p (Tick node) = name (name_of p node) ∷ []
-parts_of p (Want node other) = name (name_of p node) ∷ name (name_of p other) ∷ []
-parts_of p (Settle node upto) = name (name_of p node) ∷ count upto ∷ []
-parts_of p (Restart node) = name (name_of p node) ∷ []
-parts_of p (Deliver k) = count k ∷ []
+parts_of p e = map (part p) (given e)
 
 -- ---- the text of an event
 
@@ -119,35 +117,21 @@ rest_text (t ∷ ts) = 44 ∷ (part_text t ++ rest_text ts)
 abbrev whole_text : Text → List Part → Text
 whole_text w ts = 91 ∷ (quoted w ++ rest_text ts)
 
-one_part : (w a : Text) → 91 ∷ ((w ++ 44 ∷ a) ++ 93 ∷ []) ≡ 91 ∷ (w ++ 44 ∷ (a ++ 93 ∷ []))
-one_part w a = simp append_assoc
+part_is : (p : Fields) (a : Argument) → value_text p a ≡ part_text (part p a)
+part_is p (argument.Node node) = refl
+part_is p (argument.Register register) = refl
+part_is p (argument.Number n) = refl
 
-two_parts : (w a b r : Text) → (((w ++ 44 ∷ a) ++ 44 ∷ []) ++ b) ++ r ≡ w ++ 44 ∷ (a ++ 44 ∷ (b ++ r))
-two_parts w a b r =
-    append_assoc ((w ++ 44 ∷ a) ++ 44 ∷ []) b r ∙ append_assoc (w ++ 44 ∷ a) (44 ∷ []) (b ++ r) ∙ append_assoc w (44 ∷ a) (44 ∷ (b ++ r))
-
-two_whole : (w a b : Text) → 91 ∷ ((((w ++ 44 ∷ a) ++ 44 ∷ []) ++ b) ++ 93 ∷ []) ≡ 91 ∷ (w ++ 44 ∷ (a ++ 44 ∷ (b ++ 93 ∷ [])))
-two_whole w a b = ap (λ (s : Text). 91 ∷ s) (two_parts w a b (93 ∷ []))
-
-three_whole : (w a b c : Text)
-    → 91 ∷ ((((((w ++ 44 ∷ a) ++ 44 ∷ []) ++ b) ++ 44 ∷ []) ++ c) ++ 93 ∷ []) ≡ 91 ∷ (w ++ 44 ∷ (a ++ 44 ∷ (b ++ 44 ∷ (c ++ 93 ∷ []))))
-three_whole w a b c =
-    let two : Text = ((w ++ 44 ∷ a) ++ 44 ∷ []) ++ b in
-    ap (λ (s : Text). 91 ∷ s)
-    (ap (λ (s : Text). s ++ 93 ∷ []) (append_assoc two (44 ∷ []) c) ∙ append_assoc two (44 ∷ c) (93 ∷ []) ∙ two_parts w a b (44 ∷ (c ++ 93 ∷ [])))
+rest_is : (p : Fields) (args : List Argument) → each_text (λ a. 44 ∷ value_text p a) args ++ 93 ∷ [] ≡ rest_text (map (part p) args)
+rest_is p [] = refl
+rest_is p (a ∷ args) =
+    ap (λ (t : Text). 44 ∷ t) (append_assoc (value_text p a) (each_text (λ b. 44 ∷ value_text p b) args) (93 ∷ [])
+    ∙ ap₂ (λ (s t : Text). s ++ t) (part_is p a) (rest_is p args))
 
 item_is : (p : Fields) (e : Event) → item_text p e ≡ whole_text (event_word e) (parts_of p e)
-item_is p (Ask node) = one_part (quoted (word_of kind.Ask)) (quoted (name_of p node))
-item_is p (Enter node) = one_part (quoted (word_of kind.Enter)) (quoted (name_of p node))
-item_is p (Read node register) = two_whole (quoted (word_of kind.Read)) (quoted (name_of p node)) (quoted (register_name_of p register))
-item_is p (Write node register value) = three_whole (quoted (word_of kind.Write)) (quoted (name_of p node)) (quoted (register_name_of p register)) (decimal value)
-item_is p (Leave node) = one_part (quoted (word_of kind.Leave)) (quoted (name_of p node))
-item_is p (Cancel node) = one_part (quoted (word_of kind.Cancel)) (quoted (name_of p node))
-item_is p (Tick node) = one_part (quoted (word_of kind.Tick)) (quoted (name_of p node))
-item_is p (Want node other) = two_whole (quoted (word_of kind.Want)) (quoted (name_of p node)) (quoted (name_of p other))
-item_is p (Settle node upto) = two_whole (quoted (word_of kind.Settle)) (quoted (name_of p node)) (decimal upto)
-item_is p (Restart node) = one_part (quoted (word_of kind.Restart)) (quoted (name_of p node))
-item_is p (Deliver k) = one_part (quoted (word_of kind.Deliver)) (decimal k)
+item_is p e =
+    let w = quoted (event_word e) in
+    ap (λ (t : Text). 91 ∷ t) (append_assoc w (each_text (λ a. 44 ∷ value_text p a) (given e)) (93 ∷ []) ∙ ap (λ (t : Text). w ++ t) (rest_is p (given e)))
 
 -- ---- its tokens
 

@@ -1,8 +1,10 @@
 -- Files of events: a list in JSON, with one event a line.
 use Rattle.std.specs.Prelude.{List, [], ◌∷◌, ◌++◌, codes, decimal}
+use Rattle.mx_events.specs.declared.argument.Argument.{Argument}
+use Rattle.mx_events.specs.declared.argument.Argument.TheVariants.{Node, Register, Number}
 use Rattle.mx_events.specs.declared.event.Event.{Event}
-use Rattle.mx_events.specs.declared.event.Event.TheVariants.{Ask, Enter, Read, Write, Leave, Cancel, Tick, Want, Settle, Restart, Deliver}
-use Rattle.mx_events.specs.declared.kind.EventKind.TheVariants as kind
+use Rattle.mx_events.specs.Arguments.{given}
+use Rattle.mx_events.specs.Events.{kind_of}
 use Rattle.mx_events.specs.Words.{word_of}
 use Rattle.mx_plan.specs.Text.{Text, line_feed}
 use Rattle.mx_plan.specs.Fields.{Fields}
@@ -12,33 +14,17 @@ use Rattle.mx_format.specs.Lines.{each_text}
 abbrev pub quoted : Text → Text
 quoted word = codes "\"" ++ word ++ codes "\""
 
--- the word of an event and a node's name
-abbrev pub of_node : Text → Text → Text
-of_node word name = quoted word ++ codes "," ++ quoted name
+-- an argument as a value of JSON: a name in quotes, or a number
+abbrev pub value_text : Fields → Argument → Text
+value_text p (Node node) = quoted (name_of p node)
+value_text p (Register register) = quoted (register_name_of p register)
+value_text p (Number number) = decimal number
 
--- what is between the brackets of an event
-abbrev pub items_text : Fields → Event → Text
-items_text p (Ask node) = of_node (word_of kind.Ask) (name_of p node)
-items_text p (Enter node) = of_node (word_of kind.Enter) (name_of p node)
-items_text p (Read node register) =
-    of_node (word_of kind.Read) (name_of p node) ++ codes ","
-    ++ quoted (register_name_of p register)
-items_text p (Write node register value) =
-    of_node (word_of kind.Write) (name_of p node)
-    ++ codes "," ++ quoted (register_name_of p register) ++ codes "," ++ decimal value
-items_text p (Leave node) = of_node (word_of kind.Leave) (name_of p node)
-items_text p (Cancel node) = of_node (word_of kind.Cancel) (name_of p node)
-items_text p (Tick node) = of_node (word_of kind.Tick) (name_of p node)
-items_text p (Want node other) =
-    of_node (word_of kind.Want) (name_of p node) ++ codes "," ++ quoted (name_of p other)
-items_text p (Settle node upto) =
-    of_node (word_of kind.Settle) (name_of p node) ++ codes "," ++ decimal upto
-items_text p (Restart node) = of_node (word_of kind.Restart) (name_of p node)
-items_text p (Deliver k) = quoted (word_of kind.Deliver) ++ codes "," ++ decimal k
-
--- an event, as an array of JSON
+-- an event, as an array of JSON: its word, and then its arguments
 abbrev pub item_text : Fields → Event → Text
-item_text p event = codes "[" ++ items_text p event ++ codes "]"
+item_text p event =
+    codes "[" ++ quoted (word_of (kind_of event))
+    ++ each_text (λ a. codes "," ++ value_text p a) (given event) ++ codes "]"
 
 -- an event after the first: a comma, and then the event on the next line
 abbrev pub next_text : Fields → Event → Text

@@ -5,9 +5,10 @@ ghost use Rattle.mx_plan.specs.Events.{events_at};
 ghost use Rattle.mx_plan.specs.Fields.{IsPlan};
 ghost use Rattle.mx_format.specs.EventTexts.{name_of, register_name_of};
 ghost use Rattle.mx_format.specs.Lines.{each_text};
-ghost use Rattle.mx_scripts.specs.Files.{file_text, item_text, next_text, quoted};
+ghost use Rattle.mx_scripts.specs.Files.{file_text, item_text, next_text, quoted, value_text};
 ghost use Rattle.mx_scripts.specs.Played.{events_of, AreReadable};
 
+use mx_events::Argument;
 use mx_format::{name_of, register_name_of};
 use mx_network::{Entry, Event};
 use mx_plan::Plan;
@@ -26,6 +27,22 @@ impl fmt::Display for Quoted<'_> {
     }
 }
 
+/// An argument as a value of JSON: a name in quotes, or a number.
+#[derive(Clone, Copy)]
+struct Value<'a>(&'a Plan, &'a Argument);
+
+impl fmt::Display for Value<'_> {
+    ghost output = { λ v. Some (value_text v.0.now v.1.now) };
+
+    fn fmt<W: fmt::Write>(&self, f: &mut fmt::Formatter<W>) -> fmt::Result {
+        match self.1 {
+            Argument::Node(node) => Quoted(name_of(self.0, *node)).fmt(f),
+            Argument::Register(register) => Quoted(register_name_of(self.0, *register)).fmt(f),
+            Argument::Number(number) => write!(f, "{number}"),
+        }
+    }
+}
+
 /// An event, as an array of JSON.
 #[derive(Clone, Copy)]
 struct ItemText<'a> {
@@ -37,37 +54,17 @@ impl fmt::Display for ItemText<'_> {
     ghost output = { λ e. Some (item_text e.plan.now e.event.now) };
 
     fn fmt<W: fmt::Write>(&self, f: &mut fmt::Formatter<W>) -> fmt::Result {
+        let plan = self.plan;
         let word = Quoted(self.event.kind().word());
-        match self.event {
-            Event::Ask(node)
-            | Event::Enter(node)
-            | Event::Leave(node)
-            | Event::Cancel(node)
-            | Event::Tick(node)
-            | Event::Restart(node) => {
-                let name = Quoted(name_of(self.plan, *node));
-                write!(f, "[{word},{name}]")
+        let arguments = self.event.arguments();
+        match arguments.as_slice() {
+            [a] => write!(f, "[{word},{}]", Value(plan, a)),
+            [a, b] => write!(f, "[{word},{},{}]", Value(plan, a), Value(plan, b)),
+            [a, b, c] => {
+                let (a, b, c) = (Value(plan, a), Value(plan, b), Value(plan, c));
+                write!(f, "[{word},{a},{b},{c}]")
             }
-            Event::Read(node, register) => {
-                let name = Quoted(name_of(self.plan, *node));
-                let register = Quoted(register_name_of(self.plan, *register));
-                write!(f, "[{word},{name},{register}]")
-            }
-            Event::Write(node, register, value) => {
-                let name = Quoted(name_of(self.plan, *node));
-                let register = Quoted(register_name_of(self.plan, *register));
-                write!(f, "[{word},{name},{register},{value}]")
-            }
-            Event::Want(node, other) => {
-                let name = Quoted(name_of(self.plan, *node));
-                let other = Quoted(name_of(self.plan, *other));
-                write!(f, "[{word},{name},{other}]")
-            }
-            Event::Settle(node, upto) => {
-                let name = Quoted(name_of(self.plan, *node));
-                write!(f, "[{word},{name},{upto}]")
-            }
-            Event::Deliver(number) => write!(f, "[{word},{number}]"),
+            _ => write!(f, "[{word}]"),
         }
     }
 }
