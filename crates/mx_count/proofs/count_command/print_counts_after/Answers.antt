@@ -1,4 +1,4 @@
-use Rattle.std.proofs.Common.{◌≡◌, ◌∙◌, ◌++◌, Err, ap, inl, length}
+use Rattle.std.proofs.Common.{◌≡◌, ◌∙◌, ◌++◌, Err, ap, arith, inl, length}
 use Rattle.mx_format.specs.Parts.{word_by}
 use Rattle.mx_cli.specs.Printing.{sight, whole}
 use Rattle.mx_cli.proofs.FrameLemmas.{whole_prints}
@@ -7,6 +7,12 @@ use Rattle.mx_count.specs.Counted.{counts_text}
 use Rattle.mx_count.specs.Printed.{IsCountFrom}
 use Rattle.mx_count.proofs.PrintedLemmas.{count_stops}
 use Rattle.mx_count.proofs.count_command.print_counts_after.Goals as goal
+
+pub add_counts-requires : goal.add_counts-requires
+add_counts-requires g c = omega arith
+
+pub apply_events-requires : goal.apply_events-requires
+apply_events-requires g c = omega arith
 
 pub returns-in_err-apply_events : goal.returns-in_err-apply_events
 returns-in_err-apply_events g c =

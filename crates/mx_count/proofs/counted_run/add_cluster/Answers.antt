@@ -1,10 +1,25 @@
-use Rattle.std.proofs.Common.{◌∙◌, List, ap, string_bytes}
+use Rattle.std.proofs.Common.{◌∙◌, List, ap, arith, string_bytes}
 use Rattle.std.specs.List.{count_by}
 use Rattle.mx_trace.specs.declared.outcome.Entry.{Entry}
 use Rattle.mx_format.specs.Parts.{word_by}
 use Rattle.mx_commands.specs.Explored.{is_entry}
 use Rattle.mx_count.proofs.CountedLemmas.{cluster_is}
 use Rattle.mx_count.proofs.counted_run.add_cluster.Goals as goal
+
+pub add_counts_end-requires : goal.add_counts_end-requires
+add_counts_end-requires g c = omega arith
+
+pub add_details-requires : goal.add_details-requires
+add_details-requires g c = omega arith
+
+pub add_first-requires : goal.add_first-requires
+add_first-requires g c = omega arith
+
+pub sent-requires : goal.sent-requires
+sent-requires g c = omega arith
+
+pub trace-requires : goal.trace-requires
+trace-requires g c = omega arith
 
 pub returns : goal.returns
 returns g c =

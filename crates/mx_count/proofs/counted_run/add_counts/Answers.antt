@@ -1,9 +1,24 @@
-use Rattle.std.proofs.Common.{◌∙◌, ap, string_bytes}
+use Rattle.std.proofs.Common.{◌∙◌, ap, arith, string_bytes}
 use Rattle.mx_format.specs.Parts.{word_by}
 use Rattle.mx_commands.specs.VerdictLines.{verdict_status}
 use Rattle.mx_count.specs.Counted.{all_nodes_text, cluster_text}
 use Rattle.mx_count.proofs.CountedLemmas.{with_counts}
 use Rattle.mx_count.proofs.counted_run.add_counts.Goals as goal
+
+pub add_cluster-requires : goal.add_cluster-requires
+add_cluster-requires g c = omega arith
+
+pub add_nodes-requires : goal.add_nodes-requires
+add_nodes-requires g c = omega arith
+
+pub add_verdict-requires : goal.add_verdict-requires
+add_verdict-requires g c = omega arith
+
+pub trace-requires : goal.trace-requires
+trace-requires g c = omega arith
+
+pub verdict_status-requires : goal.verdict_status-requires
+verdict_status-requires g c = omega arith
 
 pub returns-clause-zero : goal.returns-clause-zero
 returns-clause-zero g c = c.verdict_status.ensures ∙ ap verdict_status (c.judge-verdict.ensures.serial c.trace.ensures.serial)

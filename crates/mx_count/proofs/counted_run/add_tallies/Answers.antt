@@ -1,7 +1,19 @@
-use Rattle.std.proofs.Common.{string_bytes}
+use Rattle.std.proofs.Common.{arith, string_bytes}
 use Rattle.mx_format.specs.Parts.{word_by}
 use Rattle.mx_count.proofs.CountedLemmas.{tallied_is}
 use Rattle.mx_count.proofs.counted_run.add_tallies.Goals as goal
+
+pub add_parcel_counts-requires : goal.add_parcel_counts-requires
+add_parcel_counts-requires g c = omega arith
+
+pub add_refusal_counts-requires : goal.add_refusal_counts-requires
+add_refusal_counts-requires g c = omega arith
+
+pub add_share-requires : goal.add_share-requires
+add_share-requires g c = omega arith
+
+pub add_times-requires : goal.add_times-requires
+add_times-requires g c = omega arith
 
 pub returns : goal.returns
 returns g c =

@@ -1,6 +1,18 @@
-use Rattle.std.proofs.Common.{sym}
+use Rattle.std.proofs.Common.{arith, sym}
 use Rattle.mx_count.proofs.PrintedLemmas.{run_stops}
 use Rattle.mx_count.proofs.counted_run.apply_events.Goals as goal
+
+pub happen-requires : goal.happen-requires
+happen-requires g c = omega arith
+
+pub make_room-requires : goal.make_room-requires
+make_room-requires g c = omega arith
+
+pub run-requires : goal.run-requires
+run-requires g c = omega arith
+
+pub stop_at-requires : goal.stop_at-requires
+stop_at-requires g c = omega arith
 
 pub returns-in-Err-clause-err : goal.returns-in-Err-clause-err
 returns-in-Err-clause-err g c =

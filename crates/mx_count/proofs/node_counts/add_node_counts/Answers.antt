@@ -4,6 +4,9 @@ use Rattle.mx_format.proofs.NodeLemmas.{is_at}
 use Rattle.mx_count.specs.NodeCounts.{node_text}
 use Rattle.mx_count.proofs.node_counts.add_node_counts.Goals as goal
 
+pub add_node-requires : goal.add_node-requires
+add_node-requires g c = omega arith
+
 pub loop-i-preserved : goal.loop-i-preserved
 loop-i-preserved g c =
     let nodes = c.args.plan.now.nodes in

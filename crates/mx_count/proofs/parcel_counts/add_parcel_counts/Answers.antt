@@ -1,9 +1,30 @@
-use Rattle.std.proofs.Common.{map, string_bytes}
+use Rattle.std.proofs.Common.{arith, map, string_bytes}
 use Rattle.std.specs.Borrow.{Bor}
 use Rattle.mx_plan.specs.Text.{Text}
 use Rattle.mx_format.specs.Parts.{word_by}
 use Rattle.mx_count.proofs.CountedLemmas.{named_is}
 use Rattle.mx_count.proofs.parcel_counts.add_parcel_counts.Goals as goal
+
+pub add_counts_under-requires : goal.add_counts_under-requires
+add_counts_under-requires g c = omega arith
+
+pub add_counts_under-requires-2 : goal.add_counts_under-requires-2
+add_counts_under-requires-2 g c = omega arith
+
+pub add_counts_under-requires-3 : goal.add_counts_under-requires-3
+add_counts_under-requires-3 g c = omega arith
+
+pub add_counts_under-requires-4 : goal.add_counts_under-requires-4
+add_counts_under-requires-4 g c = omega arith
+
+pub gossip_names-requires : goal.gossip_names-requires
+gossip_names-requires g c = omega arith
+
+pub letter_names-requires : goal.letter_names-requires
+letter_names-requires g c = omega arith
+
+pub other_names-requires : goal.other_names-requires
+other_names-requires g c = omega arith
 
 pub returns : goal.returns
 returns g c =

@@ -1,8 +1,11 @@
-use Rattle.std.proofs.Common.{◌∙◌, sym}
+use Rattle.std.proofs.Common.{◌∙◌, arith, sym}
 use Rattle.std.proofs.lemmas.Result.{IfErr-weaker, IfOk-weaker}
 use Rattle.mx_plan.specs.declared.shape.Shape.TheVariants as planned
 use Rattle.mx_live.proofs.SectionLemmas.{come_by, none_by}
 use Rattle.mx_live.proofs.node_runs.live_by_shape.Goals as goal
+
+pub shape-requires : goal.shape-requires
+shape-requires g c = omega arith
 
 pub returns-in_ok-stations-in-Ricart : goal.returns-in_ok-stations-in-Ricart
 returns-in_ok-stations-in-Ricart g c =

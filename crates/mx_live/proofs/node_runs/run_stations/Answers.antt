@@ -5,6 +5,12 @@ use Rattle.mx_live.specs.Workers.{AreLeft}
 use Rattle.mx_live.proofs.WorkerLemmas.{left_by}
 use Rattle.mx_live.proofs.node_runs.run_stations.Goals as goal
 
+pub nodes-requires : goal.nodes-requires
+nodes-requires g c = omega arith
+
+pub orders_of-requires : goal.orders_of-requires
+orders_of-requires g c = omega arith
+
 pub start_all-requires-send-C : goal.start_all-requires-send-C
 start_all-requires-send-C g c κs within = record { owned = c.type_bounds.send-C.owned; leaving = c.type_bounds.send-C.leaving }
 

@@ -1,6 +1,9 @@
-use Rattle.std.proofs.Common.{rules}
+use Rattle.std.proofs.Common.{arith, rules}
 use Rattle.mx_live.proofs.StationLemmas.{from_none}
 use Rattle.mx_live.proofs.threads.start_all.Goals as goal
+
+pub new-requires : goal.new-requires
+new-requires g c = omega arith
 
 pub returns-in-Ok : goal.returns-in-Ok
 returns-in-Ok g c = from_none _ _ _ _ (search rules) c.in-Ok.ensures

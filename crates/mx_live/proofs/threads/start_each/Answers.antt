@@ -1,7 +1,10 @@
-use Rattle.std.proofs.Common.{rules}
+use Rattle.std.proofs.Common.{arith, rules}
 use Rattle.std.proofs.lemmas.List.{nil_from_length}
 use Rattle.mx_live.proofs.StationLemmas.{begun, ended, moved}
 use Rattle.mx_live.proofs.threads.start_each.Goals as goal
+
+pub next-requires : goal.next-requires
+next-requires g c = omega arith
 
 pub loop-station-init : goal.loop-station-init
 loop-station-init g c = begun _ _ _ _ c.into_iter-station-iterator.ensures.into_iter_gives.0
