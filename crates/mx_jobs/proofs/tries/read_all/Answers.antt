@@ -1,9 +1,12 @@
-use Rattle.std.proofs.Common.{refl, ap, length}
+use Rattle.std.proofs.Common.{arith, refl, ap, length}
 use Rattle.std.proofs.lemmas.List.{take_all}
 use Rattle.mx_member.specs.declared.acts.Act.TheVariants.{Read}
 use Rattle.mx_jobs.proofs.Members.{all_read, drafts_here, nothing_read, read_drafts, read_on, read_there}
 use Rattle.mx_jobs.proofs.Rounding.{acted_on, no_act, one_act}
 use Rattle.mx_jobs.proofs.tries.read_all.Goals as goal
+
+pub push-requires : goal.push-requires
+push-requires g c = omega arith
 
 pub loop-register-init : goal.loop-register-init
 loop-register-init g c = (drafts_here g.C.Exclusion.core _ _ refl, nothing_read _ _ _ c.new-values.ensures c.requires.empty, ap length c.new-values.ensures, no_act g.C.Exclusion.core _ _ refl)

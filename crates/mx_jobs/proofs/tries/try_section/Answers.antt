@@ -1,4 +1,4 @@
-use Rattle.std.proofs.Common.{◌++◌, List, ℕ, inl, inr, map, refl, sym, subst}
+use Rattle.std.proofs.Common.{◌++◌, List, ℕ, arith, inl, inr, map, refl, sym, subst}
 use Rattle.mx_journal.specs.declared.records.Write.{Write as OneWrite}
 use Rattle.mx_member.specs.declared.acts.Act.TheVariants.{Restart}
 use Rattle.mx_stamps.proofs.Choices.{bool_cases}
@@ -10,6 +10,9 @@ use Rattle.mx_jobs.proofs.Members.{apart_pending, apart_tries, restarted, rests_
 use Rattle.mx_jobs.proofs.Made.{pending_left, section_pends}
 use Rattle.mx_jobs.proofs.Rounding.{acted_on, if_err, no_act, one_act, serves_acting, serves_leaving}
 use Rattle.mx_jobs.proofs.tries.try_section.Goals as goal
+
+pub outcome_of-requires : goal.outcome_of-requires
+outcome_of-requires g c = omega arith
 
 pub read_all-requires : goal.read_all-requires
 read_all-requires g c = (search (c.requires-raw), (c.requires.few, (restarted g.C.Exclusion.core c.args.station.now c.restart.new.self c.restart.ensures).drafted))

@@ -6,6 +6,9 @@ use Rattle.mx_jobs.proofs.Members.{rests_here}
 use Rattle.mx_jobs.proofs.Rounding.{round_more}
 use Rattle.mx_jobs.proofs.worker.work.Goals as goal
 
+pub new-requires : goal.new-requires
+new-requires g c = omega arith
+
 pub is_inside-requires : goal.is_inside-requires
 is_inside-requires g c = search (c.requires-raw)
 
