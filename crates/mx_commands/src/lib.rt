@@ -15,7 +15,7 @@ mod verdict_json;
 mod verdicts;
 
 pub use check_plan::Check;
-pub use cluster_lines::{add_nodes, add_parcels};
+pub use cluster_lines::{add_nodes, add_parcels, node_at};
 pub use driver::drive;
 pub use exploration::{Explore, entries_in, happen, is_entry};
 pub use lines::{Lines, add_closing};

@@ -1,10 +1,9 @@
 -- Counts, one item after another.
-use Rattle.std.proofs.Common.{◌≡◌, ◌∙◌, ◌<◌, ◌≤◌, ◌+◌, ℕ, Bool, true, false, List, ◌∷◌, Some, ap, arith, cond, drop, get_or, length, max, slice_get, sym, take, ◌-◌}
+use Rattle.std.proofs.Common.{◌≡◌, ◌∙◌, ◌<◌, ◌≤◌, ◌+◌, ℕ, Bool, true, false, List, [], ◌∷◌, ap, arith, cond, drop, get_or, length, max, refl, sym, take, ◌-◌}
 use Rattle.std.specs.Int.{from_bool}
-use Rattle.std.specs.List.{count_by}
+use Rattle.std.specs.List.{count_by, enumerate_from}
 use Rattle.std.proofs.lemmas.List.{at_drop_all, at_drop_more, length-drop, take_all}
 use Rattle.std.proofs.lemmas.List.Sums.{count_by-le-length, sum_by-cons}
-use Rattle.std.proofs.lemmas.Option.{get_or_from_slice_get, slice_get_within}
 use Rattle.mx_trace.specs.declared.outcome.Entry.{Entry}
 use Rattle.mx_count.specs.Waits.{longest_wait, wait_from}
 
@@ -13,12 +12,18 @@ counts_one : {X : Type 0} (p : X → Bool) (x : X) (xs : List X) (b : Bool) → 
 counts_one p x xs true is = sym (sum_by-cons (λ y. cond (p y) 1 0) x xs ∙ ap (λ (c : Bool). cond c 1 0 + count_by p xs) (sym is))
 counts_one p x xs false is = sym (sum_by-cons (λ y. cond (p y) 1 0) x xs ∙ ap (λ (c : Bool). cond c 1 0 + count_by p xs) (sym is))
 
-pub count_more : {X : Type 0} (p : X → Bool) (xs : List X) (k : ℕ) (x : X) (b : Bool) (n : ℕ) → slice_get xs k ≡ Some x → b ≡ p x → n ≡ from_bool b
-    → n + count_by p (drop (k + 1) xs) ≡ count_by p (drop k xs)
-count_more p xs k x b n there is one =
-    ap (λ m. m + count_by p (drop (k + 1) xs)) one ∙ counts_one p x (drop (k + 1) xs) b is
-    ∙ ap (λ y. count_by p (y ∷ drop (k + 1) xs)) (sym (get_or_from_slice_get xs k x x there))
-    ∙ sym (at_drop_more (count_by p) xs k x (slice_get_within xs k x there))
+-- the first of the items that are left
+pub count_first : {X : Type 0} (p : X → Bool) (xs ys : List X) (x : X) (b : Bool) (n : ℕ) → xs ≡ x ∷ ys → b ≡ p x → n ≡ from_bool b
+    → n + count_by p ys ≡ count_by p xs
+count_first p xs ys x b n is same one =
+    ap (λ m. m + count_by p ys) one ∙ counts_one p x ys b same ∙ ap (count_by p) (sym is)
+
+-- items that come with their places
+pub count_numbered : {X : Type 0} (p : X → Bool) (k : ℕ) (xs : List X) → count_by (λ (x : ℕ × X). p x.1) (enumerate_from k xs) ≡ count_by p xs
+count_numbered p k [] = refl
+count_numbered {X} p k (x ∷ xs) =
+    sum_by-cons (λ (y : ℕ × X). cond (p y.1) 1 0) (k, x) (enumerate_from (k + 1) xs) ∙ ap (λ n. cond (p x) 1 0 + n) (count_numbered p (k + 1) xs)
+    ∙ sym (sum_by-cons (λ y. cond (p y) 1 0) x xs)
 
 pub count_end : {X : Type 0} (p : X → Bool) (xs : List X) (k n total : ℕ) → length xs ≤ k → n + count_by p (drop k xs) ≡ total → n ≡ total
 count_end p xs k n total le is = let none : count_by p (drop k xs) ≡ 0 = at_drop_all (count_by p) xs k le in omega arith

@@ -1,9 +1,8 @@
 -- Texts of a list, one after another.
-use Rattle.std.proofs.Common.{◌≡◌, ◌∙◌, ℕ, zero, suc, add-one, ◌+◌, ◌<◌, ◌≤◌, List, [], ◌∷◌, ◌++◌, length, drop, get_or, slice_get, ap, sym, append_assoc, Result, Ok, Err, Some, None, drop-cons, inl, inr, OnOk, arith}
-use Rattle.std.specs.Bool.{⊤}
-use Rattle.std.specs.declared.alloc.AllocError.{AllocError}
+use Rattle.std.proofs.Common.{◌≡◌, ◌∙◌, ℕ, zero, suc, add-one, ◌+◌, ◌<◌, ◌≤◌, List, [], ◌∷◌, ◌++◌, length, drop, get_or, slice_get, ap, refl, sym, append_assoc, Some, drop-cons}
+use Rattle.std.specs.List.{enumerate_from}
 use Rattle.std.proofs.lemmas.List.{drop_all}
-use Rattle.std.proofs.lemmas.Option.{same_Some, slice_get_cases}
+use Rattle.std.proofs.lemmas.Option.{same_Some, slice_get-get_or}
 use Rattle.mx_stamps.proofs.Lists.{append_nil, none_is_no_some}
 use Rattle.mx_plan.specs.Text.{Text}
 use Rattle.mx_format.specs.Lines.{each_text, texts_from}
@@ -33,17 +32,30 @@ place_more f xs k x t t' h e =
     ∙ sym (append_assoc t (f k x) (texts_from f (k + 1) (drop (k + 1) xs)))
     ∙ ap (λ l. l ++ texts_from f (k + 1) (drop (k + 1) xs)) (sym e)
 
-pub place_written : {X : Type 0} (f : ℕ → X → Text) (xs : List X) (k : ℕ) (r : Result ⊤ AllocError) (x : X) (t t' : Text) → slice_get xs k ≡ Some x
-    → OnOk r (t' ≡ t ++ f k x) → OnOk r (t ++ texts_from f k (drop k xs) ≡ t' ++ texts_from f (k + 1) (drop (k + 1) xs))
-place_written f xs k (Ok u) x t t' h e = place_more f xs k x t t' h e
-place_written f xs k (Err e) x t t' h h' = tt
-
 pub place_end : {X : Type 0} (f : ℕ → X → Text) (xs : List X) (k : ℕ) (t : Text) → length xs ≤ k → t ++ texts_from f k (drop k xs) ≡ t
 place_end f xs k t le = ap (λ l. t ++ texts_from f k l) (drop_all k xs le) ∙ append_nil t
 
--- what is at a place of a list
-pub is_there : {X : Type 0} (xs : List X) (k : ℕ) → slice_get xs k ≡ None → k < length xs → ⊥
-is_there xs k none lt = elim (slice_get_cases xs k).1 [
-  | inl q ↦ absurd (none_is_no_some q.0 (sym none ∙ q.2))
-  | inr q ↦ absurd (omega (arith, lt, q.0))
-]
+-- one more item n of a list whose texts tell the place
+pub item_more : {X : Type 0} (f : ℕ → X → Text) (xs : List X) (k n : ℕ) (x : X) (t t' : Text) → k < length xs → x ≡ get_or xs k x → n ≡ k
+    → t' ≡ t ++ f n x → t ++ texts_from f k (drop k xs) ≡ t' ++ texts_from f (k + 1) (drop (k + 1) xs)
+item_more {X} f xs k n x t t' lt is same e =
+    place_more f xs k x t t' (slice_get-get_or xs k x lt ∙ ap (λ (y : X). Some y) (sym is)) (e ∙ ap (λ (m : ℕ). t ++ f m x) same)
+
+-- texts that tell the place, of items that come with their places
+all_numbered : {X : Type 0} (f : ℕ → X → Text) (k : ℕ) (xs : List X) → texts_from f k xs ≡ each_text (λ x. f x.0 x.1) (enumerate_from k xs)
+all_numbered f k [] = refl
+all_numbered f k (x ∷ xs) = ap (λ l. f k x ++ l) (all_numbered f (k + 1) xs)
+
+pub numbered : {X : Type 0} (f : ℕ → X → Text) (k : ℕ) (xs : List X) (left : List (ℕ × X)) (t : Text) → left ≡ enumerate_from k xs
+    → t ++ texts_from f k xs ≡ t ++ each_text (λ x. f x.0 x.1) left
+numbered {X} f k xs left t is =
+    ap (λ (l : Text). t ++ l) (all_numbered f k xs) ∙ ap (λ (l : List (ℕ × X)). t ++ each_text (λ x. f x.0 x.1) l) (sym is)
+
+-- the first of the items that are left
+pub first_written : {X : Type 0} (f : X → Text) (xs ys : List X) (x : X) (t t' : Text) → xs ≡ x ∷ ys → t' ≡ t ++ f x → t ++ each_text f xs ≡ t' ++ each_text f ys
+first_written f xs ys x t t' is e =
+    ap (λ l. t ++ each_text f l) is ∙ sym (append_assoc t (f x) (each_text f ys)) ∙ ap (λ l. l ++ each_text f ys) (sym e)
+
+-- none is left
+pub all_written : {X : Type 0} (f : X → Text) (xs : List X) (t : Text) → xs ≡ [] → t ++ each_text f xs ≡ t
+all_written f xs t none = ap (λ l. t ++ each_text f l) none ∙ append_nil t

@@ -1,4 +1,5 @@
-ghost use Rattle.std.specs.Prelude.{◌≡◌, ◌≤◌, ◌<◌, ◌↔◌, ℕ, [], ◌∷◌, ◌++◌, length, OnOk, OnErr, IfOk, IfErr, IfSome, MatchOption, slice_get, take};
+ghost use Rattle.std.specs.Prelude.{◌≡◌, ◌≤◌, ◌<◌, ◌↔◌, ℕ, [], ◌∷◌, ◌++◌, length, OnOk, OnErr, IfOk, IfErr, IfSome, MatchOption, drop, slice_get, take};
+ghost use Rattle.std.specs.List.{enumerate_from};
 ghost use Rattle.mx_stamps.specs.declared.limits.TheConstants.{MAX_REGISTERS, MAX_SECTIONS};
 ghost use Rattle.mx_stamps.specs.Lists.{each_below};
 ghost use Rattle.mx_journal.specs.Records.{Ascending};
@@ -16,6 +17,7 @@ ghost use Rattle.mx_network.specs.Step.{step_of, AreTakeable, AreUnsettled, IsIn
 
 use crate::faults::{RunFault, StepFault};
 use crate::parcel_log::ParcelLog;
+use crate::parcels::Parcels;
 use crate::parts::{newest, start_members};
 use mx_events::Event;
 use mx_journal::Journal;
@@ -207,6 +209,13 @@ impl<C: Exclusion> Cluster<C> {
         self.members.get(node.get() as usize)
     }
 
+    /// Returns the members, in the order of their nodes.
+    pub fn members(&self) -> &[Member<C>]
+        ensures { result.now ≡ self.now.members }
+    {
+        &self.members
+    }
+
     /// Returns the number of parcels that were sent.
     pub fn sent(&self) -> u64
         ensures { result ≡ length self.now.sent }
@@ -234,6 +243,13 @@ impl<C: Exclusion> Cluster<C> {
             ≡ Some (found.from, found.to, found.parcel.now)) }
     {
         self.parcel_log.get(number)
+    }
+
+    /// Returns the parcels from this number on, in order, each with its number.
+    pub fn parcels_from(&self, number: u64) -> Parcels<'_, C::Msg>
+        ensures { result ≡ enumerate_from number (drop number self.now.sent) }
+    {
+        self.parcel_log.parcels_from(number)
     }
 
     /// Returns the trace: all events in order, with their outcomes. At every moment of every run:

@@ -9,9 +9,11 @@ mod cluster;
 mod faults;
 mod outcome;
 mod parcel_log;
+mod parcels;
 mod parts;
 
 pub use cluster::Cluster;
 pub use faults::{RunFault, StepFault};
 pub use mx_events::Event;
 pub use mx_trace::{Cause, Entry, Outcome};
+pub use parcels::Parcels;

@@ -1,8 +1,10 @@
-ghost use Rattle.std.specs.Prelude.{◌≡◌, ◌+◌, ◌≤◌, ◌<◌, [], ◌∷◌, ◌++◌, length, slice_get, IsTrue, MatchOption, OnOk, vec_len, vec_capacity};
+ghost use Rattle.std.specs.Prelude.{◌≡◌, ◌+◌, ◌≤◌, ◌<◌, [], ◌∷◌, ◌++◌, ◌^◌, drop, length, slice_get, IfSome, IsTrue, MatchOption, OnOk, vec_len, vec_capacity};
+ghost use Rattle.std.specs.List.{enumerate_from};
 ghost use Rattle.mx_letters.specs.declared.outbox.TheConstants.{OUTBOX_ROOM};
 ghost use Rattle.mx_nodelaws.specs.World.{sent_by};
-ghost use Rattle.mx_network.specs.ParcelLog.{EndsWith, IsKeptIn};
+ghost use Rattle.mx_network.specs.ParcelLog.{AreKept, EndsWith, IsKeptIn, sent_of};
 
+use crate::parcels::Parcels;
 use mx_letters::Outbox;
 use mx_member::{Parcel, SentParcel};
 use mx_nodelaws::Exclusion;
@@ -69,13 +71,16 @@ impl<C: Exclusion> ParcelLog<C> {
             (λ found. slice_get self.now.sent number
             ≡ Some (found.from, found.to, found.parcel.now)) }
     {
-        match self.sendings.get(number as usize) {
-            Some(sending) => Some(SentParcel {
-                from: sending.from,
-                to: sending.to,
-                parcel: &self.kept[sending.place],
-            }),
-            None => None,
+        sent_at(self.kept.as_slice(), self.sendings.as_slice(), number)
+    }
+
+    pub(crate) fn parcels_from(&self, number: u64) -> Parcels<'_, C::Msg>
+        ensures { result ≡ enumerate_from number (drop number self.now.sent) }
+    {
+        Parcels {
+            kept: &self.kept,
+            sendings: &self.sendings,
+            number,
         }
     }
 
@@ -98,6 +103,27 @@ impl<C: Exclusion> ParcelLog<C> {
         keep::<C>(&mut self.kept, parcel);
         let place = self.kept.len() - 1;
         self.sendings.push_reserved(Sending { from, to, place });
+    }
+}
+
+pub(crate) fn sent_at<'a, M>(
+    kept: &'a [Parcel<M>],
+    sendings: &[Sending],
+    number: u64,
+) -> Option<SentParcel<'a, M>>
+    requires { AreKept (length kept.now) sendings.now }
+    ensures value { MatchOption result (slice_get (sent_of kept.now sendings.now) number ≡ None)
+        (λ found. slice_get (sent_of kept.now sendings.now) number
+        ≡ Some (found.from, found.to, found.parcel.now)) }
+    ensures few { IfSome result (λ _. number < 2 ^ 63) }
+{
+    match sendings.get(number as usize) {
+        Some(sending) => Some(SentParcel {
+            from: sending.from,
+            to: sending.to,
+            parcel: &kept[sending.place],
+        }),
+        None => None,
     }
 }
 

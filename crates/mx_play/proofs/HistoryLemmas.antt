@@ -1,11 +1,9 @@
 -- What happens, one event after another.
-use Rattle.std.proofs.Common.{◌≡◌, ◌≤◌, ◌<◌, ◌∙◌, ℕ, zero, suc, List, [], ◌∷◌, ◌++◌, Result, Ok, length, take, drop, get_or, drop-cons, add-one, ◌+◌, refl, sym, ap, subst, append_assoc, arith}
-use Rattle.std.proofs.lemmas.List.{drop_all, length-append}
+use Rattle.std.proofs.Common.{◌≡◌, ◌≤◌, ◌<◌, ◌∙◌, ℕ, zero, suc, List, [], ◌∷◌, ◌++◌, Result, Ok, length, take, drop, get_or, drop-cons, add-one, ◌+◌, refl, sym, ap, subst, append_assoc}
+use Rattle.std.proofs.lemmas.List.{drop_all}
 use Rattle.mx_stamps.proofs.Lists.{append_nil}
 use Rattle.mx_nodelaws.specs.Core.{Core}
 use Rattle.mx_network.specs.Step.{ClusterState, RunsTo}
-use Rattle.mx_network.proofs.Happening.{noted as in_trace}
-use Rattle.mx_trace.specs.declared.outcome.Entry.{Entry}
 use Rattle.mx_plan.specs.Text.{Text}
 use Rattle.mx_plan.specs.Fields.{Fields}
 use Rattle.mx_scripts.specs.Fates.{Fates, noted}
@@ -24,12 +22,6 @@ same_run : {S M : Type 0} (c d : ClusterState S M) (f g : Fates) → c ≡ d →
     → ◌≡◌ {A = RunState S M} (record { cluster = c; fates = f }) (record { cluster = d; fates = g })
 same_run c d f g e e' = rw (e, e') refl
 
-longer : (old new : List Entry) (x : Entry) → new ≡ old ++ x ∷ [] → length old ≤ length new
-longer old new x is = let more = length-append old (x ∷ []) in let same = ap (λ (l : List Entry). length l) is in omega (arith, more, same)
-
-same_length : {A : Type 0} (old new : List A) → new ≡ old → length old ≤ length new
-same_length {A} old new is = let same : length new ≡ length old = ap (λ (l : List A). length l) is in omega (arith, same)
-
 module _ {H S M : Type 0} (core : Core H S M) where
   -- one state follows
   pub brings_one : (e : SessionEvent) (old a b : RunState S M) → Brings core old e a → Brings core old e b → a ≡ b
@@ -39,17 +31,6 @@ module _ {H S M : Type 0} (core : Core H S M) where
       same_run a.cluster b.cluster a.fates b.fates clusters fates
   brings_one (IsLost k) old a b x y = same_run a.cluster b.cluster a.fates b.fates (x.0 ∙ sym y.0) (x.1 ∙ sym y.1)
   brings_one (LinksChange change) old a b x y = same_run a.cluster b.cluster a.fates b.fates (x.0 ∙ sym y.0) (x.1 ∙ sym y.1)
-
-  -- the trace grows, and so does the list of what was sent
-  pub brings_events : (e : SessionEvent) (old new : RunState S M) → Brings core old e new → length old.cluster.trace ≤ length new.cluster.trace
-  brings_events (Happens e) old new x = let n = in_trace core old.cluster e new.cluster x.0 in longer old.cluster.trace new.cluster.trace (record { event = e; outcome = n.0 }) n.1
-  brings_events (IsLost k) old new x = same_length old.cluster.trace new.cluster.trace (ap (λ (g : ClusterState S M). g.trace) x.0)
-  brings_events (LinksChange change) old new x = same_length old.cluster.trace new.cluster.trace (ap (λ (g : ClusterState S M). g.trace) x.0)
-
-  pub brings_parcels : (e : SessionEvent) (old new : RunState S M) → Brings core old e new → length old.cluster.sent ≤ length new.cluster.sent
-  brings_parcels (Happens e) old new x = (grows core old.cluster new.cluster e x.0).1
-  brings_parcels (IsLost k) old new x = same_length old.cluster.sent new.cluster.sent (ap (λ (g : ClusterState S M). g.sent) x.0)
-  brings_parcels (LinksChange change) old new x = same_length old.cluster.sent new.cluster.sent (ap (λ (g : ClusterState S M). g.sent) x.0)
 
   brings_members : (e : SessionEvent) (old new : RunState S M) → Brings core old e new → length new.cluster.members ≡ length old.cluster.members
   brings_members (Happens e) old new x = (grows core old.cluster new.cluster e x.0).0

@@ -1,5 +1,5 @@
 -- Lines that are not shown.
-use Rattle.std.proofs.Common.{◌≡◌, ◌<◌, ◌∙◌, ◌++◌, ◌∷◌, ℕ, zero, suc, List, Some, arith, get_or, length, slice_get, Bool, false, [], Result, Ok, Err, OnOk, if◌then◌else◌, ap, append_assoc, subst, sym}
+use Rattle.std.proofs.Common.{◌≡◌, ◌∙◌, ◌++◌, Bool, false, [], Result, Ok, Err, OnOk, if◌then◌else◌, ap, append_assoc, subst, sym}
 use Rattle.std.specs.Bool.{⊤}
 use Rattle.std.specs.declared.alloc.AllocError.{AllocError}
 use Rattle.mx_stamps.proofs.Lists.{append_nil}
@@ -13,9 +13,3 @@ pub three_shown : (r : Result ⊤ AllocError) (t t1 t2 t3 a b c : Text) → t1 �
 three_shown (Ok u) t t1 t2 t3 a b c first second third =
     third ∙ ap (λ (l : Text). l ++ c) (second ∙ ap (λ (l : Text). l ++ b) first ∙ append_assoc t a b) ∙ append_assoc t (a ++ b) c
 three_shown (Err e) t t1 t2 t3 a b c first second third = tt
-
--- the item at a place
-pub got : {A : Type 0} (xs : List A) (k : ℕ) (x : A) → k < length xs → x ≡ get_or xs k x → slice_get xs k ≡ Some x
-got [] k x lt is = absurd (omega (arith, lt))
-got {A} (y ∷ ys) zero x lt is = ap (λ (a : A). Some a) (sym is)
-got (y ∷ ys) (suc k) x lt is = got ys k x (omega (arith, lt)) is

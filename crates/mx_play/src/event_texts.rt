@@ -1,6 +1,6 @@
 //! The lines of new events and parcels.
 
-ghost use Rattle.std.specs.Prelude.{◌≡◌, ◌+◌, ◌<◌, ◌≤◌, ◌++◌, drop, length, string_bytes, OnOk};
+ghost use Rattle.std.specs.Prelude.{◌≡◌, ◌++◌, drop, string_bytes, OnOk};
 ghost use Rattle.mx_format.specs.LetterTexts.{letter_text};
 ghost use Rattle.mx_format.specs.ParcelTexts.{parcel_lines};
 ghost use Rattle.mx_commands.specs.Runs.{event_lines};
@@ -21,8 +21,6 @@ pub(crate) fn add_new<C: Exclusion>(
 ) -> Result<(), AllocError>
 where
     C::Msg: Letter,
-    requires events { event ≤ length cluster.now.trace }
-    requires parcels { parcel ≤ length cluster.now.sent }
     ensures { OnOk result (string_bytes text.new ≡ string_bytes text.old
         ++ (event_lines plan.now event (drop event cluster.now.trace)
         ++ parcel_lines (letter_text C.Msg.parts) plan.now parcel (drop parcel cluster.now.sent))) }
@@ -37,34 +35,17 @@ fn add_events(
     first: usize,
     text: &mut String,
 ) -> Result<(), AllocError>
-    requires { first ≤ length trace.now }
     ensures { OnOk result (string_bytes text.new ≡ string_bytes text.old
         ++ event_lines plan.now first (drop first trace.now)) }
 {
     for index in first..trace.len() {
-        add_event(plan, trace, index, text)?;
-    }
-    Ok(())
-}
-
-fn add_event(
-    plan: &Plan,
-    trace: &[Entry],
-    index: usize,
-    text: &mut String,
-) -> Result<(), AllocError>
-    requires { index < length trace.now }
-    ensures { OnOk result (string_bytes text.old
-        ++ event_lines plan.now index (drop index trace.now)
-        ≡ string_bytes text.new ++ event_lines plan.now (index + 1) (drop (index + 1) trace.now)) }
-{
-    match trace.get(index) {
-        Some(entry) => text.write(EventLine {
+        let entry = &trace[index];
+        text.write(EventLine {
             plan,
             index: index as u64,
             event: &entry.event,
             outcome: &entry.outcome,
-        }),
-        None => unreachable!(),
+        })?;
     }
+    Ok(())
 }

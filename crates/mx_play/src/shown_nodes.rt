@@ -1,16 +1,16 @@
 //! What `show` prints of the nodes.
 
-ghost use Rattle.std.specs.Prelude.{◌≡◌, ◌+◌, ◌<◌, ◌++◌, drop, length, string_bytes, OnOk, Some, None};
-ghost use Rattle.mx_format.specs.Lines.{texts_from};
+ghost use Rattle.std.specs.Prelude.{◌≡◌, ◌++◌, length, string_bytes, OnOk, Some, None};
 ghost use Rattle.mx_play.specs.Views.{node_shown, standing_lines};
 
 use crate::session::Setting;
+use mx_commands::node_at;
 use mx_format::{add_facts_line, add_member_line};
 use mx_knowledge::Knowledge;
 use mx_member::Member;
 use mx_network::Cluster;
 use mx_nodelaws::Exclusion;
-use mx_stamps::{MAX_NODES, NodeId};
+use mx_stamps::NodeId;
 use std::alloc::AllocError;
 
 pub(crate) fn add_standing<C: Exclusion + Knowledge>(
@@ -38,32 +38,10 @@ fn add_each<C: Exclusion + Knowledge>(
     ensures { OnOk result (string_bytes text.new ≡ string_bytes text.old
         ++ standing_lines C.core C.knows setting.now.plan.now None cluster.now) }
 {
-    for index in 0..setting.plan.nodes() {
-        add_member(setting, cluster, index, text)?;
+    for (index, member) in cluster.members().iter().enumerate() {
+        add_shown(setting, node_at(setting.plan, index), member, text)?;
     }
     Ok(())
-}
-
-fn add_member<C: Exclusion + Knowledge>(
-    setting: &Setting<'_, C>,
-    cluster: &Cluster<C>,
-    index: u8,
-    text: &mut String,
-) -> Result<(), AllocError>
-    requires few { index < MAX_NODES }
-    requires there { index < length cluster.now.members }
-    ensures { OnOk result (string_bytes text.old
-        ++ texts_from (node_shown C.core C.knows setting.now.plan.now) index
-        (drop index cluster.now.members)
-        ≡ string_bytes text.new
-        ++ texts_from (node_shown C.core C.knows setting.now.plan.now) (index + 1)
-        (drop (index + 1) cluster.now.members)) }
-{
-    let node = NodeId::of(index).unwrap();
-    match cluster.member(node) {
-        Some(member) => add_shown(setting, node, member, text),
-        None => unreachable!(),
-    }
 }
 
 fn add_shown<C: Exclusion + Knowledge>(

@@ -1,8 +1,7 @@
 //! What `show` prints of the parcels under way.
 
-ghost use Rattle.std.specs.Prelude.{◌≡◌, ◌+◌, ◌<◌, ◌++◌, ◌&&◌, drop, length, string_bytes, OnOk};
+ghost use Rattle.std.specs.Prelude.{◌≡◌, ◌++◌, ◌&&◌, string_bytes, OnOk};
 ghost use Rattle.mx_format.specs.LetterTexts.{letter_text};
-ghost use Rattle.mx_format.specs.Lines.{texts_from};
 ghost use Rattle.mx_scripts.specs.Fates.{is_under_way};
 ghost use Rattle.mx_play.specs.Cuts.{is_to};
 ghost use Rattle.mx_play.specs.Views.{waiting_line, waiting_lines};
@@ -27,33 +26,10 @@ where
     ensures { OnOk result (string_bytes text.new ≡ string_bytes text.old
         ++ waiting_lines C.core (letter_text C.Msg.parts) plan.now to.now state.now) }
 {
-    for number in 0..state.cluster().sent() {
-        add_if_waiting(plan, to, state, number, text)?;
+    for (number, sent) in state.cluster().parcels_from(0) {
+        add_parcel(plan, to, state, number, &sent, text)?;
     }
     Ok(())
-}
-
-fn add_if_waiting<C: Exclusion>(
-    plan: &Plan,
-    to: &Option<NodeId>,
-    state: &State<C>,
-    number: u64,
-    text: &mut String,
-) -> Result<(), AllocError>
-where
-    C::Msg: Letter,
-    requires { number < length state.now.cluster.sent }
-    ensures { OnOk result (string_bytes text.old
-        ++ texts_from (waiting_line C.core (letter_text C.Msg.parts) plan.now to.now state.now)
-        number (drop number state.now.cluster.sent)
-        ≡ string_bytes text.new
-        ++ texts_from (waiting_line C.core (letter_text C.Msg.parts) plan.now to.now state.now)
-        (number + 1) (drop (number + 1) state.now.cluster.sent)) }
-{
-    match state.cluster().sent_parcel(number) {
-        Some(sent) => add_parcel(plan, to, state, number, &sent, text),
-        None => unreachable!(),
-    }
 }
 
 fn add_parcel<C: Exclusion>(

@@ -1,19 +1,19 @@
 //! The closing lines that are shown.
 
-ghost use Rattle.std.specs.Prelude.{◌≡◌, ◌+◌, ◌<◌, ◌++◌, length, drop, string_bytes, IfOk, OnOk};
+ghost use Rattle.std.specs.Prelude.{◌≡◌, ◌++◌, length, string_bytes, IfOk, OnOk};
 ghost use Rattle.mx_format.specs.Lines.{texts_from};
 ghost use Rattle.mx_views.specs.Shown.{closing_text, shown_member, state_text};
 
 use crate::node_json::add_node_json;
 use crate::selection::Selection;
-use mx_commands::add_verdict;
+use mx_commands::{add_verdict, node_at};
 use mx_explorer::{Verdict, judge};
 use mx_format::{add_facts_line, add_member_line};
 use mx_knowledge::Knowledge;
 use mx_member::Member;
 use mx_network::Cluster;
 use mx_nodelaws::Exclusion;
-use mx_stamps::{MAX_NODES, NodeId};
+use mx_stamps::NodeId;
 use std::alloc::{AllocError, Global};
 
 pub(crate) fn add_closing<C: Exclusion + Knowledge>(
@@ -46,33 +46,16 @@ fn add_nodes<C: Exclusion + Knowledge>(
         ++ texts_from (shown_member selection.now.plan.now selection.now.view C.core C.knows) 0
         cluster.now.members) }
 {
-    for index in 0..selection.plan.nodes() {
-        add_node(alloc, selection, cluster, index, text)?;
+    for (index, member) in cluster.members().iter().enumerate() {
+        add_member(
+            alloc,
+            selection,
+            node_at(selection.plan, index),
+            member,
+            text,
+        )?;
     }
     Ok(())
-}
-
-fn add_node<C: Exclusion + Knowledge>(
-    alloc: Global,
-    selection: &Selection<'_>,
-    cluster: &Cluster<C>,
-    index: u8,
-    text: &mut String,
-) -> Result<(), AllocError>
-    requires few { index < MAX_NODES }
-    requires there { index < length cluster.now.members }
-    ensures { OnOk result (string_bytes text.old
-        ++ texts_from (shown_member selection.now.plan.now selection.now.view C.core C.knows)
-        index (drop index cluster.now.members)
-        ≡ string_bytes text.new
-        ++ texts_from (shown_member selection.now.plan.now selection.now.view C.core C.knows)
-        (index + 1) (drop (index + 1) cluster.now.members)) }
-{
-    let node = NodeId::of(index).unwrap();
-    match cluster.member(node) {
-        Some(member) => add_member(alloc, selection, node, member, text),
-        None => unreachable!(),
-    }
 }
 
 fn add_member<C: Exclusion + Knowledge>(

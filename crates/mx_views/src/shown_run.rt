@@ -1,6 +1,6 @@
 //! A view as a sink: it appends what is shown of each event of a run, and of the end.
 
-ghost use Rattle.std.specs.Prelude.{◌≡◌, ◌+◌, ◌<◌, ◌≤◌, List, [], ◌∷◌, ◌++◌, drop, length, string_bytes, IfOk, OnOk};
+ghost use Rattle.std.specs.Prelude.{◌≡◌, ◌<◌, ◌≤◌, List, [], ◌∷◌, ◌++◌, drop, length, string_bytes, IfOk, OnOk};
 ghost use Rattle.mx_network.specs.Step.{ClusterState};
 ghost use Rattle.mx_trace.specs.declared.outcome.Entry.{Entry};
 ghost use Rattle.mx_format.specs.Lines.{texts_from};
@@ -72,8 +72,7 @@ fn add_step<C: Exclusion>(
 ) -> Result<(), AllocError>
 where
     C::Msg: Letter,
-    requires noted { 0 < length cluster.now.trace }
-    requires sent { before ≤ length cluster.now.sent }
+    requires { 0 < length cluster.now.trace }
     ensures { (old : ClusterState C C.Msg) (entry : Entry)
         → cluster.now.trace ≡ old.trace ++ entry ∷ [] → before ≡ length old.sent
         → OnOk result (string_bytes text.new ≡ string_bytes text.old
@@ -94,8 +93,7 @@ fn add_newest<C: Exclusion>(
 ) -> Result<(), AllocError>
 where
     C::Msg: Letter,
-    requires noted { 0 < length cluster.now.trace }
-    requires sent { before ≤ length cluster.now.sent }
+    requires { 0 < length cluster.now.trace }
     ensures { (front : List Entry) (entry : Entry)
         → cluster.now.trace ≡ front ++ entry ∷ [] → OnOk result (string_bytes text.new
         ≡ string_bytes text.old
@@ -139,37 +137,14 @@ fn add_parcels<C: Exclusion>(
 ) -> Result<(), AllocError>
 where
     C::Msg: Letter,
-    requires { before ≤ length cluster.now.sent }
     ensures { OnOk result (string_bytes text.new ≡ string_bytes text.old
         ++ texts_from (shown_parcel selection.now.plan.now selection.now.view C.Msg.parts) before
         (drop before cluster.now.sent)) }
 {
-    for number in before..cluster.sent() {
-        add_numbered(selection, cluster, number, text)?;
+    for (number, sent) in cluster.parcels_from(before) {
+        add_sent(selection, number, &sent, text)?;
     }
     Ok(())
-}
-
-fn add_numbered<C: Exclusion>(
-    selection: &Selection<'_>,
-    cluster: &Cluster<C>,
-    number: u64,
-    text: &mut String,
-) -> Result<(), AllocError>
-where
-    C::Msg: Letter,
-    requires { number < length cluster.now.sent }
-    ensures { OnOk result (string_bytes text.old
-        ++ texts_from (shown_parcel selection.now.plan.now selection.now.view C.Msg.parts) number
-        (drop number cluster.now.sent)
-        ≡ string_bytes text.new
-        ++ texts_from (shown_parcel selection.now.plan.now selection.now.view C.Msg.parts)
-        (number + 1) (drop (number + 1) cluster.now.sent)) }
-{
-    match cluster.sent_parcel(number) {
-        Some(sent) => add_sent(selection, number, &sent, text),
-        None => unreachable!(),
-    }
 }
 
 fn add_sent<M: Letter>(

@@ -1,31 +1,15 @@
-use Rattle.std.proofs.Common.{◌≡◌, ◌∙◌, ◌<◌, ◌≤◌, arith, length, rules, string_bytes, sym}
-use Rattle.mx_format.specs.NodeTexts.{member_line}
-use Rattle.mx_format.proofs.Places.{place_end}
+use Rattle.std.proofs.Common.{◌∙◌, ◌++◌, ap, string_bytes, sym}
+use Rattle.mx_format.specs.NodeTexts.{member_line, node_lines}
+use Rattle.mx_format.proofs.Places.{item_more, place_end}
 use Rattle.mx_commands.proofs.cluster_lines.add_nodes.Goals as goal
-
-pub add_member-requires : goal.add_member-requires
-add_member-requires g c =
-    let count : c.nodes-index-end.result ≡ length c.args.plan.now.nodes = c.nodes-index-end.ensures.value in
-    let same : length c.args.cluster.now.members ≡ length c.args.plan.now.nodes = c.requires in
-    let before : c.loop-index.index < c.nodes-index-end.result = c.loop-index-test.true in
-    (search rules, (omega (arith, before, c.nodes-index-end.ensures.high), omega (arith, before, count, same)))
 
 pub loop-index-preserved : goal.loop-index-preserved
 loop-index-preserved g c =
-    let count : c.nodes-index-end.result ≡ length c.args.plan.now.nodes = c.nodes-index-end.ensures.value in
-    let same : length c.args.cluster.now.members ≡ length c.args.plan.now.nodes = c.requires in
-    let before : c.loop-index.index < c.nodes-index-end.result = c.loop-index-test.true in
-    record {
-      in_range = omega (arith, before, count, same);
-      written = c.loop-index.invariant.written ∙ c.in_ok-add_member.ensures;
-    }
+    c.loop-index.invariant
+    ∙ item_more (member_line g.C.Exclusion.core c.args.plan.now) _ _ _ c.member-item.result _ _ c.loop-index-test.true c.member-item.is c.node_at.ensures c.in_ok-add_member_line.ensures
 
 pub returns : goal.returns
 returns g c =
-    let members = c.args.cluster.now.members in
-    let k = c.loop-index.index in
-    let count : c.nodes-index-end.result ≡ length c.args.plan.now.nodes = c.nodes-index-end.ensures.value in
-    let same : length members ≡ length c.args.plan.now.nodes = c.requires in
-    let past = c.loop-index-test.false in
-    let end : length members ≤ k = omega (arith, count, same, past) in
-    sym (c.loop-index.invariant.written ∙ place_end (member_line g.C.Exclusion.core c.args.plan.now) members k (string_bytes c.loop-index.text) end)
+    let line = member_line g.C.Exclusion.core c.args.plan.now in
+    sym (c.loop-index.invariant ∙ place_end line c.members-member-items.result.now c.loop-index.index (string_bytes c.loop-index.text) c.loop-index-test.false)
+    ∙ ap (λ members. string_bytes c.args.text.now ++ node_lines g.C.Exclusion.core c.args.plan.now members) c.members-member-items.ensures

@@ -1,27 +1,20 @@
-use Rattle.std.proofs.Common.{◌≡◌, ◌∙◌, ◌<◌, ◌≤◌, ℕ, arith, length, rules, string_bytes, subst, sym}
+use Rattle.std.proofs.Common.{◌∙◌, string_bytes, sym}
+use Rattle.mx_format.proofs.Places.{all_written, first_written, numbered}
 use Rattle.mx_format.specs.LetterTexts.{letter_text}
 use Rattle.mx_format.specs.ParcelTexts.{parcel_line}
-use Rattle.mx_format.proofs.Places.{place_end}
 use Rattle.mx_commands.proofs.cluster_lines.add_parcels.Goals as goal
 
-pub add_numbered-requires : goal.add_numbered-requires
-add_numbered-requires g c =
-    (search rules, subst (λ (n : ℕ). c.loop-number.number < n) c.sent-number-end.ensures c.loop-number-test.true)
+pub loop-number-init : goal.loop-number-init
+loop-number-init g c =
+    numbered (parcel_line (letter_text g.C.Msg.Letter.parts) c.args.plan.now) _ _ _ (string_bytes c.args.text.now)
+    (c.into_iter-number-iterator.ensures.into_iter_gives ∙ c.parcels_from-number-items.ensures)
 
 pub loop-number-preserved : goal.loop-number-preserved
 loop-number-preserved g c =
-    let sent = c.args.cluster.now.sent in
-    let lt : c.loop-number.number < length sent = subst (λ (n : ℕ). c.loop-number.number < n) c.sent-number-end.ensures c.loop-number-test.true in
-    record {
-      in_range = omega (arith, lt);
-      written = c.loop-number.invariant.written ∙ c.in_ok-add_numbered.ensures;
-    }
+    let line = parcel_line (letter_text g.C.Msg.Letter.parts) c.args.plan.now in
+    c.loop-number.invariant ∙ first_written (λ x. line x.0 x.1) _ _ _ _ _ c.in-Some.ensures.steps c.in_ok-add_parcel_line.ensures
 
 pub returns : goal.returns
 returns g c =
-    let sent = c.args.cluster.now.sent in
-    let k = c.loop-number.number in
-    let count : c.sent-number-end.result ≡ length sent = c.sent-number-end.ensures in
-    let past = c.loop-number-test.false in
-    let end : length sent ≤ k = omega (arith, count, past) in
-    sym (c.loop-number.invariant.written ∙ place_end (parcel_line (letter_text g.C.Msg.Letter.parts) c.args.plan.now) sent k (string_bytes c.loop-number.text) end)
+    let line = parcel_line (letter_text g.C.Msg.Letter.parts) c.args.plan.now in
+    sym (c.loop-number.invariant ∙ all_written (λ x. line x.0 x.1) c.loop-number.number-iterator (string_bytes c.loop-number.text) c.in-None.ensures.steps.0)

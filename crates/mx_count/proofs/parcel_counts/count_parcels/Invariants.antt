@@ -1,12 +1,10 @@
-use Rattle.std.proofs.Common.{◌≡◌, ◌+◌, ◌≤◌, drop, length}
+use Rattle.std.proofs.Common.{◌≡◌, ◌+◌}
 use Rattle.std.specs.List.{count_by}
 use Rattle.mx_format.specs.Parts.{word_by}
 use Rattle.mx_count.specs.Kinds.{is_in}
 use Rattle.mx_count.proofs.parcel_counts.count_parcels.Given as goal
 
-abbrev pub invariant-loop-number : goal.invariant-loop-number
-invariant-loop-number g l = record {
-  in_range : l.number ≤ length l.cluster.sent;
-  counted : l.count + count_by (is_in (word_by g.C.Msg.Letter.parts) l.group) (drop l.number l.cluster.sent)
-      ≡ count_by (is_in (word_by g.C.Msg.Letter.parts) l.group) l.cluster.sent;
-}
+abbrev pub invariant-loop-sent : goal.invariant-loop-sent
+invariant-loop-sent g l =
+    let counts = is_in (word_by g.C.Msg.Letter.parts) l.group in
+    l.count + count_by (λ x. counts x.1) l.sent-iterator ≡ count_by counts l.cluster.sent

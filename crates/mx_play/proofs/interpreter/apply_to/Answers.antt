@@ -1,19 +1,11 @@
-use Rattle.std.proofs.Common.{◌≤◌, arith, length, rules, string_bytes}
+use Rattle.std.proofs.Common.{arith, rules, string_bytes}
 use Rattle.std.proofs.lemmas.Grind.{common_steps}
 use Rattle.mx_format.specs.LetterTexts.{letter_text}
-use Rattle.mx_play.proofs.HistoryLemmas.{brings_events, brings_parcels, text_is}
+use Rattle.mx_play.proofs.HistoryLemmas.{text_is}
 use Rattle.mx_play.proofs.interpreter.apply_to.Goals as goal
 
 pub cluster-requires : goal.cluster-requires
 cluster-requires g c = (first_of (search rules, search (rules, c.requires-raw)), first_of (search (rules, c.requires-raw), grind (arith, common_steps)))
-
-pub add_new-requires : goal.add_new-requires
-add_new-requires g c =
-    let events : c.counts-events.result.0 ≤ length c.cluster.result.now.trace =
-    rw (c.counts-events.ensures.events, c.cluster.ensures) (brings_events g.C.Exclusion.core c.args.event.now c.args.state.now c.apply.new.self c.in_ok-apply.ensures.ok) in
-    let parcels : c.counts-events.result.1 ≤ length c.cluster.result.now.sent =
-    rw (c.counts-events.ensures.parcels, c.cluster.ensures) (brings_parcels g.C.Exclusion.core c.args.event.now c.args.state.now c.apply.new.self c.in_ok-apply.ensures.ok) in
-    (first_of (search rules, search (rules, c.requires-raw)), (events, parcels))
 
 pub returns-clause-printed : goal.returns-clause-printed
 returns-clause-printed g c =

@@ -1,32 +1,18 @@
-use Rattle.std.proofs.Common.{◌≡◌, ◌∙◌, ◌<◌, ◌≤◌, arith, length, rules, string_bytes, sym}
-use Rattle.mx_format.proofs.Places.{place_end}
+use Rattle.std.proofs.Common.{◌∙◌, ◌++◌, ap, string_bytes, sym}
+use Rattle.mx_format.specs.Lines.{texts_from}
+use Rattle.mx_format.proofs.Places.{item_more, place_end}
 use Rattle.mx_views.specs.Shown.{shown_member}
 use Rattle.mx_views.proofs.closing_lines.add_nodes.Goals as goal
 
-pub add_node-requires : goal.add_node-requires
-add_node-requires g c =
-    let count : c.nodes-index-end.result ≡ length c.args.selection.now.plan.now.nodes = c.nodes-index-end.ensures.value in
-    let same : length c.args.cluster.now.members ≡ length c.args.selection.now.plan.now.nodes = c.requires in
-    let before : c.loop-index.index < c.nodes-index-end.result = c.loop-index-test.true in
-    (search rules, (omega (arith, before, c.nodes-index-end.ensures.high), omega (arith, before, count, same)))
-
 pub loop-index-preserved : goal.loop-index-preserved
 loop-index-preserved g c =
-    let count : c.nodes-index-end.result ≡ length c.args.selection.now.plan.now.nodes = c.nodes-index-end.ensures.value in
-    let same : length c.args.cluster.now.members ≡ length c.args.selection.now.plan.now.nodes = c.requires in
-    let before : c.loop-index.index < c.nodes-index-end.result = c.loop-index-test.true in
-    record {
-      in_range = omega (arith, before, count, same);
-      written = c.loop-index.invariant.written ∙ c.in_ok-add_node.ensures;
-    }
+    let selection = c.args.selection.now in
+    c.loop-index.invariant
+    ∙ item_more (shown_member selection.plan.now selection.view g.C.Exclusion.core g.C.Knowledge.knows) _ _ _ c.member-item.result _ _ c.loop-index-test.true c.member-item.is c.node_at.ensures c.in_ok-add_member.ensures
 
 pub returns : goal.returns
 returns g c =
     let selection = c.args.selection.now in
-    let members = c.args.cluster.now.members in
-    let k = c.loop-index.index in
-    let count : c.nodes-index-end.result ≡ length selection.plan.now.nodes = c.nodes-index-end.ensures.value in
-    let same : length members ≡ length selection.plan.now.nodes = c.requires in
-    let past = c.loop-index-test.false in
-    let end : length members ≤ k = omega (arith, count, same, past) in
-    sym (c.loop-index.invariant.written ∙ place_end (shown_member selection.plan.now selection.view g.C.Exclusion.core g.C.Knowledge.knows) members k (string_bytes c.loop-index.text) end)
+    let lines = shown_member selection.plan.now selection.view g.C.Exclusion.core g.C.Knowledge.knows in
+    sym (c.loop-index.invariant ∙ place_end lines c.members-member-items.result.now c.loop-index.index (string_bytes c.loop-index.text) c.loop-index-test.false)
+    ∙ ap (λ members. string_bytes c.args.text.now ++ texts_from lines 0 members) c.members-member-items.ensures
