@@ -1,3 +1,2 @@
 pub mod EscapeLemmas
 mod NumberLemmas
-mod ArgumentLemmas

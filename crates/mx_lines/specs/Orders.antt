@@ -1,9 +1,8 @@
 -- What the words of a line ask for, apart from how often, or which word is wrong. Words have
 -- numbers from 0, which are their places in the line.
-use Rattle.std.specs.Prelude.{◌≡◌, ◌==◌, ℕ, ◌+◌, List, [], ◌∷◌, Option, Some, None, Result, Ok, Err, codes, length, position, if◌then◌else◌, option_map, option_and_then}
+use Rattle.std.specs.Prelude.{◌==◌, ℕ, ◌+◌, List, [], ◌∷◌, Option, Some, None, Result, Ok, Err, codes, length, position, if◌then◌else◌, option_map, option_and_then}
 use Rattle.std.specs.Option.{option_map_or}
 use Rattle.std.specs.Str.{bytes_eq}
-use Rattle.arrayvec.specs.ArrayVec.{ArrayVec}
 use Rattle.mx_plan.specs.Text.{Text}
 use Rattle.mx_events.specs.Arguments.{event_of, node_in}
 use Rattle.mx_lines.specs.Names.{Known}
@@ -87,15 +86,19 @@ order_by verb.CutNode (node ∷ []) =
 order_by verb.CutNode _ = None
 order_by verb arguments = between verb arguments
 
+-- what a verb asks for with these arguments; a wrong number is an error of the word at this place
+abbrev pub order_from : Verb → ℕ → List Argument → Result Order LineError
+order_from verb place arguments =
+    option_map_or (λ order. Ok order) (order_by verb arguments)
+    (refused fault.WordCount place (expected.Arguments verb))
+
 module _ (names : Known) where
   -- what a verb asks for with these words as its arguments; `place` is that of the verb's last
   -- word. A wrong number of arguments is an error of this word
   abbrev pub order_with : ℕ → Verb → List Text → Result Order LineError
   order_with place verb words =
       if length (kinds_of verb) == length words
-      then and_then (arguments_at names (kinds_of verb) (place + 1) words) (λ arguments.
-      option_map_or (λ order. Ok order) (order_by verb arguments)
-      (refused fault.WordCount place (expected.Arguments verb)))
+      then and_then (arguments_at names (kinds_of verb) (place + 1) words) (order_from verb place)
       else refused fault.WordCount place (expected.Arguments verb)
 
   -- what the word at this place asks for if its arguments come right after it
@@ -116,9 +119,3 @@ module _ (names : Known) where
   order_at place word arguments =
       if bytes_eq word (codes "times") then refused fault.WordCount place expected.Single
       else order_before place word arguments
-
--- the arguments, or the error, are the wanted ones
-abbrev pub Gives : Result (List Argument) LineError → Result (ArrayVec Argument) LineError
-    → Type 0
-Gives wanted (Ok read) = wanted ≡ Ok read.items
-Gives wanted (Err e) = wanted ≡ Err e

@@ -1,12 +1,11 @@
-ghost use Rattle.std.specs.Prelude.{◌≡◌, ◌≤◌, length};
-ghost use Rattle.mx_lines.specs.Orders.{Gives, argument_at, arguments_at, number_at, order_at, order_before, order_between, order_by, order_of, order_with};
+ghost use Rattle.std.specs.Prelude.{◌≡◌, ◌≤◌};
+ghost use Rattle.mx_lines.specs.Orders.{argument_at, number_at, order_at, order_before, order_between, order_by, order_from, order_of, order_with};
 ghost use Rattle.mx_lines.specs.Names.{texts_of};
 
 use crate::errors::{Expected, LineError, LineFault, refuse};
 use crate::names::Names;
 use crate::numbers::number_of;
 use crate::verbs::{Verb, verb_of, verb_of_all};
-use arrayvec::ArrayVec;
 use mx_events::{Argument, ArgumentKind, Event};
 use mx_stamps::NodeId;
 
@@ -102,17 +101,33 @@ fn order_with<N: Names>(
     names: &N,
     place: usize,
     verb: Verb,
-    arguments: &[&str],
+    words: &[&str],
 ) -> Result<Order, LineError>
     requires { place ≤ 3 }
-    ensures { result ≡ order_with (N.known names.now) place verb (texts_of arguments.now) }
+    ensures { result ≡ order_with (N.known names.now) place verb (texts_of words.now) }
 {
-    let kinds = verb.arguments();
-    if kinds.len() != arguments.len() {
-        return refuse(LineFault::WordCount, place, Expected::Arguments(verb));
+    let at = place + 1;
+    match (verb.arguments(), words) {
+        ([], []) => order_from(verb, place, &[]),
+        ([a], [x]) => order_from(verb, place, &[argument_at(names, *a, at, x)?]),
+        ([a, b], [x, y]) => {
+            let a = argument_at(names, *a, at, x)?;
+            order_from(verb, place, &[a, argument_at(names, *b, at + 1, y)?])
+        }
+        ([a, b, c], [x, y, z]) => {
+            let a = argument_at(names, *a, at, x)?;
+            let at = at + 1;
+            let b = argument_at(names, *b, at, y)?;
+            order_from(verb, place, &[a, b, argument_at(names, *c, at + 1, z)?])
+        }
+        _ => refuse(LineFault::WordCount, place, Expected::Arguments(verb)),
     }
-    let read = arguments_at(names, kinds, place + 1, arguments)?;
-    match order_by(verb, read.as_slice()) {
+}
+
+fn order_from(verb: Verb, place: usize, arguments: &[Argument]) -> Result<Order, LineError>
+    ensures { result ≡ order_from verb place arguments.now }
+{
+    match order_by(verb, arguments) {
         Some(order) => Ok(order),
         None => refuse(LineFault::WordCount, place, Expected::Arguments(verb)),
     }
@@ -148,25 +163,6 @@ fn order_between(verb: Verb, from: NodeId, to: NodeId) -> Order
         Verb::CutLink => Order::LinksChange(LinkChange::Cut(from, to)),
         _ => Order::Arrives(from, to),
     }
-}
-
-fn arguments_at<N: Names>(
-    names: &N,
-    kinds: &[ArgumentKind],
-    place: usize,
-    words: &[&str],
-) -> Result<ArrayVec<Argument, 3>, LineError>
-    requires few { length kinds.now ≤ 3 }
-    requires each { length words.now ≡ length kinds.now }
-    requires small { place ≤ 4 }
-    ensures { Gives (arguments_at (N.known names.now) kinds.now place (texts_of words.now)) result }
-{
-    let mut read = ArrayVec::new();
-    for (i, kind) in kinds.iter().enumerate() {
-        let argument = argument_at(names, *kind, place + i, words[i])?;
-        read.push(argument);
-    }
-    Ok(read)
 }
 
 fn argument_at<N: Names>(
