@@ -8,11 +8,22 @@ PAGE = "must-fail/mutants.md"
 PARTS = ("src", "specs", "proofs")
 
 
+# What is tried at a goal in place of its answer: most of what the check tries where there is none, and it ends sooner.
+TRIED = "grind (arith, common_steps) steps 1000000"
+# The words of std that a page may say without their modules.
+COMMON, LEMMAS = "Rattle.std.proofs.Common", "Rattle.std.proofs.lemmas"
+WORDS = {"arith": COMMON, "rules": COMMON, "tests": COMMON, "common_steps": f"{LEMMAS}.Grind", "nat_tests": f"{LEMMAS}.Bool.Decides"}
+# An answer that is one tactic is not replaced, since it fails at a goal that the mutant breaks; nor is one of which the page says this.
+ONE_TACTIC, KEPT = r"(search|grind|omega|cc)\b[^\n]*\n", "its answer"
+
+
 @dataclass
 class Mutant:
     name: str
     function: str = ""
     pairs: list = field(default_factory=list)
+    # The goals that have to refuse it, each of a clause, with what is tried at it where the page says that.
+    at: dict = field(default_factory=dict)
     # The goals whose answers don't fit the mutant.
     given_up: list = field(default_factory=list)
 
@@ -33,6 +44,8 @@ def mutants_of(crate):
             said[word] = text
             if word == "new":
                 found[-1].pairs.append((said["file"], said["old"], text))
+            if word in ("at", "by"):
+                found[-1].at.update(dict.fromkeys(re.findall(r"[^, ]+", said["at"]), said[word] if word == "by" else ""))
         found[-1].function = said.get("function", "")
     return found
 
@@ -47,23 +60,66 @@ def place_of(text, function, old):
     return text.index(old) if text.count(old) == 1 else None
 
 
-def put_in(room, mutant):
-    """Writes the mutant into the crate's copy, or changes nothing and says why it can't."""
+def is_generic(text, function):
+    """Whether a formatted file's function, or the block that it stands in, has parameters that are types."""
+    start = re.search(rf"^( *)[\w() ]*\bfn {re.escape(function.split('::')[-1])}\b(<[^(]*>)?", text, re.MULTILINE)
+    block = re.findall(r"^impl(<.*?>)? \S", text[: start.start()], re.MULTILINE) if start and start[1] else []
+    return bool(re.search(r"[<,] *[A-Z]", (start and start[2] or "") + (block[-1] if block else "")))
+
+
+def in_words(tactic):
+    """The tactic with each name of a module's shortened to its last part, and the lines that bring in these names and std's words."""
+    names = [*re.findall(r"\b(Rattle(?:\.[\w-]+)+)\.([^\s.,()]+)", tactic), *((WORDS[it], it) for it in re.findall(r"\w+", tactic) if it in WORDS)]
+    return re.sub(r"\bRattle(?:\.[\w-]+)+\.", "", tactic), {word: f"use {module}.{{{word}}}\n" for module, word in names}
+
+
+def tried_at(goals, text, arguments):
+    """The answers, with what is tried at each of these goals in place of its own."""
+    uses = {}
+    for goal, by in goals.items():
+        tactic, names = in_words(by or TRIED)
+        name = re.escape(goal)
+        own = re.search(rf"^(pub {name} :.*\n(?:(?:  |unfolding ).*\n)*)({name} ([^=\n]*)=\s*(?:.+\n)*)", text, re.MULTILINE)
+        if own and (by == KEPT or not by and re.fullmatch(rf"{name} [^=\n]*=\s*{ONE_TACTIC}", own[2])):
+            continue
+        uses.update(names)
+        if own:
+            text = f"{text[: own.start(2)]}{goal} {own[3]}= {tactic}\n{text[own.end(2) :]}"
+        else:
+            text = f"{text.rstrip()}\n\npub {goal} : goal.{goal}\n{goal} {arguments} = {tactic}\n"
+    known = " ".join(re.findall(r"^use .*", text, re.MULTILINE))
+    return "".join(line for word, line in uses.items() if not re.search(rf"[{{ ]{re.escape(word)}[,}}]", known)) + text
+
+
+def answers_of(crate, room, mutant):
+    """The answers of the mutant's function, and where they stand, with what is tried at goals that have to refuse it or whose answers don't fit."""
+    path = f"proofs/{mutant.function.replace('::', '/')}/Answers.antt"
+    head = f"use Rattle.{crate.name}.proofs.{mutant.function.replace('::', '.')}.Goals as goal\n"
+    text = text_of(room, path) if os.path.isfile(f"{room}/{path}") else head
+    is_known = re.search(r"^\S+ g c\b", text, re.MULTILINE)
+    arguments = "g c" if is_known or is_generic(text_of(room, mutant.pairs[0][0]), mutant.function) else "c"
+    return path, tried_at({**dict.fromkeys(mutant.given_up, ""), **mutant.at}, text, arguments)
+
+
+def put_in(crate, room, mutant, is_right=False):
+    """Writes the mutant into the crate's copy, or the right body in its place, with what is tried at its goals; or changes nothing and says why it can't."""
     texts = {}
-    for file, old, new in mutant.pairs:
+    if not mutant.pairs:
+        return "it has no pair of old and new"
+    for file, old, new in mutant.pairs if not is_right else ():
         text = texts.get(file) or text_of(room, file)
         place = place_of(text, mutant.function, old)
         if place is None:
             return f"an old text stands in {file} {text.count(old)} times, and not once"
         texts[file] = text[:place] + new + text[place + len(old) :]
-    answers = f"proofs/{mutant.function.replace('::', '/')}/Answers.antt"
-    for goal in mutant.given_up if os.path.isfile(f"{room}/{answers}") else ():
-        own = rf"^pub {re.escape(goal)} :.*\n(?:.+\n)*"
-        texts[answers] = re.sub(own, "", texts.get(answers) or text_of(room, answers), flags=re.MULTILINE)
+    if mutant.at or mutant.given_up:
+        path, text = answers_of(crate, room, mutant)
+        os.makedirs(os.path.dirname(f"{room}/{path}"), exist_ok=True)
+        texts[path] = text
     for file, text in texts.items():
         with open(f"{room}/{file}", "w", encoding="utf-8") as it:
             it.write(text)
-    return None if mutant.pairs else "it has no pair of old and new"
+    return None
 
 
 def copy_sources(crate, room):
