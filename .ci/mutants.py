@@ -6,8 +6,6 @@ from dataclasses import dataclass, field
 
 PAGE = "must-fail/mutants.md"
 PARTS = ("src", "specs", "proofs")
-
-
 # What is tried at a goal in place of its answer: most of what the check tries where there is none, and it ends sooner.
 TRIED = "grind (arith, common_steps) steps 1000000"
 # The words of std that a page may say without their modules.
@@ -68,8 +66,9 @@ def is_generic(text, function):
 
 
 def in_words(tactic):
-    """The tactic with each name of a module's shortened to its last part, and the lines that bring in these names and std's words."""
-    names = [*re.findall(r"\b(Rattle(?:\.[\w-]+)+)\.([^\s.,()]+)", tactic), *((WORDS[it], it) for it in re.findall(r"\w+", tactic) if it in WORDS)]
+    """The tactic with full names cut to their last parts, and the lines that bring in these and std's words."""
+    names = re.findall(r"\b(Rattle(?:\.[\w-]+)+)\.([^\s.,()]+)", tactic)
+    names += [(WORDS[it], it) for it in re.findall(r"\w+", tactic) if it in WORDS]
     return re.sub(r"\bRattle(?:\.[\w-]+)+\.", "", tactic), {word: f"use {module}.{{{word}}}\n" for module, word in names}
 
 
@@ -92,7 +91,7 @@ def tried_at(goals, text, arguments):
 
 
 def answers_of(crate, room, mutant):
-    """The answers of the mutant's function, and where they stand, with what is tried at goals that have to refuse it or whose answers don't fit."""
+    """Where the answers of the mutant's function stand, and their text with what is tried in place of some."""
     path = f"proofs/{mutant.function.replace('::', '/')}/Answers.antt"
     head = f"use Rattle.{crate.name}.proofs.{mutant.function.replace('::', '.')}.Goals as goal\n"
     text = text_of(room, path) if os.path.isfile(f"{room}/{path}") else head
@@ -102,7 +101,10 @@ def answers_of(crate, room, mutant):
 
 
 def put_in(crate, room, mutant, is_right=False):
-    """Writes the mutant into the crate's copy, or the right body in its place, with what is tried at its goals; or changes nothing and says why it can't."""
+    """Writes what is tried at the mutant's goals into the crate's copy, and its body, unless the right one is to stay.
+
+    It changes nothing and says why, where it can't.
+    """
     texts = {}
     if not mutant.pairs:
         return "it has no pair of old and new"
