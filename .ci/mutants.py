@@ -11,8 +11,9 @@ TRIED = "grind (arith, common_steps) steps 1000000"
 # The words of std that a page may say without their modules.
 COMMON, LEMMAS = "Rattle.std.proofs.Common", "Rattle.std.proofs.lemmas"
 WORDS = {"arith": COMMON, "rules": COMMON, "tests": COMMON, "common_steps": f"{LEMMAS}.Grind", "nat_tests": f"{LEMMAS}.Bool.Decides"}
-# An answer that is one tactic is not replaced, since it fails at a goal that the mutant breaks; nor is one of which the page says this.
-ONE_TACTIC, KEPT = r"(search|grind|omega|cc)\b[^\n]*\n", "its answer"
+# An answer that is one tactic stays, since that fails at a goal that the mutant breaks. So does one of which the page says
+# `its answer`, or `its answer, cc for c.f.ensures`, with a tactic for a fact in it.
+ONE_TACTIC, STAYS = r"(search|grind|omega|cc)\b[^\n]*\n", r"its answer(?:, (.+) for (\S+))?"
 
 
 @dataclass
@@ -76,14 +77,18 @@ def tried_at(goals, text, arguments):
     """The answers, with what is tried at each of these goals in place of its own."""
     uses = {}
     for goal, by in goals.items():
-        tactic, names = in_words(by or TRIED)
         name = re.escape(goal)
-        own = re.search(rf"^(pub {name} :.*\n(?:(?:  |unfolding ).*\n)*)({name} ([^=\n]*)=\s*(?:.+\n)*)", text, re.MULTILINE)
-        if own and (by == KEPT or not by and re.fullmatch(rf"{name} [^=\n]*=\s*{ONE_TACTIC}", own[2])):
+        own = re.search(rf"^(pub {name} :.*\n(?:(?:  |unfolding ).*\n)*)({name} [^=\n]*=)(\s*(?:.+\n)*)", text, re.MULTILINE)
+        stays = own and re.fullmatch(STAYS, by)
+        if own and (stays and not stays[1] or not by and re.fullmatch(rf"\s*{ONE_TACTIC}", own[3])):
             continue
+        tactic, names = in_words(stays[1] if stays else by or TRIED)
         uses.update(names)
-        if own:
-            text = f"{text[: own.start(2)]}{goal} {own[3]}= {tactic}\n{text[own.end(2) :]}"
+        if stays:
+            own_fact = rf"(?<![\w.-]){re.escape(stays[2])}(?![\w.-])"
+            text = f"{text[: own.start(3)]}{re.sub(own_fact, lambda _: f'({tactic})', own[3])}{text[own.end(3) :]}"
+        elif own:
+            text = f"{text[: own.start(3)]} {tactic}\n{text[own.end(3) :]}"
         else:
             text = f"{text.rstrip()}\n\npub {goal} : goal.{goal}\n{goal} {arguments} = {tactic}\n"
     known = " ".join(re.findall(r"^use .*", text, re.MULTILINE))
