@@ -9,8 +9,12 @@ PARTS = ("src", "specs", "proofs")
 # What is tried at a goal in place of its answer: most of what the check tries where there is none, and it ends sooner.
 TRIED = "grind (arith, common_steps) steps 1000000"
 # The words of std that a page may say without their modules.
-COMMON, LEMMAS = "Rattle.std.proofs.Common", "Rattle.std.proofs.lemmas"
-WORDS = {"arith": COMMON, "rules": COMMON, "tests": COMMON, "common_steps": f"{LEMMAS}.Grind", "nat_tests": f"{LEMMAS}.Bool.Decides"}
+WORDS = {
+    **dict.fromkeys(("arith", "rules", "tests"), "Rattle.std.proofs.Common"),
+    **dict.fromkeys(("common_steps", "elements", "pieces"), "Rattle.std.proofs.lemmas.Grind"),
+    "get_or_read": "Rattle.std.proofs.lemmas.List",
+    "nat_tests": "Rattle.std.proofs.lemmas.Bool.Decides",
+}
 # An answer that is one tactic stays, since that fails at a goal that the mutant breaks. So does one of which the page says
 # `its answer`, or `its answer, cc for c.f.ensures`, with a tactic for a fact in it.
 ONE_TACTIC, STAYS = r"(search|grind|omega|cc)\b[^\n]*\n", r"its answer(?:, (.+) for (\S+))?"
