@@ -16,7 +16,7 @@ WORDS = {
     "nat_tests": "Rattle.std.proofs.lemmas.Bool.Decides",
 }
 # An answer that is one tactic stays, since that fails at a goal that the mutant breaks. So does one of which the page says
-# `its answer`, or `its answer, cc for c.f.ensures`, with a tactic for a fact in it.
+# `its answer`, or `its answer, search rules for c.f.ensures`, with a tactic for a fact in it.
 ONE_TACTIC, STAYS = r"(search|grind|omega|cc)\b[^\n]*\n", r"its answer(?:, (.+) for (\S+))?"
 
 
