@@ -27,8 +27,8 @@ class Mutant:
     pairs: list = field(default_factory=list)
     # The goals that have to refuse it, each of a clause, with what is tried at it where the page says that.
     at: dict = field(default_factory=dict)
-    # The goals whose answers don't fit the mutant.
-    given_up: list = field(default_factory=list)
+    # The goals whose answers don't fit the mutant, with None where it has no such goal.
+    given_up: dict = field(default_factory=dict)
 
 
 def text_of(room, file):
@@ -83,6 +83,9 @@ def tried_at(goals, text, arguments):
     for goal, by in goals.items():
         name = re.escape(goal)
         own = re.search(rf"^(pub {name} :.*\n(?:(?:  |unfolding ).*\n)*)({name} [^=\n]*=)(\s*(?:.+\n)*)", text, re.MULTILINE)
+        if by is None:
+            text = f"{text[: own.start()]}{text[own.end() :]}"
+            continue
         stays = own and re.fullmatch(STAYS, by)
         if own and (stays and not stays[1] or not by and re.fullmatch(rf"\s*{ONE_TACTIC}", own[3])):
             continue
@@ -106,7 +109,8 @@ def answers_of(crate, room, mutant):
     text = text_of(room, path) if os.path.isfile(f"{room}/{path}") else head
     is_known = re.search(r"^\S+ g c\b", text, re.MULTILINE)
     arguments = "g c" if is_known or is_generic(text_of(room, mutant.pairs[0][0]), mutant.function) else "c"
-    return path, tried_at({**dict.fromkeys(mutant.given_up, ""), **mutant.at}, text, arguments)
+    given_up = {goal: by for goal, by in mutant.given_up.items() if f"\npub {goal} :" in text}
+    return path, tried_at({**given_up, **mutant.at}, text, arguments)
 
 
 def put_in(crate, room, mutant, is_right=False):
