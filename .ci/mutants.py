@@ -16,8 +16,8 @@ WORDS = {
     "nat_tests": "Rattle.std.proofs.lemmas.Bool.Decides",
 }
 # An answer that is one tactic stays, since that fails at a goal that the mutant breaks. So does one of which the page says
-# `its answer`, or `its answer, search rules for c.f.ensures`, with a tactic for a fact in it.
-ONE_TACTIC, STAYS = r"(search|grind|omega|cc)\b[^\n]*\n", r"its answer(?:, (.+) for (\S+))?"
+# `its answer`, or `its answer, search rules for c.f.ensures, _ for c.f.result`, with terms for facts in it.
+ONE_TACTIC, STAYS, FOR = r"(search|grind|omega|cc)\b[^\n]*\n", r"its answer((?:, .+? for \S+)*)", r", (.+?) for (\S+?)(?=, |$)"
 
 
 @dataclass
@@ -70,11 +70,18 @@ def is_generic(text, function):
     return bool(re.search(r"[<,] *[A-Z]", (start and start[2] or "") + (block[-1] if block else "")))
 
 
-def in_words(tactic):
-    """The tactic with full names cut to their last parts, and the lines that bring in these and std's words."""
-    names = re.findall(r"\b(Rattle(?:\.[\w-]+)+)\.([^\s.,()]+)", tactic)
-    names += [(WORDS[it], it) for it in re.findall(r"\w+", tactic) if it in WORDS]
-    return re.sub(r"\bRattle(?:\.[\w-]+)+\.", "", tactic), {word: f"use {module}.{{{word}}}\n" for module, word in names}
+def in_words(term):
+    """The term with full names cut to their last parts, and the lines that bring in these and std's words."""
+    names = re.findall(r"\b(Rattle(?:\.[\w-]+)+)\.([^\s.,()]+)", term)
+    names += [(WORDS[it], it) for it in re.findall(r"\w+", term) if it in WORDS]
+    return re.sub(r"\bRattle(?:\.[\w-]+)+\.", "", term), {word: f"use {module}.{{{word}}}\n" for module, word in names}
+
+
+def with_facts(answer, by):
+    """The answer with what the page says for facts in it."""
+    for term, fact in re.findall(FOR, by):
+        answer = re.sub(rf"(?<![\w.-]){re.escape(fact)}(?![\w.-])", lambda _: f"({term})", answer)
+    return answer
 
 
 def tried_at(goals, text, arguments):
@@ -83,21 +90,17 @@ def tried_at(goals, text, arguments):
     for goal, by in goals.items():
         name = re.escape(goal)
         own = re.search(rf"^(pub {name} :.*\n(?:(?:  |unfolding ).*\n)*)({name} [^=\n]*=)(\s*(?:.+\n)*)", text, re.MULTILINE)
+        tried, names = in_words(TRIED if by == "" else by or "")
         if by is None:
             text = f"{text[: own.start()]}{text[own.end() :]}"
+        elif own and by == "" and re.fullmatch(rf"\s*{ONE_TACTIC}", own[3]):
             continue
-        stays = own and re.fullmatch(STAYS, by)
-        if own and (stays and not stays[1] or not by and re.fullmatch(rf"\s*{ONE_TACTIC}", own[3])):
-            continue
-        tactic, names = in_words(stays[1] if stays else by or TRIED)
-        uses.update(names)
-        if stays:
-            own_fact = rf"(?<![\w.-]){re.escape(stays[2])}(?![\w.-])"
-            text = f"{text[: own.start(3)]}{re.sub(own_fact, lambda _: f'({tactic})', own[3])}{text[own.end(3) :]}"
         elif own:
-            text = f"{text[: own.start(3)]} {tactic}\n{text[own.end(3) :]}"
+            new = with_facts(own[3], tried) if re.fullmatch(STAYS, by) else f" {tried}\n"
+            text = f"{text[: own.start(3)]}{new}{text[own.end(3) :]}"
         else:
-            text = f"{text.rstrip()}\n\npub {goal} : goal.{goal}\n{goal} {arguments} = {tactic}\n"
+            text = f"{text.rstrip()}\n\npub {goal} : goal.{goal}\n{goal} {arguments} = {tried}\n"
+        uses.update(names)
     known = " ".join(re.findall(r"^use .*", text, re.MULTILINE))
     return "".join(line for word, line in uses.items() if not re.search(rf"[{{ ]{re.escape(word)}[,}}]", known)) + text
 
