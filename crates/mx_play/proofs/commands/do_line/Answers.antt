@@ -1,4 +1,4 @@
-use Rattle.std.proofs.Common.{rules, string_bytes}
+use Rattle.std.proofs.Common.{string_bytes}
 use Rattle.mx_format.specs.LetterTexts.{letter_text}
 use Rattle.mx_play.proofs.SessionLemmas.{can_return, is_as_before, line_done, line_session, same_holds}
 use Rattle.mx_play.proofs.commands.do_line.Goals as goal
@@ -22,7 +22,7 @@ returns-in_ok-commit-in-Ok-clause-is g c =
 pub truncate-requires : goal.truncate-requires
 truncate-requires g c =
     let s = c.args.setting.now in
-    (first_of (search rules, search (rules, c.requires-raw)), can_return g.C.Exclusion.core s.plan.now s.shape.now c.args.session.now c.repeat.new.session c.event_count-before.result c.requires.is c.in-Err.ensures.err c.event_count-before.ensures)
+    (search c.requires-raw, can_return g.C.Exclusion.core s.plan.now s.shape.now c.args.session.now c.repeat.new.session c.event_count-before.result c.requires.is c.in-Err.ensures.err c.event_count-before.ensures)
 
 pub returns-in_ok-truncate-in-Err : goal.returns-in_ok-truncate-in-Err
 returns-in_ok-truncate-in-Err g c =
@@ -34,3 +34,12 @@ returns-in_ok-truncate-in-Err g c =
       done = record { same = same; printed = c.clear.ensures.bytes };
       is = same_holds g.C.Exclusion.core s.plan.now s.shape.now c.args.session.now c.truncate.new.session same c.requires.is;
     }
+
+pub event_count-before-requires : goal.event_count-before-requires
+event_count-before-requires g c = search c.requires-raw
+
+pub repeat-requires : goal.repeat-requires
+repeat-requires g c = search c.requires-raw
+
+pub commit-requires : goal.commit-requires
+commit-requires g c = search c.requires-raw

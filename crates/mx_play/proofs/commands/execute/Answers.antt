@@ -1,4 +1,4 @@
-use Rattle.std.proofs.Common.{◌≡◌, ◌∙◌, ◌++◌, ap, arith, length, refl, rules, string_bytes, subst, sym}
+use Rattle.std.proofs.Common.{◌≡◌, ◌∙◌, ◌++◌, ap, arith, length, refl, string_bytes, subst, sym}
 use Rattle.std.proofs.lemmas.Grind.{common_steps}
 use Rattle.mx_plan.specs.Text.{Text}
 use Rattle.mx_format.specs.LetterTexts.{letter_text}
@@ -8,11 +8,11 @@ use Rattle.mx_play.proofs.TurnLemmas.{executed_line, executed_redo, executed_und
 use Rattle.mx_play.proofs.commands.execute.Goals as goal
 
 pub do_line-requires : goal.do_line-requires
-do_line-requires g c = (first_of (search rules, search (rules, c.requires-raw)), (c.requires.is, (rw c.in-Does.is at c.requires.over, c.requires.empty)))
+do_line-requires g c = (search c.requires-raw, (c.requires.is, (rw c.in-Does.is at c.requires.over, c.requires.empty)))
 
 pub show-requires : goal.show-requires
 show-requires g c = (
-  first_of (search rules, search (rules, c.requires-raw), grind (arith, common_steps)),
+  grind (arith, common_steps),
   subst (λ (x : SessionState g.row.C.Denot g.row.C-Msg.Denot). length x.state.cluster.members ≡ length c.args.setting.now.plan.now.nodes) (sym c.session.view_is) c.requires.is.members,
 )
 
@@ -38,3 +38,35 @@ pub returns-in_ok-add_mark-in-Mark-clause-executed : goal.returns-in_ok-add_mark
 returns-in_ok-add_mark-in-Mark-clause-executed g c =
     let word = c.in_ok-second_word-in-Mark.field-0.now in
     rw c.in-Mark.is (word, c.in_ok-second_word-in-Mark.ensures, record { same = refl; printed = c.in_ok-add_mark-in-Mark.ensures ∙ ap (λ (l : Text). l ++ mark_line word) c.requires.empty })
+
+pub undo_lines-requires : goal.undo_lines-requires
+undo_lines-requires g c = (search c.requires-raw, c.requires.is)
+
+pub redo_lines-requires : goal.redo_lines-requires
+redo_lines-requires g c = (search c.requires-raw, c.requires.is)
+
+pub add_events-requires : goal.add_events-requires
+add_events-requires g c = grind (arith, common_steps)
+
+pub returns-in_ok-show-in-Show-clause-executed : goal.returns-in_ok-show-in-Show-clause-executed
+returns-in_ok-show-in-Show-clause-executed g c = rw (c.in-Show.is, ← c.session.view_is) (record { same = refl; printed = rw c.requires.empty at c.in_ok-show-in-Show.ensures })
+
+pub returns-in_ok-show-in-Show-clause-is : goal.returns-in_ok-show-in-Show-clause-is
+returns-in_ok-show-in-Show-clause-is g c = c.requires.is
+
+pub returns-in_ok-add_events-in-Events-clause-executed :
+    goal.returns-in_ok-add_events-in-Events-clause-executed
+returns-in_ok-add_events-in-Events-clause-executed g c = rw (c.in-Events.is, ← c.session-in-Events.view_is) (record { same = refl; printed = rw c.requires.empty at c.in_ok-add_events-in-Events.ensures })
+
+pub returns-in_ok-add_events-in-Events-clause-is : goal.returns-in_ok-add_events-in-Events-clause-is
+returns-in_ok-add_events-in-Events-clause-is g c = c.requires.is
+
+pub returns-in_ok-add_mark-in-Mark-clause-is : goal.returns-in_ok-add_mark-in-Mark-clause-is
+returns-in_ok-add_mark-in-Mark-clause-is g c = c.requires.is
+
+pub returns-in_ok-add_words-in-Help-clause-executed :
+    goal.returns-in_ok-add_words-in-Help-clause-executed
+returns-in_ok-add_words-in-Help-clause-executed g c = rw c.in-Help.is (record { same = refl; printed = rw c.requires.empty at c.in_ok-add_words-in-Help.ensures })
+
+pub returns-in_ok-add_words-in-Help-clause-is : goal.returns-in_ok-add_words-in-Help-clause-is
+returns-in_ok-add_words-in-Help-clause-is g c = c.requires.is

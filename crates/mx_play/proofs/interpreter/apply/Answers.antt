@@ -1,4 +1,4 @@
-use Rattle.std.proofs.Common.{arith, refl, rules, subst, sym}
+use Rattle.std.proofs.Common.{arith, refl, subst, sym}
 use Rattle.std.proofs.lemmas.Grind.{common_steps}
 use Rattle.mx_scripts.specs.States.{IsAllowed}
 use Rattle.mx_play.specs.Sessions.{SessionState}
@@ -7,7 +7,7 @@ use Rattle.mx_play.proofs.interpreter.apply.Goals as goal
 
 pub apply_to-requires : goal.apply_to-requires
 apply_to-requires g c = (
-  first_of (search (rules, c.requires-raw), grind (arith, common_steps)),
+  grind (arith, common_steps),
   subst (λ (s : SessionState g.row.C.Denot g.row.C-Msg.Denot). IsAllowed s.state c.args.event.now) (sym c.session.view_is) c.requires.allowed,
 )
 

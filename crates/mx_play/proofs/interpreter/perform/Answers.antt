@@ -1,4 +1,4 @@
-use Rattle.std.proofs.Common.{Option, rules, string_bytes, subst}
+use Rattle.std.proofs.Common.{Option, rules, string_bytes, subst, arith}
 use Rattle.std.specs.Prelude.{IfSome}
 use Rattle.mx_format.specs.LetterTexts.{letter_text}
 use Rattle.mx_scripts.specs.Lines.{IsNext}
@@ -6,6 +6,7 @@ use Rattle.mx_scripts.specs.States.{IsAllowed}
 use Rattle.mx_scripts.specs.declared.state.SessionEvent.{SessionEvent}
 use Rattle.mx_play.specs.Sessions.{SessionState}
 use Rattle.mx_play.proofs.InterpreterLemmas.{adds_extends, extends_more, on_err, performing_end, performing_first, performing_next}
+use borrow.Author.Count.{falls}
 use Rattle.mx_play.proofs.interpreter.perform.Goals as goal
 
 pub loop-count-init : goal.loop-count-init
@@ -51,3 +52,9 @@ pub returns-clause-err : goal.returns-clause-err
 returns-clause-err g c =
     let l = c.loop-count in
     adds_extends g.C.Exclusion.core (letter_text g.C.Msg.Letter.parts) c.args.setting.now.plan.now l.invariant.before c.args.session.now l.session (string_bytes c.args.text.now) (string_bytes l.text) l.invariant.adds
+
+pub next_event-requires : goal.next_event-requires
+next_event-requires g c = search (arith, c.requires-raw)
+
+pub loop-count-smaller : goal.loop-count-smaller
+loop-count-smaller g c = falls 18446744073709551615 c.loop-count.count c.loop-count-test.true

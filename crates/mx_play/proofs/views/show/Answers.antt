@@ -1,4 +1,4 @@
-use Rattle.std.proofs.Common.{◌∙◌, ◌++◌, ap, string_bytes}
+use Rattle.std.proofs.Common.{◌∙◌, ◌++◌, ap, string_bytes, rules}
 use Rattle.mx_network.specs.Step.{ClusterState}
 use Rattle.mx_format.specs.LetterTexts.{letter_text}
 use Rattle.mx_scripts.specs.Fates.{Fates}
@@ -18,3 +18,15 @@ returns g c =
     (standing_lines g.C.Exclusion.core g.C.Knowledge.knows p to m.cluster) (cut_lines p to m.fates.links) (waiting_lines g.C.Exclusion.core (letter_text g.C.Msg.Letter.parts) p to m)
     (c.in_ok-add_standing.ensures ∙ ap (λ (k : ClusterState g.row.C.Denot g.row.C-Msg.Denot). t ++ standing_lines g.C.Exclusion.core g.C.Knowledge.knows p to k) c.cluster.ensures)
     (c.in_ok-add_cuts.ensures ∙ ap (λ (f : Fates). t1 ++ cut_lines p to f.links) c.in_flight.ensures) c.add_waiting.ensures
+
+pub cluster-requires : goal.cluster-requires
+cluster-requires g c = (search rules, search rules)
+
+pub add_standing-requires : goal.add_standing-requires
+add_standing-requires g c = ((cluster-requires g c.before.before).1, rw c.cluster.ensures c.requires)
+
+pub in_flight-requires : goal.in_flight-requires
+in_flight-requires g c = search rules
+
+pub add_waiting-requires : goal.add_waiting-requires
+add_waiting-requires g c = search rules
