@@ -166,13 +166,11 @@ fn draw_act(
 fn side_of_act<C: Exclusion>(cluster: &Cluster<C>, node: NodeId, before: u64) -> Side {
     let mut to_left = false;
     let mut to_right = false;
-    for number in before..cluster.sent() {
-        if let Some(sent) = cluster.sent_parcel(number) {
-            if sent.to.get() > node.get() {
-                to_right = true;
-            } else {
-                to_left = true;
-            }
+    for (_, sent) in cluster.parcels_from(before) {
+        if sent.to.get() > node.get() {
+            to_right = true;
+        } else {
+            to_left = true;
         }
     }
     if to_right && !to_left {

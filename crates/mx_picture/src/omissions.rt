@@ -7,6 +7,7 @@ use crate::part::Part;
 use crate::route::Route;
 use crate::sheet::Sheet;
 use mx_format::Letter;
+use mx_member::SentParcel;
 use mx_network::{Cluster, Entry, Event, Outcome};
 use mx_nodelaws::{Exclusion, Phase};
 use mx_plan::Plan;
@@ -30,22 +31,29 @@ pub(crate) fn is_shown<C: Exclusion>(
         return false;
     }
     let is_own = match &entry.event {
-        Event::Deliver(number) => concerns(cluster, *number, part),
+        Event::Deliver(number) => match cluster.sent_parcel(*number) {
+            Some(sent) => concerns(&sent, part),
+            None => false,
+        },
         event => part.has_node(event.node().unwrap_or_default()),
     };
-    is_own || (before..cluster.sent()).any(|number| concerns(cluster, number, part))
+    is_own || is_any_near(cluster, before, part)
 }
 
-/// Returns whether the parcel of this number is from or to a shown node, and is a letter if only
-/// letters are shown.
-pub(crate) fn concerns<C: Exclusion>(cluster: &Cluster<C>, number: u64, part: &Part) -> bool {
-    match cluster.sent_parcel(number) {
-        Some(sent) => {
-            let is_near = part.has_node(sent.from) || part.has_node(sent.to);
-            is_near && (!part.only_letters || is_letter(sent.parcel))
+/// Returns whether one of the parcels from the number `before` on is of the drawn part.
+fn is_any_near<C: Exclusion>(cluster: &Cluster<C>, before: u64, part: &Part) -> bool {
+    for (_, sent) in cluster.parcels_from(before) {
+        if concerns(&sent, part) {
+            return true;
         }
-        None => false,
     }
+    false
+}
+
+/// Returns whether a parcel is from or to a shown node, and is a letter if only letters are shown.
+pub(crate) fn concerns<M>(sent: &SentParcel<'_, M>, part: &Part) -> bool {
+    let is_near = part.has_node(sent.from) || part.has_node(sent.to);
+    is_near && (!part.only_letters || is_letter(sent.parcel))
 }
 
 /// Takes note of the newest event, which is not shown. After the drawn part it changes no phase.

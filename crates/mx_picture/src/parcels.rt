@@ -58,15 +58,13 @@ pub(crate) fn draw_sent<C: Exclusion>(
 where
     C::Msg: Letter,
 {
-    for number in before..cluster.sent() {
-        if let Some(sent) = cluster.sent_parcel(number) {
-            let is_shown = is_event_shown && concerns(cluster, number, &drawing.part);
-            drawing
-                .sheet
-                .send(is_shown, is_original(event, sent.parcel))?;
-            if is_shown && !drawing.arriving.contains(&number) {
-                draw_loss(plan, number, &sent, drawing)?;
-            }
+    for (number, sent) in cluster.parcels_from(before) {
+        let is_shown = is_event_shown && concerns(&sent, &drawing.part);
+        drawing
+            .sheet
+            .send(is_shown, is_original(event, sent.parcel))?;
+        if is_shown && !drawing.arriving.contains(&number) {
+            draw_loss(plan, number, &sent, drawing)?;
         }
     }
     Ok(())
