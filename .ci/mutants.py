@@ -15,9 +15,9 @@ WORDS = {
     "get_or_read": "Rattle.std.proofs.lemmas.List",
     "nat_tests": "Rattle.std.proofs.lemmas.Bool.Decides",
 }
-# An answer that is one tactic stays, since that fails at a goal that the mutant breaks. So does one of which the page says
-# `its answer`, or `its answer, search rules for c.f.ensures, _ for c.f.result`, with terms for facts in it.
-ONE_TACTIC, STAYS, FOR = r"(search|grind|omega|cc)\b[^\n]*\n", r"its answer((?:, .+? for \S+)*)", r", (.+?) for (\S+?)(?=, |$)"
+# An answer that is one tactic stays, since that fails at a goal that the mutant breaks. A page may say more of an answer:
+# `its answer, search rules for c.f.ensures, _ for c.f.result`, with terms for facts in it, or `cc (its answer)`.
+ONE_TACTIC, ITS, FOR = r"(search|grind|omega|cc)\b[^\n]*\n", "its answer", r", (.+?) for (\S+?)(?=, |$)"
 
 
 @dataclass
@@ -77,11 +77,14 @@ def in_words(term):
     return re.sub(r"\bRattle(?:\.[\w-]+)+\.", "", term), {word: f"use {module}.{{{word}}}\n" for module, word in names}
 
 
-def with_facts(answer, by):
-    """The answer with what the page says for facts in it."""
+def in_place_of(answer, by):
+    """What the page says for an answer, which may speak of that answer."""
+    if ITS not in by:
+        return f" {by}\n"
     for term, fact in re.findall(FOR, by):
         answer = re.sub(rf"(?<![\w.-]){re.escape(fact)}(?![\w.-])", lambda _: f"({term})", answer)
-    return answer
+    around = re.sub(FOR, "", by)
+    return answer if around == ITS else f" {around.replace(ITS, answer.strip())}\n"
 
 
 def tried_at(goals, text, arguments):
@@ -96,8 +99,7 @@ def tried_at(goals, text, arguments):
         elif own and by == "" and re.fullmatch(rf"\s*{ONE_TACTIC}", own[3]):
             continue
         elif own:
-            new = with_facts(own[3], tried) if re.fullmatch(STAYS, by) else f" {tried}\n"
-            text = f"{text[: own.start(3)]}{new}{text[own.end(3) :]}"
+            text = f"{text[: own.start(3)]}{in_place_of(own[3], tried)}{text[own.end(3) :]}"
         else:
             text = f"{text.rstrip()}\n\npub {goal} : goal.{goal}\n{goal} {arguments} = {tried}\n"
         uses.update(names)
