@@ -17,7 +17,7 @@ use Rattle.mx_cli.proofs.FrameLemmas.{prints_as}
 use Rattle.mx_explain.specs.Explained.{IsExplanation, IsTextReport, IsToldOf, is_told, told_as}
 use Rattle.mx_explain.specs.Reports.{AreShown, last_line, nothing_at_fault}
 
--- ---- files of which nothing is printed
+-- ---- files that print nothing
 
 same_end : (e : End) → end_for false e ≡ e
 same_end (has_status status) = refl

@@ -36,8 +36,8 @@ impl Command for Script {
     }
 }
 
-/// Prints the file of a script, as `Script` does. The recorder is told of each event, and of the
-/// line that is refused, unless the script is not UTF-8.
+/// Prints the file of a script, as `Script` does. The recorder is told of each event and of the
+/// refused line. Of a script that is not UTF-8, it is told nothing.
 ///
 /// # Errors
 ///
