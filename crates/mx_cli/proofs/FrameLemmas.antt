@@ -190,9 +190,9 @@ module _ (R : Report → Type 0) (names : Text × Text) (t u : Bool) (old new : 
   closed (comes_to end) (inl early) same h = absurd early.0
   closed (comes_to end) (inr shown) same h =
       at_end shown.0 shown.1 shown.2.1 same h.0 (subst (λ e. ClosesAs names t u (comes_to e) middle new status) (sym shown.2.0) h.1)
-  closed is_refused (inl early) same h = inl (keeps_on old.out mid new.out early.1 h.0, inr (h.1.0, early.0, h.1.1))
+  closed is_refused (inl early) same h = inl (keeps_on old.out mid new.out early.1 h.0, inr (h.1.0, early.0, h.1.2 ∙ same, h.1.1))
   closed is_refused (inr shown) same h =
-      inr (shown.0, shown.1, inr (inl (some_keeps old.out mid new.out shown.0.texts shown.2.1 h.0, inr (h.1.0, shown.2.0, h.1.1))))
+      inr (shown.0, shown.1, inr (inl (some_keeps old.out mid new.out shown.0.texts shown.2.1 h.0, inr (h.1.0, shown.2.0, h.1.2 ∙ same, h.1.1))))
   closed is_short (inl early) same h = inl (keeps_on old.out mid new.out early.1 h.0, falls_short same h.1)
   closed is_short (inr shown) same h =
       inr (shown.0, shown.1, inr (inl (some_keeps old.out mid new.out shown.0.texts shown.2 h.0, falls_short same h.1)))

@@ -143,9 +143,15 @@ abbrev pub RunsOut : Seen → Seen → ℕ → Type 0
 RunsOut old new status =
     (status ≡ 5) × MayReport old.err new.err × (new.refused ≡ old.refused)
 
--- an output refused: status 1. One that takes all bytes never refuses
+-- standard output refused: status 1. An output that takes all bytes never refuses
 abbrev pub Refuses : Bool → Seen → Seen → ℕ → Type 0
-Refuses takes_all old new status = (status ≡ 1) × (takes_all ≡ false) × Keeps old.err new.err
+Refuses takes_out old new status =
+    (status ≡ 1) × (takes_out ≡ false) × (new.refused ≡ true) × Keeps old.err new.err
+
+-- standard error refused the line of the end: status 1
+abbrev pub RefusesLine : Bool → Seen → Seen → ℕ → Type 0
+RefusesLine takes_line old new status =
+    (status ≡ 1) × (takes_line ≡ false) × Keeps old.err new.err
 
 -- whether standard error takes the text of this end, which is nothing if there is a status
 abbrev pub takes_end : Bool → End → Bool
@@ -173,9 +179,9 @@ pub record ClosesWell (names : Text × Text) (end : End) (old new : Seen)
 abbrev pub ClosesAs : Text × Text → Bool → Bool → Course → Seen → Seen → ℕ → Type 0
 ClosesAs names takes_out takes_err (comes_to end) old new status =
     ClosesWell names end old new status ⊎ RunsOut old new status
-    ⊎ Refuses takes_out old new status ⊎ Refuses (takes_end takes_err end) old new status
+    ⊎ Refuses takes_out old new status ⊎ RefusesLine (takes_end takes_err end) old new status
 ClosesAs names takes_out takes_err is_refused old new status =
-    (status ≡ 1) × Keeps old.err new.err
+    (status ≡ 1) × Keeps old.err new.err × (new.refused ≡ old.refused)
 ClosesAs names takes_out takes_err is_short old new status =
     RunsOut old new status ⊎ Refuses takes_out old new status
 
@@ -211,7 +217,7 @@ PrintsSome takes_out takes_err r old new status =
     (AppendsSome old.out new.out r.texts
     × (RunsOut old new status ⊎ Refuses takes_out old new status))
     ⊎ (Appends old.out new.out (concat r.texts)
-    × Refuses (takes_end takes_err r.end) old new status)
+    × RefusesLine (takes_end takes_err r.end) old new status)
 
 abbrev pub PrintsReport : Bool → Bool → Text × Text → Report → Seen → Seen → ℕ → Type 0
 PrintsReport takes_out takes_err names r old new status =

@@ -1,5 +1,5 @@
 -- What the two outputs get for help, for wrong words, for a fault, and if memory ran out.
-use Rattle.std.specs.Prelude.{◌≡◌, ◌⊎◌, ℕ, Bool, List, false}
+use Rattle.std.specs.Prelude.{◌≡◌, ◌⊎◌, ℕ, Bool, List, false, true}
 use Rattle.std.specs.Io.KnownBytes.{Appends, Keeps}
 use Rattle.clap.specs.Words.{App}
 use Rattle.mx_plan.specs.Text.{Text}
@@ -43,7 +43,7 @@ RunsOut old new status =
 abbrev pub Helps : Bool → Seen → Seen → ℕ → Type 0
 Helps takes_all old new status =
     ((status ≡ 0) × Keeps old.err new.err × (new.kept_back ≡ false))
-    ⊎ ((status ≡ 1) × (takes_all ≡ false) × Keeps old.err new.err)
+    ⊎ ((status ≡ 1) × (takes_all ≡ false) × (new.refused ≡ true) × Keeps old.err new.err)
     ⊎ ((status ≡ 5) × MayReport old.err new.err × (new.refused ≡ old.refused))
 
 -- how wrong words end: with status 2, or with 5 if memory ran out; standard output got nothing

@@ -6,6 +6,8 @@
 #[cfg(test)]
 mod live_runs;
 #[cfg(test)]
+mod noted_reads;
+#[cfg(test)]
 mod refused_outputs;
 #[cfg(test)]
 mod workers;

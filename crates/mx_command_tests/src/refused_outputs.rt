@@ -7,7 +7,7 @@ use std::alloc::Global;
 use std::rt::Clock;
 use std::thread::Threads;
 
-const RICART: &str =
+pub(crate) const RICART: &str =
     "{\"algorithm\":\"ricart\",\"nodes\":[\"a\",\"b\",\"c\"],\"registers\":[\"count\"],\"sections\":10}";
 
 /// An output that takes `room` texts, and refuses the next, or else the flush, with this fault.

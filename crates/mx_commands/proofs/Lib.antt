@@ -1,5 +1,6 @@
 pub mod RunLemmas
 pub mod SinkLemmas
 pub mod EventLemmas
-pub mod ExploreLemmas
 pub mod ReplayLemmas
+pub mod ShownLemmas
+pub mod ViewedLemmas

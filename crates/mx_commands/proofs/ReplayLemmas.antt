@@ -1,15 +1,18 @@
--- What `check`, `replay` and `explore` print, from what their parts do.
-use Rattle.std.proofs.Common.{◌≡◌, ◌∙◌, ◌⊎◌, ℕ, List, Result, Ok, Err, ap, ap₂, inl, inr, sym}
+-- What `replay` prints, from what its parts do.
+use Rattle.std.proofs.Common.{◌≡◌, ◌∙◌, ◌⊎◌, ◌++◌, List, Result, Ok, Err, ap, append_assoc, inl, inr, sym}
 use Rattle.mx_events.specs.declared.event.Event.{Event}
 use Rattle.mx_plan.specs.Text.{Text}
 use Rattle.mx_plan.specs.Fields.{Fields}
 use Rattle.mx_plan.specs.Events.{events_at}
 use Rattle.mx_plan.specs.declared.faults.PlanFault.{PlanFault}
 use Rattle.mx_plan.specs.declared.faults.PlanFault.TheVariants as plan_fault
+use Rattle.mx_explorer.specs.declared.verdict.Verdict.{Verdict}
+use Rattle.mx_explorer.specs.declared.verdict.Verdict.TheVariants.{Sound}
 use Rattle.mx_commands.specs.Jobs.{run_by, where_read}
-use Rattle.mx_cli.specs.Printing.{IsReport, IsWhole, Prints, Report, Sight, stop_at, whole}
+use Rattle.mx_commands.specs.VerdictLines.{verdict_line}
+use Rattle.mx_cli.specs.Printing.{IsReport, Prints, Report, Sight, stop_at}
 use Rattle.mx_cli.specs.declared.stop.Stop.{Stop}
-use Rattle.mx_cli.proofs.FrameLemmas.{prints_as, text_prints}
+use Rattle.mx_cli.proofs.FrameLemmas.{text_prints}
 use Rattle.mx_commands.specs.Commands.{IsReplay}
 
 module _ (p : Fields) (text : Text) where
@@ -22,7 +25,7 @@ module _ (p : Fields) (text : Text) where
   no_replay fault o s (inl read) is = text_prints (IsReplay p text) o s fault (inl (ap (λ (t : Result (List Event) PlanFault). where_read t (run_by p p.shape)) (sym read))) is
   no_replay fault o s (inr out) is = text_prints (IsReplay p text) o s fault (inr out) is
 
--- one text that is printed, with a status that is 0
-pub sound_prints : (a b : Text) (status : ℕ) (o n : Sight) (res : Result ℕ Stop) → a ≡ b → status ≡ 0 → Prints (IsWhole a status) o n res → Prints (IsWhole b 0) o n res
-sound_prints a b status o n res same zero h =
-    prints_as (IsWhole a status) (IsWhole b 0) (λ r is. is ∙ ap₂ whole same zero) o n res h
+-- a text, and then the line of a verdict that is sound
+pub with_verdict : (t t1 t2 a : Text) (v : Verdict) → v ≡ Sound → t1 ≡ t ++ a → t2 ≡ t1 ++ verdict_line v → t2 ≡ t ++ (a ++ verdict_line Sound)
+with_verdict t t1 t2 a v sound first second =
+    second ∙ ap (λ (x : Verdict). t1 ++ verdict_line x) sound ∙ ap (λ (x : Text). x ++ verdict_line Sound) first ∙ append_assoc t a (verdict_line Sound)

@@ -23,10 +23,8 @@ use Rattle.mx_cli.specs.declared.stop.Stop.TheVariants as stop
 use Rattle.mx_cli.specs.declared.faults.Fault.TheVariants.{NoParcel}
 use Rattle.mx_io.specs.declared.output.OutputFault.{OutputFault}
 use Rattle.mx_io.specs.declared.output.OutputFault.TheVariants as output_fault
-use Rattle.mx_format.specs.EventTexts.{event_line}
-use Rattle.mx_format.specs.ParcelTexts.{parcel_lines}
 use Rattle.mx_cli.proofs.OutputLemmas.{some_keeps}
-use Rattle.mx_commands.specs.Runs.{AllNameNodes, NamesNodes, StopsAt, Texts, after_texts, at_rest, event_lines, report_from, stepped, text_of}
+use Rattle.mx_commands.specs.Runs.{AllNameNodes, NamesNodes, StopsAt, Texts, after_texts, at_rest, report_from, stepped}
 use Rattle.mx_io.specs.Outputs.{Held, refused_by}
 use Rattle.mx_cli.specs.Printing.{AppendsSome, Course, End, IsReport, Prints, Report, ShowsOne, Sight, comes_to, course_of, ends, has_fault, refused_on, stop_of, whole}
 
@@ -83,22 +81,6 @@ pub named_at : (n : ℕ) (es : List Event) (k : ℕ) (d : Event) → AllNameNode
 named_at n [] k d all lt = absurd (omega (arith, lt))
 named_at n (e ∷ es) zero d all lt = all.0
 named_at n (e ∷ es) (suc k) d all lt = named_at n es k d all.1 (omega (arith, lt))
-
--- the text of one event, by what was appended
-text_is : {H S M : Type 0} (core : Core H S M) (letter : Fields → M → Text) (p : Fields) (k n : ℕ) (old new : ClusterState S M) (x : Entry) (t0 t1 t2 : Text)
-    → new.trace ≡ old.trace ++ x ∷ [] → n ≡ length old.sent → t1 ≡ t0 ++ event_line p k x.event x.outcome → t2 ≡ t1 ++ parcel_lines letter p n (drop n new.sent)
-    → t2 ≡ t0 ++ text_of core letter p k old new
-text_is core letter p k n old new x t0 t1 t2 trace count line parcels =
-    let one : event_lines p k (drop (length old.trace) new.trace) ≡ event_line p k x.event x.outcome =
-    ap (event_lines p k) (ap (drop (length old.trace)) trace ∙ drop_at old.trace _ (length old.trace) refl) ∙ append_nil (event_line p k x.event x.outcome) in
-    parcels ∙ ap₂ (λ (l : Text) (m : ℕ). l ++ parcel_lines letter p m (drop m new.sent)) (line ∙ ap (λ (l : Text). t0 ++ l) (sym one)) count
-    ∙ append_assoc t0 (event_lines p k (drop (length old.trace) new.trace)) (parcel_lines letter p (length old.sent) (drop (length old.sent) new.sent))
-
-pub text_on : {T E H S M : Type 0} (core : Core H S M) (letter : Fields → M → Text) (p : Fields) (k n : ℕ) (old new : ClusterState S M) (x : Entry) (r : Result T E) (t0 t1 t2 : Text)
-    → new.trace ≡ old.trace ++ x ∷ [] → n ≡ length old.sent → t1 ≡ t0 ++ event_line p k x.event x.outcome → OnOk r (t2 ≡ t1 ++ parcel_lines letter p n (drop n new.sent))
-    → OnOk r (t2 ≡ t0 ++ text_of core letter p k old new)
-text_on core letter p k n old new x (Ok t) t0 t1 t2 trace count line parcels = text_is core letter p k n old new x t0 t1 t2 trace count line parcels
-text_on core letter p k n old new x (Err e) t0 t1 t2 trace count line parcels = tt
 
 -- a list that ends by an item has one
 pub has_newest : (xs front : List Entry) (x : Entry) → xs ≡ front ++ x ∷ [] → 0 < length xs

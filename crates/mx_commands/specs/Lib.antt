@@ -1,9 +1,11 @@
--- VerdictLines: the lines of verdicts. Runs: the report of a run of events. Sinks: what a sink
--- prints of a run. Explored: the text of an exploration. Jobs: the report of the events in a text.
--- Commands: what `check`, `replay` and `explore` print.
+-- VerdictLines: verdicts. Runs: the report of a run of events, and the lines of a replay. Sinks: what
+-- a sink prints of a run. Jobs: the report of the events in a text. Commands: what `check` and
+-- `replay` print without options of a view. Shown: what a view shows of a run. Viewed: what `replay`
+-- prints.
 pub mod VerdictLines
 pub mod Runs
 pub mod Sinks
-pub mod Explored
 pub mod Jobs
 pub mod Commands
+pub mod Shown
+pub mod Viewed

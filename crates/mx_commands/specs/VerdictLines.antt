@@ -5,7 +5,6 @@ use Rattle.mx_explorer.specs.declared.verdict.Clause.TheVariants.{Overlap, Numbe
 use Rattle.mx_explorer.specs.declared.verdict.Verdict.{Verdict}
 use Rattle.mx_explorer.specs.declared.verdict.Verdict.TheVariants.{Sound, Broken}
 use Rattle.mx_plan.specs.Text.{Text, line_feed}
-use Rattle.mx_format.specs.Members.{number_member, word_member}
 
 abbrev pub clause_text : Clause → Text
 clause_text Overlap = codes "overlap"
@@ -25,8 +24,8 @@ verdict_status (Broken k clause) = 4
 
 abbrev pub broken_json : ℕ → Text → Text
 broken_json k clause =
-    codes "{\"verdict\":\"broken\"" ++ number_member (codes "index") k
-    ++ word_member (codes "clause") clause ++ codes "}\n"
+    codes "{\"verdict\":\"broken\",\"index\":" ++ decimal k ++ codes ",\"clause\":\"" ++ clause
+    ++ codes "\"}\n"
 
 abbrev pub verdict_json : Verdict → Text
 verdict_json Sound = codes "{\"verdict\":\"sound\"}\n"

@@ -1,32 +1,28 @@
-//! The lines of a replay.
+//! The sink of a replay: it appends what a view shows of each event of a run, and of the end.
 
-ghost use Rattle.std.specs.Prelude.{◌≡◌, ◌<◌, ◌≤◌, [], ◌∷◌, ◌++◌, length, string_bytes, IfOk, OnOk};
+ghost use Rattle.std.specs.Prelude.{◌≡◌, ◌<◌, ◌≤◌, List, [], ◌∷◌, ◌++◌, drop, length, string_bytes, IfOk, OnOk};
 ghost use Rattle.mx_network.specs.Step.{ClusterState};
 ghost use Rattle.mx_trace.specs.declared.outcome.Entry.{Entry};
-ghost use Rattle.mx_format.specs.LetterTexts.{letter_text};
-ghost use Rattle.mx_commands.specs.Runs.{closing_text, lines, text_of};
+ghost use Rattle.mx_format.specs.Lines.{texts_from};
+ghost use Rattle.mx_commands.specs.Shown.{shown_closing, shown_entry, shown_parcel, step_text, view_texts};
 
-use crate::cluster_lines::{add_nodes, add_parcels};
 use crate::runs::newest;
 use crate::sink::Sink;
-use crate::verdicts::{VerdictLine, verdict_status};
-use mx_explorer::{Verdict, judge};
-use mx_format::{EventLine, Letter};
-use mx_network::Cluster;
+use crate::verdicts::verdict_status;
+use crate::view::View;
+use mx_format::{EventLine, Letter, add_event_json, add_parcel_json, add_parcel_line};
+use mx_knowledge::Knowledge;
+use mx_member::SentParcel;
+use mx_network::{Cluster, Entry};
 use mx_nodelaws::Exclusion;
 use mx_plan::Plan;
 use std::alloc::{AllocError, Global};
 
-/// The sink that prints a line for each event and for each parcel that the event sent, and at the
-/// end a line for each node and one for the verdict.
-#[derive(Clone, Copy)]
-pub struct Lines;
-
-impl<C: Exclusion> Sink<Cluster<C>> for Lines
+impl<C: Exclusion + Knowledge> Sink<Cluster<C>> for View
 where
     C::Msg: Letter,
 {
-    ghost texts = { λ _ p. lines C.core (letter_text C.Msg.parts) p };
+    ghost texts = { λ view p. view_texts C.core C.Msg.parts p view C.knows };
 
     fn event(
         &mut self,
@@ -41,53 +37,117 @@ where
         ensures text { (old : ClusterState C C.Msg) (entry : Entry)
             → cluster.now.trace ≡ old.trace ++ entry ∷ [] → before ≡ length old.sent
             → OnOk result (string_bytes text.new ≡ string_bytes text.old
-            ++ text_of C.core (letter_text C.Msg.parts) plan.now index old cluster.now) }
+            ++ step_text C.Msg.parts plan.now self.old index old cluster.now) }
         ensures stays { self.new ≡ self.old }
     {
-        let entry = newest(cluster.trace());
-        text.write(EventLine {
-            plan,
-            index,
-            event: &entry.event,
-            outcome: &entry.outcome,
-        })?;
-        add_parcels(plan, cluster, before, text)
+        if self.is_quiet {
+            return Ok(());
+        }
+        self.add_newest(plan, index, before, cluster, text)
     }
 
     fn end(
         &mut self,
-        _alloc: Global,
+        alloc: Global,
         plan: &Plan,
         cluster: &Cluster<C>,
         text: &mut String,
     ) -> Result<u8, AllocError>
         requires members { length cluster.now.members ≡ length plan.now.nodes }
         ensures text { OnOk result (string_bytes text.new ≡ string_bytes text.old
-            ++ closing_text C.core (letter_text C.Msg.parts) plan.now cluster.now) }
+            ++ shown_closing plan.now self.old C.core C.knows cluster.now) }
         ensures zero { IfOk result (λ status. status ≡ 0) }
     {
-        let verdict = add_closing(plan, cluster, text)?;
+        let verdict = self.add_closing(alloc, plan, cluster, text)?;
         Ok(verdict_status(verdict))
     }
 }
 
-/// Appends the closing lines of a run, one for each node and one for the verdict. Returns the
-/// verdict.
-pub fn add_closing<C: Exclusion>(
-    plan: &Plan,
-    cluster: &Cluster<C>,
-    text: &mut String,
-) -> Result<Verdict, AllocError>
-where
-    C::Msg: Letter,
-    requires { length cluster.now.members ≡ length plan.now.nodes }
-    ensures text { OnOk result (string_bytes text.new
-        ≡ string_bytes text.old
-        ++ closing_text C.core (letter_text C.Msg.parts) plan.now cluster.now) }
-    ensures sound { IfOk result (λ verdict. verdict ≡ Verdict.Sound) }
-{
-    add_nodes(plan, cluster, text)?;
-    let verdict = judge(cluster.trace());
-    text.write(VerdictLine(verdict))?;
-    Ok(verdict)
+impl View {
+    fn add_newest<C: Exclusion>(
+        &self,
+        plan: &Plan,
+        index: u64,
+        before: u64,
+        cluster: &Cluster<C>,
+        text: &mut String,
+    ) -> Result<(), AllocError>
+    where
+        C::Msg: Letter,
+        requires { 0 < length cluster.now.trace }
+        ensures { (front : List Entry) (entry : Entry)
+            → cluster.now.trace ≡ front ++ entry ∷ []
+            → OnOk result (string_bytes text.new ≡ string_bytes text.old
+            ++ (shown_entry plan.now self.now cluster.now.sent index entry
+            ++ texts_from (shown_parcel plan.now self.now C.Msg.parts) before
+            (drop before cluster.now.sent))) }
+    {
+        self.add_event(plan, index, cluster, newest(cluster.trace()), text)?;
+        self.add_parcels(plan, cluster, before, text)
+    }
+
+    fn add_event<C: Exclusion>(
+        &self,
+        plan: &Plan,
+        index: u64,
+        cluster: &Cluster<C>,
+        entry: &Entry,
+        text: &mut String,
+    ) -> Result<(), AllocError>
+        ensures { OnOk result (string_bytes text.new ≡ string_bytes text.old
+            ++ shown_entry plan.now self.now cluster.now.sent index entry.now) }
+    {
+        if !self.shows_event(cluster, &entry.event) {
+            return Ok(());
+        }
+        if self.is_json {
+            return add_event_json(plan, index, entry, text);
+        }
+        text.write(EventLine {
+            plan,
+            index,
+            event: &entry.event,
+            outcome: &entry.outcome,
+        })
+    }
+
+    /// Appends what is shown of the parcels from the number `before` on.
+    pub fn add_parcels<C: Exclusion>(
+        &self,
+        plan: &Plan,
+        cluster: &Cluster<C>,
+        before: u64,
+        text: &mut String,
+    ) -> Result<(), AllocError>
+    where
+        C::Msg: Letter,
+        ensures { OnOk result (string_bytes text.new ≡ string_bytes text.old
+            ++ texts_from (shown_parcel plan.now self.now C.Msg.parts) before
+            (drop before cluster.now.sent)) }
+    {
+        for (number, sent) in cluster.parcels_from(before) {
+            self.add_sent(plan, number, &sent, text)?;
+        }
+        Ok(())
+    }
+
+    fn add_sent<M: Letter>(
+        &self,
+        plan: &Plan,
+        number: u64,
+        sent: &SentParcel<'_, M>,
+        text: &mut String,
+    ) -> Result<(), AllocError>
+        ensures { OnOk result (string_bytes text.new ≡ string_bytes text.old
+            ++ shown_parcel plan.now self.now M.parts number
+            (sent.now.from, sent.now.to, sent.now.parcel.now)) }
+    {
+        if !self.shows_parcel(sent) {
+            return Ok(());
+        }
+        if self.is_json {
+            return add_parcel_json(plan, number, sent, text);
+        }
+        add_parcel_line(plan, number, sent, text)
+    }
 }

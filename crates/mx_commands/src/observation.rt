@@ -25,6 +25,8 @@ impl Output for NullOutput {
 
     ghost has_refused = { λ _. false };
 
+    ghost keeps_back = { λ _. false };
+
     fn put(&mut self, _text: &[u8]) -> Result<(), OutputFault> {
         Ok(())
     }

@@ -11,14 +11,13 @@ use Rattle.mx_explorer.specs.declared.verdict.Verdict.{Verdict}
 use Rattle.mx_explorer.specs.declared.verdict.Verdict.TheVariants.{Sound}
 use Rattle.mx_plan.specs.Text.{Text}
 use Rattle.mx_format.specs.Lines.{each_text}
-use Rattle.mx_commands.specs.Explored.{is_entry}
 use Rattle.mx_commands.specs.VerdictLines.{verdict_text}
 use Rattle.mx_count.specs.Counted.{cluster_text, details_text, first_text}
 use Rattle.mx_count.specs.Counts.{all_parcels_text, all_refusals_text, parcels_text, tallies_text, times_text}
 use Rattle.mx_count.specs.Waits.{longest_wait}
 use Rattle.mx_count.specs.Kinds.{gossip_names, is_under, letter_names, other_names}
 use Rattle.mx_count.specs.Measures.{measure_text}
-use Rattle.mx_count.specs.NodeCounts.{entries_of, node_tallies, received_of, refused_of, sent_of}
+use Rattle.mx_count.specs.NodeCounts.{entries_of, is_entry, node_tallies, received_of, refused_of, sent_of}
 use Rattle.mx_count.specs.Tallies.{counts_end, kind_indent, part_indent, share_text, tally, tally_text}
 use Rattle.mx_count.specs.declared.counted_run.Options.{Options}
 use Rattle.mx_count.specs.declared.measures.Measure.TheVariants.{Response, Delay}

@@ -1,4 +1,4 @@
--- What is printed of counts, from what was read, drawn or run.
+-- What is printed of counts, from what was read or run.
 use Rattle.std.proofs.Common.{◌≡◌, ◌⊎◌, ◌<◌, ℕ, Bool, List, Option, Some, None, Result, Err, IfSome, ap, inl, inr, length, refl, slice_get, subst, sym, take}
 use Rattle.std.specs.Prelude.{IsErr, is_err}
 use Rattle.mx_nodelaws.specs.Core.{Core}
@@ -17,7 +17,6 @@ use Rattle.mx_cli.specs.declared.stop.Stop.{Stop}
 use Rattle.mx_cli.proofs.FrameLemmas.{fault_prints, memory_prints, text_prints}
 use Rattle.mx_count.specs.Counted.{StopsWith, stop_of_step}
 use Rattle.mx_count.specs.Printed.{IsCount, IsCountFrom, IsCountRead}
-use Rattle.mx_count.specs.declared.counted_run.EventSource.TheVariants.{Given}
 use Rattle.mx_count.specs.declared.counted_run.Options.{Options}
 
 -- ---- events that stop
@@ -30,15 +29,15 @@ fails {G} wanted fault (Some e) other (inl memory) = absurd (other memory.0)
 fails {G} wanted fault (Some e) other (inr is) = ap is_err is
 
 module _ {H S M : Type 0} (core : Core H S M) (start : ClusterState S M) (es : List Event) where
-  -- given events stop at event k
+  -- events stop at event k
   pub run_stops : (g : ClusterState S M) (k : ℕ) (fault : StepFault) → k < length es → RunsTo core start (take k es) g → IfSome (slice_get es k) (λ e. IsFaultOf (step_of core g e) fault)
-      → StopsWith Given core start es (stop_of_step k fault)
+      → StopsWith core start es (stop_of_step k fault)
   run_stops g k step_fault.Memory below runs why = inl refl
   run_stops g k step_fault.NoNode below runs why = inr (k, refl, (below, (g, runs, fails (step_of core g) step_fault.NoNode (slice_get es k) (λ is. cc) why)))
   run_stops g k step_fault.NoParcel below runs why = inr (k, refl, (below, (g, runs, fails (step_of core g) step_fault.NoParcel (slice_get es k) (λ is. cc) why)))
 
   -- no counts
-  pub count_stops : (kind_text : M → Text) (words : List Text) (options : Options) (p : Fields) (o : Sight) (s : Stop) → StopsWith options.source core start es s
+  pub count_stops : (kind_text : M → Text) (words : List Text) (options : Options) (p : Fields) (o : Sight) (s : Stop) → StopsWith core start es s
       → Prints (IsCountFrom core kind_text words options p es start) o o (Err s)
   count_stops kind_text words options p o s (inl memory) = rw memory (memory_prints (IsCountFrom core kind_text words options p es start) o)
   count_stops kind_text words options p o s (inr stops) =

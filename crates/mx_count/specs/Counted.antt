@@ -10,14 +10,13 @@ use Rattle.mx_explorer.specs.declared.verdict.Verdict.TheVariants.{Sound}
 use Rattle.mx_plan.specs.Text.{Text}
 use Rattle.mx_plan.specs.Fields.{Fields}
 use Rattle.mx_format.specs.PlanTexts.{explored_line}
-use Rattle.mx_commands.specs.Explored.{after_drawn, is_entry}
 use Rattle.mx_commands.specs.VerdictLines.{verdict_text}
 use Rattle.mx_format.specs.Members.{number_member, number_start}
 use Rattle.mx_cli.specs.declared.faults.Fault.TheVariants.{NoParcel}
 use Rattle.mx_cli.specs.declared.stop.Stop.{Stop}
 use Rattle.mx_cli.specs.declared.stop.Stop.TheVariants as stop
 use Rattle.mx_count.specs.Counts.{tallies_text}
-use Rattle.mx_count.specs.NodeCounts.{nodes_text}
+use Rattle.mx_count.specs.NodeCounts.{is_entry, nodes_text}
 use Rattle.mx_count.specs.Tallies.{counts_end, first_tally_text, tally_text}
 use Rattle.mx_count.specs.declared.counted_run.EventSource.{EventSource}
 use Rattle.mx_count.specs.declared.counted_run.Options.{Options}
@@ -68,21 +67,12 @@ counts_text kind_text words options p events g =
     cluster_text kind_text words options events g ++ all_nodes_text options p g
     ++ verdict_text options.is_json Sound
 
--- the events lead from one cluster to another. Given events all happen; a drawn event that cannot
--- happen changes nothing
-abbrev pub Leads : {H S M : Type 0} → EventSource → Core H S M → ClusterState S M → List Event
-    → ClusterState S M → Type 0
-Leads Given core g es new = RunsTo core g es new
-Leads Drawn core g es new = after_drawn core g es ≡ new
-
--- given events lead to event k, which cannot happen: it delivers a parcel that was not sent. Events
--- that are read have no other fault
-abbrev pub StopsAt : {H S M : Type 0} → EventSource → Core H S M → ClusterState S M → List Event
-    → ℕ → Type 0
-StopsAt {H} {S} {M} Given core start es k =
+-- events lead to event k, which cannot happen: it delivers a parcel that was not sent. Events that
+-- are read have no other fault
+abbrev pub StopsAt : {H S M : Type 0} → Core H S M → ClusterState S M → List Event → ℕ → Type 0
+StopsAt {H} {S} {M} core start es k =
     (k < length es) × ((g : ClusterState S M) × RunsTo core start (take k es) g
     × IfSome (slice_get es k) (λ e. IsErr (step_of core g e)))
-StopsAt Drawn core start es k = ⊥
 
 -- why a run stops at event k, which has this fault
 abbrev pub stop_of_step : ℕ → StepFault → Stop
@@ -90,8 +80,7 @@ stop_of_step k step_fault.Memory = stop.Memory
 stop_of_step k fault = stop.Fault (NoParcel k)
 
 -- memory ran out, or the events stop at one of them
-abbrev pub StopsWith : {H S M : Type 0} → EventSource → Core H S M → ClusterState S M
-    → List Event → Stop → Type 0
-StopsWith source core start es s =
-    (s ≡ stop.Memory)
-    ⊎ ((k : ℕ) × (s ≡ stop.Fault (NoParcel k)) × StopsAt source core start es k)
+abbrev pub StopsWith : {H S M : Type 0} → Core H S M → ClusterState S M → List Event → Stop
+    → Type 0
+StopsWith core start es s =
+    (s ≡ stop.Memory) ⊎ ((k : ℕ) × (s ≡ stop.Fault (NoParcel k)) × StopsAt core start es k)

@@ -9,10 +9,9 @@ use Rattle.mx_trace.specs.declared.outcome.Outcome.{Outcome}
 use Rattle.mx_trace.specs.declared.outcome.Outcome.TheVariants.{Asked, Left}
 use Rattle.mx_member.specs.declared.parcel.Parcel.{Parcel}
 use Rattle.mx_member.specs.declared.parcel.Parcel.TheVariants.{Guard}
-use Rattle.mx_commands.specs.Explored.{is_entry}
 use Rattle.mx_plan.specs.Text.{Text}
 use Rattle.mx_count.specs.Waits.{ends_wait}
-use Rattle.mx_count.specs.NodeCounts.{is_entry_of}
+use Rattle.mx_count.specs.NodeCounts.{is_entry, is_entry_of}
 use Rattle.mx_count.specs.Tallies.{absent_text, labelled, quotient_text, value_end, value_start}
 use Rattle.mx_count.specs.declared.measures.Measure.{Measure}
 use Rattle.mx_count.specs.declared.measures.Measure.TheVariants.{Response, Delay}

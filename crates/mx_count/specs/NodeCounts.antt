@@ -1,13 +1,14 @@
 -- The counts of each node of a cluster.
-use Rattle.std.specs.Prelude.{ℕ, ◌&&◌, ◌++◌, Bool, false, List, Option, Some, None, codes, nat_eq, slice_get, if◌then◌else◌}
+use Rattle.std.specs.Prelude.{ℕ, ◌&&◌, ◌++◌, Bool, true, false, List, Option, Some, None, codes, nat_eq, slice_get, if◌then◌else◌}
 use Rattle.std.specs.List.{count_by}
 use Rattle.mx_events.specs.Events.{node_of}
 use Rattle.mx_events.specs.declared.event.Event.{Event}
 use Rattle.mx_events.specs.declared.event.Event.TheVariants.{Deliver}
 use Rattle.mx_trace.specs.declared.outcome.Entry.{Entry}
+use Rattle.mx_trace.specs.declared.outcome.Outcome.{Outcome}
+use Rattle.mx_trace.specs.declared.outcome.Outcome.TheVariants.{Entered}
 use Rattle.mx_member.specs.declared.parcel.Parcel.{Parcel}
 use Rattle.mx_network.specs.Step.{ClusterState}
-use Rattle.mx_commands.specs.Explored.{is_entry}
 use Rattle.mx_plan.specs.Text.{Text}
 use Rattle.mx_plan.specs.Fields.{Fields}
 use Rattle.mx_format.specs.EventTexts.{name_of}
@@ -15,6 +16,14 @@ use Rattle.mx_format.specs.Lines.{texts_from}
 use Rattle.mx_format.specs.Members.{node_start}
 use Rattle.mx_count.specs.Tallies.{tally}
 use Rattle.mx_count.specs.Waits.{is_refusal}
+
+abbrev pub is_entered : Outcome → Bool
+is_entered (Entered n) = true
+is_entered _ = false
+
+-- a node enters with this item of the trace
+abbrev pub is_entry : Entry → Bool
+is_entry entry = is_entered entry.outcome
 
 abbrev pub is_node : ℕ → Option ℕ → Bool
 is_node i None = false

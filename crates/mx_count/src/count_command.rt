@@ -1,13 +1,13 @@
-//! `count`, and `explore` with `--count` or `--json`: the counts of a run of events.
+//! `count`: the counts of a run of events.
 
 ghost use Rattle.mx_format.specs.Parts.{word_by};
-ghost use Rattle.mx_cli.specs.Printing.{Prints, sight};
-ghost use Rattle.mx_count.specs.Printed.{IsCount, IsCountBy, IsCountFrom, IsExploreCount};
+ghost use Rattle.mx_cli.specs.Printing.{IsWhole, Prints, sight};
+ghost use Rattle.mx_count.specs.Counted.{counts_text};
+ghost use Rattle.mx_count.specs.Printed.{IsCount, IsCountBy, IsCountFrom};
 
 use crate::counted_run::{EventSource, Options, add_counts, apply_events};
 use mx_cli::{Command, Stop, print};
 use mx_commands::by_shape;
-use mx_explorer::schedule;
 use mx_format::Letter;
 use mx_io::Output;
 use mx_network::{Cluster, Event};
@@ -37,46 +37,13 @@ impl Command for Count {
             has_counts: true,
         };
         match read_events(alloc, text, plan) {
-            Ok(events) => print_counts(alloc, plan, events.as_slice(), options, out),
+            Ok(events) => count_events(alloc, plan, events.as_slice(), options, out),
             Err(fault) => Err(Stop::from(fault)),
         }
     }
 }
 
-/// `explore` with `--count` or `--json`: counts a run of events drawn from a seed.
-#[derive(Clone, Copy)]
-pub struct ExploreCount {
-    pub seed: u64,
-    /// How many events are drawn.
-    pub steps: u64,
-    /// Whether more is printed than the numbers of events, sections and parcels, and the verdict.
-    pub has_counts: bool,
-    pub is_json: bool,
-}
-
-impl Command for ExploreCount {
-    ghost reports = { λ c p text. IsExploreCount c.seed c.steps c.has_counts c.is_json p text };
-
-    fn run<O: Output>(
-        &self,
-        alloc: Global,
-        plan: &Plan,
-        _text: &[u8],
-        out: &mut O,
-    ) -> Result<u8, Stop> {
-        let options = Options {
-            source: EventSource::Drawn,
-            is_json: self.is_json,
-            has_counts: self.has_counts,
-        };
-        match schedule(alloc, self.seed, self.steps, plan) {
-            Ok(events) => print_counts(alloc, plan, events.as_slice(), options, out),
-            Err(_) => Err(Stop::Memory),
-        }
-    }
-}
-
-fn print_counts<O: Output>(
+fn count_events<O: Output>(
     alloc: Global,
     plan: &Plan,
     events: &[Event],
@@ -89,11 +56,11 @@ fn print_counts<O: Output>(
     by_shape!(
         alloc,
         plan,
-        |cluster| print_counts_after(alloc, plan, cluster, events, options, out)
+        |cluster| count_after(alloc, plan, cluster, events, options, out)
     )
 }
 
-fn print_counts_after<C: Exclusion, O: Output>(
+fn count_after<C: Exclusion, O: Output>(
     alloc: Global,
     plan: &Plan,
     mut cluster: Cluster<C>,
@@ -106,10 +73,26 @@ where
     ensures prints { Prints (IsCountFrom C.core (word_by C.Msg.parts) C.Msg.words options plan.now
         events.now cluster) (sight O.Output out.old) (sight O.Output out.new) result }
 {
-    apply_events(&mut cluster, events, options.source)?;
+    apply_events(&mut cluster, events)?;
+    print_counts(alloc, plan, &cluster, events.len() as u64, options, out)
+}
+
+/// Prints the counts of a cluster after this many events, and returns the status.
+pub fn print_counts<C: Exclusion, O: Output>(
+    alloc: Global,
+    plan: &Plan,
+    cluster: &Cluster<C>,
+    events: u64,
+    options: Options,
+    out: &mut O,
+) -> Result<u8, Stop>
+where
+    C::Msg: Letter,
+    ensures prints { Prints (IsWhole (counts_text (word_by C.Msg.parts) C.Msg.words options plan.now
+        events cluster.now) 0) (sight O.Output out.old) (sight O.Output out.new) result }
+{
     let mut text = String::new(alloc);
-    let steps = events.len() as u64;
-    match add_counts(alloc, plan, &cluster, steps, options, &mut text) {
+    match add_counts(alloc, plan, cluster, events, options, &mut text) {
         Ok(status) => print(text.as_bytes(), status, out),
         Err(_) => Err(Stop::Memory),
     }

@@ -1,62 +1,59 @@
 //! Runs events, and counts their parcels, refusals and waits.
 
 ghost use Rattle.std.specs.Prelude.{◌≡◌, ◌++◌, IfErr, IfOk, OnOk, string_bytes};
+ghost use Rattle.mx_network.specs.Step.{RunsTo};
 ghost use Rattle.mx_format.specs.Parts.{word_by};
 ghost use Rattle.mx_count.specs.Counts.{tallies_text, times_text};
-ghost use Rattle.mx_count.specs.Counted.{Leads, StopsWith, all_nodes_text, cluster_text, counts_text, details_text, first_text, stop_of_step};
+ghost use Rattle.mx_count.specs.Counted.{StopsWith, all_nodes_text, cluster_text, counts_text, details_text, first_text, stop_of_step};
 
 use crate::kinds::Group;
 use crate::measures::Measure;
-use crate::node_counts::add_node_counts;
+use crate::node_counts::{add_node_counts, entries_in};
 use crate::parcel_counts::{add_parcel_counts, count_parcels};
 use crate::refusal_counts::add_refusal_counts;
 use crate::spread::add_measure;
 use crate::tallies::{add_counts_end, add_first_tally, add_share, add_tally_line};
 use crate::waits::longest_wait;
 use mx_cli::{Fault, Stop};
-use mx_commands::{add_verdict, entries_in, happen, verdict_status};
+use mx_commands::{add_verdict, verdict_status};
 use mx_explorer::judge;
-use mx_format::json::{NumberStart, add_number};
+use mx_format::json::{add_number, start_number};
 use mx_format::{ExploredLine, Letter};
 use mx_network::{Cluster, Event, RunFault, StepFault};
 use mx_nodelaws::Exclusion;
 use mx_plan::Plan;
 use std::alloc::{AllocError, Global};
 
+/// Where the events of a run come from.
 #[derive(Clone, Copy)]
-pub(crate) enum EventSource {
-    /// A file lists them. The delivery of a parcel that was not sent is a fault.
+pub enum EventSource {
+    /// A file lists them.
     Given,
-    /// They were drawn from a seed. The random number in a delivery chooses one of the newest
-    /// parcels sent; if there is none, nothing happens.
+    /// They were drawn from a seed.
     Drawn,
 }
 
+/// What is printed of the counts of a cluster.
 #[derive(Clone, Copy)]
-pub(crate) struct Options {
-    pub(crate) source: EventSource,
-    pub(crate) is_json: bool,
+pub struct Options {
+    pub source: EventSource,
+    pub is_json: bool,
     /// Whether more is printed than the numbers of events, sections and parcels, and the verdict.
-    pub(crate) has_counts: bool,
+    pub has_counts: bool,
 }
 
+/// Applies events that a file lists. The delivery of a parcel that was not sent is a fault.
 pub(crate) fn apply_events<C: Exclusion>(
     cluster: &mut Cluster<C>,
     events: &[Event],
-    source: EventSource,
 ) -> Result<(), Stop>
-    ensures ok { OnOk result (Leads source C.core cluster.old events.now cluster.new) }
-    ensures err { IfErr result (StopsWith source C.core cluster.old events.now) }
+    ensures ok { OnOk result (RunsTo C.core cluster.old events.now cluster.new) }
+    ensures err { IfErr result (StopsWith C.core cluster.old events.now) }
 {
-    match source {
-        EventSource::Given => {
-            cluster.make_room(events.len())?;
-            match cluster.run(events) {
-                Ok(()) => Ok(()),
-                Err(stopped) => Err(stop_at(stopped)),
-            }
-        }
-        EventSource::Drawn => Ok(happen(cluster, events)?),
+    cluster.make_room(events.len())?;
+    match cluster.run(events) {
+        Ok(()) => Ok(()),
+        Err(stopped) => Err(stop_at(stopped)),
     }
 }
 
@@ -125,7 +122,7 @@ fn add_first(
             add_tally_line(options.is_json, "", "parcels", parcels, text)
         }
         EventSource::Drawn if options.is_json => {
-            text.write(NumberStart("explored", events))?;
+            start_number("explored", events, text)?;
             add_number("entered", sections, text)?;
             add_number("sent", parcels, text)
         }

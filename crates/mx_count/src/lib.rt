@@ -1,5 +1,5 @@
-//! `mx count`, and `mx explore --count`: how many letters of each kind the nodes sent, how often
-//! and why they refused, and how long they waited.
+//! `mx count`, and the counts of any cluster: how many letters of each kind the nodes sent, how
+//! often and why they refused, and how long they waited.
 #![tactic(auto)]
 
 mod count_command;
@@ -14,4 +14,5 @@ mod spread;
 mod tallies;
 mod waits;
 
-pub use count_command::{Count, ExploreCount};
+pub use count_command::{Count, print_counts};
+pub use counted_run::{EventSource, Options};

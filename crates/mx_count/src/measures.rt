@@ -2,13 +2,12 @@
 
 ghost use Rattle.std.specs.Prelude.{◌≡◌, ◌<◌, ◌≤◌, ◌++◌, ◌+◌, IfOk, IfSome, OnOk, length, position, slice_get, take};
 ghost use Rattle.std.specs.Option.{option_map_or};
-ghost use Rattle.mx_commands.specs.Explored.{is_entry};
+ghost use Rattle.mx_count.specs.NodeCounts.{is_entry};
 ghost use Rattle.mx_count.specs.Waits.{ends_wait};
 ghost use Rattle.mx_count.specs.Measures.{delay_end, delay_from, delivers_letter, end_from, is_between, is_letter, letters_in, letters_until, measured, response_end, response_from};
 
-use crate::node_counts::is_entry_of;
+use crate::node_counts::{is_entry, is_entry_of};
 use crate::waits::end_in;
-use mx_commands::is_entry;
 use mx_member::{Parcel, SentParcel};
 use mx_network::{Cluster, Entry, Event, Outcome};
 use mx_nodelaws::Exclusion;

@@ -2,16 +2,15 @@
 
 ghost use Rattle.std.specs.Prelude.{◌≡◌, ◌<◌, ◌++◌, OnOk, slice_get, string_bytes};
 ghost use Rattle.std.specs.List.{count_by};
-ghost use Rattle.mx_count.specs.NodeCounts.{is_addressee, is_delivered_to, is_entry_of, is_node, is_refusal_of, node_end, node_head, node_tallies, node_text, nodes_text, sent_of};
+ghost use Rattle.mx_count.specs.NodeCounts.{is_addressee, is_delivered_to, is_entry, is_entry_of, is_node, is_refusal_of, node_end, node_head, node_tallies, node_text, nodes_text, sent_of};
 
 use crate::kinds::Group;
 use crate::parcel_counts::count_parcels;
 use crate::tallies::{add_tally, either};
 use crate::waits::is_refusal;
-use mx_commands::is_entry;
-use mx_format::json::NodeStart;
+use mx_format::json::start_node;
 use mx_format::{Letter, name_of};
-use mx_network::{Cluster, Entry, Event};
+use mx_network::{Cluster, Entry, Event, Outcome};
 use mx_nodelaws::Exclusion;
 use mx_plan::Plan;
 use mx_stamps::{MAX_NODES, NodeId};
@@ -82,7 +81,7 @@ fn add_head(plan: &Plan, is_json: bool, node: NodeId, text: &mut String) -> Resu
         ≡ string_bytes text.old ++ node_head is_json plan.now node) }
 {
     if is_json {
-        return text.write(NodeStart(plan, node));
+        return start_node(plan, node, text);
     }
     text.push_str(name_of(plan, node))
 }
@@ -91,6 +90,13 @@ fn add_node_end(is_json: bool, text: &mut String) -> Result<(), AllocError>
     ensures { OnOk result (string_bytes text.new ≡ string_bytes text.old ++ node_end is_json) }
 {
     text.push_str(either(is_json, "}\n", "\n"))
+}
+
+/// Returns how often a node entered a section in a trace.
+pub(crate) fn entries_in(trace: &[Entry]) -> u64
+    ensures { result ≡ count_by is_entry trace.now }
+{
+    trace.iter().filter(|entry| is_entry(entry)).count() as u64
 }
 
 fn entries_of(trace: &[Entry], node: NodeId) -> u64
@@ -128,6 +134,13 @@ fn refused_of(trace: &[Entry], node: NodeId) -> u64
         .iter()
         .filter(|entry| is_refusal_of(node, entry))
         .count() as u64
+}
+
+/// Whether a node entered a section at this item of a trace.
+pub(crate) fn is_entry(entry: &Entry) -> bool
+    ensures { result ≡ is_entry entry.now }
+{
+    matches!(entry.outcome, Outcome::Entered(_))
 }
 
 pub(crate) fn is_entry_of(node: NodeId, entry: &Entry) -> bool

@@ -4,7 +4,7 @@ ghost use Rattle.std.specs.Prelude.{◌≡◌, ◌≢◌, ◌++◌, if◌then◌
 ghost use Rattle.mx_count.specs.Tallies.{absent_text, counts_end, first_tally_text, quotient_text, share_of, share_text, tally, tally_text, value_end, value_start};
 
 use crate::count_lines::{NamedCount, TenthsText};
-use mx_format::json::{NumberStart, add_number};
+use mx_format::json::{add_number, start_number};
 use std::alloc::AllocError;
 
 /// Returns the text for JSON, or else the one for lines.
@@ -28,7 +28,7 @@ pub(crate) fn add_first_tally(
         ≡ string_bytes text.old ++ first_tally_text is_json name.now count) }
 {
     if is_json {
-        return text.write(NumberStart(name, count));
+        return start_number(name, count, text);
     }
     add_tally_line(is_json, "", name, count, text)
 }

@@ -7,8 +7,9 @@ ghost use Rattle.mx_cli.specs.Requests.{AskNothing, request_asked, request_of};
 ghost use Rattle.mx_cli.specs.Reports.{Answers, Declines, seen};
 ghost use Rattle.mx_dispatch.specs.Program.{Does};
 
-use crate::forms::{run_both, run_check, run_draw, run_explore, run_replay, run_walk};
+use crate::forms::{run_both, run_check, run_draw, run_explore};
 use mx_cli::{Request, parse, refuse, report_misfit};
+use mx_commands::Replay;
 use mx_count::Count;
 use mx_explain::explain;
 use mx_io::{Output, Source};
@@ -61,17 +62,32 @@ fn carry_out<S: Source, O: Output, E: Output>(
             has_asks,
             is_json,
         } => run_check(alloc, plan, *has_asks, *is_json, source, out, err),
-        Request::Replay(names, view) => run_replay(alloc, names, view, source, out, err),
+        Request::Replay(names, options) => {
+            let replay = Replay(*options);
+            run_both(
+                alloc,
+                &replay,
+                names,
+                replay.has_options(),
+                source,
+                out,
+                err,
+            )
+        }
         Request::Explore {
             exploration,
             has_counts,
             is_json,
-        } => run_explore(alloc, exploration, *has_counts, *is_json, source, out, err),
+        } => {
+            let (counts, json) = (*has_counts, *is_json);
+            run_explore(alloc, exploration, None, counts, json, source, out, err)
+        }
         Request::ExploreWalk(exploration, conditions) => {
-            run_walk(alloc, exploration, conditions, source, out, err)
+            let walk = Some(*conditions);
+            run_explore(alloc, exploration, walk, false, false, source, out, err)
         }
         Request::Draw(exploration, conditions) => {
-            run_draw(alloc, exploration, conditions, source, out, err)
+            run_draw(alloc, exploration, *conditions, source, out, err)
         }
         Request::Script(names) => run_both(alloc, &Script, names, true, source, out, err),
         Request::Picture(names, options) => {

@@ -28,7 +28,7 @@ IsTextReport false p text = IsReplay p text
 -- a report of what is explained: if a second file is named, of a script or a replay; else of a
 -- check
 abbrev pub IsExplained : (Text → Option Telling) → Text → Option Text → Bool → Report → Type 0
-IsExplained told plan None is_script = IsReportFor (IsCheck false) told (alone plan)
+IsExplained told plan None is_script = IsReportFor (IsCheck false false) told (alone plan)
 IsExplained told plan (Some second) is_script =
     IsReportFor (IsTextReport is_script) told (both (plan, second) is_script)
 

@@ -20,6 +20,8 @@ pub(crate) struct CachedSource<'s, S: Source> {
 impl<'s, S: Source> Source for CachedSource<'s, S> {
     ghost told = { λ c. S.told c.source.now };
 
+    ghost asked = { λ c. S.asked c.source.now };
+
     fn bytes(&mut self, alloc: Global, name: &str) -> Result<Vec<u8>, SourceFault> {
         let bytes = match self.source.bytes(alloc, name) {
             Ok(bytes) => bytes,

@@ -39,10 +39,13 @@ pub(crate) fn run<S: Source>(
 }
 
 fn check<S: Source>(alloc: Global, plan: &str, source: &mut S) -> Result<u8, Stop>
-    ensures { Prints (IsReportFor (IsCheck false) (S.told source.old) (alone plan.now))
+    ensures { Prints (IsReportFor (IsCheck false false) (S.told source.old) (alone plan.now))
         null_output null_output result }
 {
-    let check = Check { has_asks: false };
+    let check = Check {
+        has_asks: false,
+        is_json: false,
+    };
     run_files(alloc, &check, &Files::alone(plan), source, &mut NullOutput)
 }
 

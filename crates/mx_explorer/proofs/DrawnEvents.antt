@@ -30,7 +30,7 @@ module _ (nodes registers : ℕ) (g : Lcg) (n : 0 < nodes) (r : 0 < registers) w
   register : word (after_words 1 g) % registers < registers
   register = mod-lt (word (after_words 1 g)) r
 
-  event_is_drawn : (k : ℕ) → IsDrawn nodes registers (event_by k nodes registers g)
+  pub event_is_drawn : (k : ℕ) → IsDrawn nodes registers (event_by k nodes registers g)
   event_is_drawn k =
       either (nat_lt k 2) _ _ node
       (either (nat_lt k 4) _ _ node

@@ -11,6 +11,6 @@ mod weather;
 
 pub use judgement::judge;
 pub use places::place;
-pub use schedules::schedule;
+pub use schedules::{draw, draw_below, draw_node, schedule};
 pub use verdict::{Clause, Verdict};
 pub use weather::Weather;

@@ -16,10 +16,8 @@ use std::alloc::{AllocError, Global};
 /// The section number to settle up to is drawn below this bound.
 const SETTLED: u8 = 17;
 
-/// Draws a schedule of `steps` events over the nodes and registers of a plan. The generator of
-/// random words is `Pcg32`, made by `seed_from_u64`. Each event takes a word for its kind and one
-/// for each of its arguments. A `Deliver` has its word in place of the number of a parcel: see
-/// `place`. Fails only if memory runs out.
+/// Draws a schedule of `steps` events over the nodes and registers of a plan, each by `draw`. The
+/// generator of random words is `Pcg32`, made by `seed_from_u64`. Fails only if memory runs out.
 pub fn schedule(alloc: Global, seed: u64, steps: u64, plan: &Plan) -> Result<Vec<Event>, AllocError>
     ensures value { IfOk result (λ v. v.items ≡ drawn_list steps (length plan.now.nodes)
         (length plan.now.registers) (generator_of seed)) }
@@ -52,7 +50,9 @@ fn schedule_over(
     Ok(events)
 }
 
-fn draw(words: &mut Pcg32, nodes: u8, registers: u8) -> Event
+/// Draws the next event of a schedule. It takes a word (32 random bits) for its kind and one for
+/// each of its arguments. A `Deliver` has its word in place of the number of a parcel: see `place`.
+pub fn draw(words: &mut Pcg32, nodes: u8, registers: u8) -> Event
     requires nodes { (0 < nodes) × (nodes ≤ MAX_NODES) }
     requires registers { 0 < registers }
     ensures value { result ≡ drawn nodes registers words.old }
@@ -99,7 +99,8 @@ fn draw_by(number: u32, words: &mut Pcg32, nodes: u8, registers: u8) -> Event
     }
 }
 
-fn draw_node(words: &mut Pcg32, nodes: u8) -> NodeId
+/// Draws one of the first `nodes` nodes by the next word.
+pub fn draw_node(words: &mut Pcg32, nodes: u8) -> NodeId
     requires nodes { (0 < nodes) × (nodes ≤ MAX_NODES) }
     ensures value { result ≡ word words.old % nodes }
     ensures next { words.new ≡ after_words 1 words.old }
@@ -107,7 +108,8 @@ fn draw_node(words: &mut Pcg32, nodes: u8) -> NodeId
     NodeId::of(draw_below(words, nodes)).unwrap()
 }
 
-fn draw_below(words: &mut Pcg32, count: u8) -> u8
+/// Draws a number below `count` by the next word.
+pub fn draw_below(words: &mut Pcg32, count: u8) -> u8
     requires { 0 < count }
     ensures value { result ≡ word words.old % count }
     ensures next { words.new ≡ after_words 1 words.old }

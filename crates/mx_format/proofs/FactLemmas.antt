@@ -1,27 +1,19 @@
--- The line of facts, one fact after another.
-use Rattle.std.proofs.Common.{◌≡◌, ◌∙◌, ◌++◌, List, [], ◌∷◌, Result, Ok, Err, OnOk, ap, append_assoc, refl, subst, sym}
+-- Lists of facts, as the code has them and as lists of values.
+use Rattle.std.proofs.Common.{◌≡◌, ◌∙◌, ◌++◌, List, [], ◌∷◌, ap, refl}
 use Rattle.std.specs.Prelude.{map}
-use Rattle.std.specs.Bool.{⊤}
-use Rattle.std.specs.declared.alloc.AllocError.{AllocError}
 use Rattle.mx_knowledge.specs.declared.fact.Fact.{Fact}
-use Rattle.mx_knowledge.specs.Facts.{fact_of}
+use Rattle.mx_knowledge.specs.Facts.{Known, fact_of}
 use Rattle.mx_plan.specs.Text.{Text}
-use Rattle.mx_plan.specs.Fields.{Fields}
-use Rattle.mx_format.specs.FactTexts.{fact_text, facts_text, next_text}
-use Rattle.mx_format.specs.Lines.{each_text}
+use Rattle.mx_format.specs.Lines.{each_text, joined}
 
--- the texts of further facts, as the code has them and as lists of values
-each_fact : (p : Fields) (facts : List Fact) → each_text (λ fact. next_text p (fact_of fact)) facts ≡ each_text (next_text p) (map fact_of facts)
-each_fact p [] = refl
-each_fact p (fact ∷ facts) = ap (λ (l : Text). next_text p (fact_of fact) ++ l) (each_fact p facts)
+module _ (between : Text) (f : Known → Text) where
+  each_seen : (facts : List Fact) → each_text (λ fact. between ++ f (fact_of fact)) facts ≡ each_text (λ known. between ++ f known) (map fact_of facts)
+  each_seen [] = refl
+  each_seen (fact ∷ facts) = ap (λ (l : Text). (between ++ f (fact_of fact)) ++ l) (each_seen facts)
 
--- the first fact, and then the others
-pub facts_whole : (r : Result ⊤ AllocError) (p : Fields) (facts : List Fact) (first : Fact) (rest : List Fact) (t t1 t2 : Text) → facts ≡ first ∷ rest
-    → t1 ≡ t ++ fact_text p (fact_of first) → OnOk r (t2 ≡ t1 ++ each_text (λ fact. next_text p (fact_of fact)) rest)
-    → OnOk r (t2 ≡ t ++ facts_text p (map fact_of facts))
-facts_whole (Ok u) p facts first rest t t1 t2 is one more =
-    let others : Text = each_text (next_text p) (map fact_of rest) in
-    let whole : t2 ≡ t ++ facts_text p (map fact_of (first ∷ rest)) =
-    more ∙ ap (λ (l : Text). t1 ++ l) (each_fact p rest) ∙ ap (λ (l : Text). l ++ others) one ∙ append_assoc t (fact_text p (fact_of first)) others in
-    subst (λ (l : List Fact). t2 ≡ t ++ facts_text p (map fact_of l)) (sym is) whole
-facts_whole (Err e) p facts first rest t t1 t2 is one more = tt
+  joined_seen : (facts : List Fact) → joined between (λ fact. f (fact_of fact)) facts ≡ joined between f (map fact_of facts)
+  joined_seen [] = refl
+  joined_seen (fact ∷ facts) = ap (λ (l : Text). f (fact_of fact) ++ l) (each_seen facts)
+
+  pub facts_seen : (facts : List Fact) (known : List Known) → map fact_of facts ≡ known → joined between (λ fact. f (fact_of fact)) facts ≡ joined between f known
+  facts_seen facts known is = joined_seen facts ∙ ap (joined between f) is

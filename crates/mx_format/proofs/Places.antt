@@ -1,11 +1,12 @@
 -- Texts of a list, one after another.
-use Rattle.std.proofs.Common.{◌≡◌, ◌∙◌, ℕ, zero, suc, add-one, ◌+◌, ◌<◌, ◌≤◌, List, [], ◌∷◌, ◌++◌, length, drop, get_or, slice_get, ap, refl, sym, append_assoc, Some, drop-cons}
+use Rattle.std.proofs.Common.{◌≡◌, ◌∙◌, ℕ, zero, suc, add-one, ◌+◌, ◌<◌, ◌≤◌, List, [], ◌∷◌, ◌++◌, length, drop, get_or, slice_get, ap, refl, subst, sym, append_assoc, Some, Result, Ok, Err, OnOk, drop-cons}
+use Rattle.std.specs.Bool.{⊤}
 use Rattle.std.specs.List.{enumerate_from}
 use Rattle.std.proofs.lemmas.List.{drop_all}
 use Rattle.std.proofs.lemmas.Option.{same_Some, slice_get-get_or}
 use Rattle.mx_stamps.proofs.Lists.{append_nil, none_is_no_some}
 use Rattle.mx_plan.specs.Text.{Text}
-use Rattle.mx_format.specs.Lines.{each_text, texts_from}
+use Rattle.mx_format.specs.Lines.{each_text, joined, texts_from}
 
 drop_get : {X : Type 0} (xs : List X) (k : ℕ) (x : X) → slice_get xs k ≡ Some x → drop k xs ≡ x ∷ drop (suc k) xs
 drop_get [] k x h = absurd (none_is_no_some x h)
@@ -59,3 +60,11 @@ first_written f xs ys x t t' is e =
 -- none is left
 pub all_written : {X : Type 0} (f : X → Text) (xs : List X) (t : Text) → xs ≡ [] → t ++ each_text f xs ≡ t
 all_written f xs t none = ap (λ l. t ++ each_text f l) none ∙ append_nil t
+
+-- the first of the items, and then the others, with a text between them
+pub joined_whole : {X E : Type 0} (between : Text) (f : X → Text) (r : Result ⊤ E) (xs : List X) (x : X) (rest : List X) (t t1 t2 : Text) → xs ≡ x ∷ rest → t1 ≡ t ++ f x
+    → OnOk r (t2 ≡ t1 ++ each_text (λ y. between ++ f y) rest) → OnOk r (t2 ≡ t ++ joined between f xs)
+joined_whole {X} between f (Ok u) xs x rest t t1 t2 is one more =
+    let others : Text = each_text (λ y. between ++ f y) rest in
+    subst (λ (l : List X). t2 ≡ t ++ joined between f l) (sym is) (more ∙ ap (λ (l : Text). l ++ others) one ∙ append_assoc t (f x) others)
+joined_whole between f (Err e) xs x rest t t1 t2 is one more = tt

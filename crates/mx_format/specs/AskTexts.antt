@@ -8,7 +8,7 @@ use Rattle.mx_plan.specs.declared.shape.Shape.{Shape}
 use Rattle.mx_plan.specs.declared.shape.Shape.TheVariants.{Ricart, Maekawa, Raymond}
 use Rattle.mx_format.specs.EventTexts.{name_of}
 use Rattle.mx_format.specs.Lines.{texts_from}
-use Rattle.mx_format.specs.Members.{node_member, node_start}
+use Rattle.mx_format.specs.Members.{node_pair}
 use Rattle.mx_format.specs.PlanTexts.{plan_text_by}
 
 -- node i asks node j. By Ricart and Agrawala's algorithm, a node asks each other node; by
@@ -22,11 +22,8 @@ asks_of (Raymond tree) i j = if nat_eq i tree.holder then false else nat_eq (tow
 abbrev pub asked_name : Fields → ℕ → Text
 asked_name p j = codes " " ++ name_of p j
 
-abbrev pub asked_json : Fields → ℕ → ℕ → Text
-asked_json p i j = node_start p i ++ node_member p (codes "asks") j ++ codes "}\n"
-
 abbrev pub asked_by : Bool → Fields → ℕ → ℕ → Text
-asked_by is_json p i j = if is_json then asked_json p i j else asked_name p j
+asked_by is_json p i j = if is_json then node_pair p i (codes "asks") j else asked_name p j
 
 -- the name of node j, or an object of JSON of both nodes, if node i asks node j
 abbrev pub asked_text : Bool → Fields → ℕ → ℕ → Text
@@ -57,6 +54,3 @@ asks_lines is_json p = texts_from (λ i name. asks_line is_json p i) 0 p.nodes
 -- what a plan says, and whom each of its nodes asks
 abbrev pub plan_asks_text_by : Bool → Fields → Text
 plan_asks_text_by is_json p = plan_text_by is_json p ++ asks_lines is_json p
-
-abbrev pub plan_asks_text : Fields → Text
-plan_asks_text p = plan_asks_text_by false p

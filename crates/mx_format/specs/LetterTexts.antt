@@ -1,4 +1,4 @@
--- The texts of letters. Each text is a function of the letter's parts.
+-- The texts of letters, also as JSON. Each is a function of the letter's parts.
 use Rattle.std.specs.Prelude.{◌++◌, List, codes, decimal}
 use Rattle.mx_stamps.specs.declared.stamp.Stamp.{Stamp}
 use Rattle.mx_letters.specs.declared.ricart.RicartMsg.{RicartMsg}
@@ -9,6 +9,7 @@ use Rattle.mx_plan.specs.Fields.{Fields}
 use Rattle.mx_format.specs.declared.parts.LetterParts.{LetterParts}
 use Rattle.mx_format.specs.EventTexts.{name_of}
 use Rattle.mx_format.specs.Lines.{each_text}
+use Rattle.mx_format.specs.Members.{node_member, number_member, word_member}
 use Rattle.mx_format.specs.Parts.{About, Named, Parts, request, number, parts_of, ricart_parts, maekawa_parts, raymond_parts}
 
 abbrev pub stamp_text : Fields → Stamp → Text
@@ -42,3 +43,18 @@ maekawa_text = letter_text maekawa_parts
 
 abbrev pub raymond_text : Fields → RaymondMsg → Text
 raymond_text = letter_text raymond_parts
+
+-- ---- as JSON
+
+-- what a letter is about: the number and the node of a stamp, or a number with its name
+abbrev pub about_json : Fields → About → Text
+about_json p (request stamp) =
+    number_member (codes "stamp") stamp.number ++ node_member p (codes "of") stamp.node
+about_json p (number named) = number_member named.0 named.1
+
+abbrev pub numbers_json : List Named → Text
+numbers_json = each_text (λ named. number_member named.0 named.1)
+
+abbrev pub letter_json : Fields → Parts → Text
+letter_json p said =
+    word_member (codes "kind") said.word ++ about_json p said.about ++ numbers_json said.numbers

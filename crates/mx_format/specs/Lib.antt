@@ -1,14 +1,16 @@
--- Lines: texts of lists. Parts: what letters say. EventTexts, Words, LetterTexts, ParcelTexts,
--- NodeTexts: the lines of a replay. PlanTexts: the lines of `check`, and the line of `explore`.
--- AskTexts: whom nodes ask. FactTexts: what a node knows. Members: members of objects of JSON.
+-- Lines: texts of lists. Members: members of objects of JSON. Parts: what letters say. EventTexts,
+-- EventJson, EventArrays, Words, LetterTexts, ParcelTexts, NodeTexts, FactTexts: the lines of a replay, also as
+-- JSON. PlanTexts: the lines of `check`, and the line of `explore`. AskTexts: whom nodes ask.
 pub mod Lines
 pub mod EventTexts
 pub mod Words
+pub mod Members
+pub mod EventJson
+pub mod EventArrays
 pub mod LetterTexts
 pub mod Parts
 pub mod ParcelTexts
+pub mod FactTexts
 pub mod NodeTexts
 pub mod PlanTexts
 pub mod AskTexts
-pub mod FactTexts
-pub mod Members

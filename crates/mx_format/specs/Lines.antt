@@ -10,3 +10,8 @@ each_text f (x ∷ xs) = f x ++ each_text f xs
 abbrev pub texts_from : {X : Type 0} → (ℕ → X → Text) → ℕ → List X → Text
 texts_from f k [] = []
 texts_from f k (x ∷ xs) = f k x ++ texts_from f (k + 1) xs
+
+-- the texts of all items of a list, with a text between them
+abbrev pub joined : {X : Type 0} → Text → (X → Text) → List X → Text
+joined between f [] = []
+joined between f (x ∷ xs) = f x ++ each_text (λ y. between ++ f y) xs

@@ -1,4 +1,5 @@
-use Rattle.std.specs.Prelude.{ℕ, List, ◌++◌, codes, decimal}
+-- The lines of parcels, also as objects of JSON.
+use Rattle.std.specs.Prelude.{ℕ, List, ◌++◌, Bool, codes, decimal, if◌then◌else◌}
 use Rattle.mx_journal.specs.declared.ranges.Range.{Range}
 use Rattle.mx_journal.specs.declared.records.Record.{Record}
 use Rattle.mx_journal.specs.Bases.{BaseState}
@@ -7,20 +8,31 @@ use Rattle.mx_member.specs.declared.parcel.Parcel.TheVariants.{Guard, Want, Base
 use Rattle.mx_plan.specs.Text.{Text, line_feed}
 use Rattle.mx_plan.specs.Fields.{Fields}
 use Rattle.mx_format.specs.EventTexts.{name_of}
+use Rattle.mx_format.specs.LetterTexts.{letter_json}
 use Rattle.mx_format.specs.Lines.{each_text, texts_from}
+use Rattle.mx_format.specs.Members.{array_member, node_member, number_member, number_start, word_member}
+use Rattle.mx_format.specs.Parts.{Parts}
 
 abbrev pub range_text : Range → Text
-range_text range = codes " " ++ decimal range.first ++ codes ".." ++ decimal range.last
+range_text range = decimal range.first ++ codes ".." ++ decimal range.last
 
--- a record: only its number
+abbrev pub range_json : Range → Text
+range_json range =
+    codes "[" ++ decimal range.first ++ codes "," ++ decimal range.last ++ codes "]"
+
+abbrev pub range_by : Bool → Range → Text
+range_by is_json range = if is_json then range_json range else range_text range
+
+-- a record, in a line and as JSON: only its number
 abbrev pub record_text : Record → Text
-record_text entry = codes " " ++ decimal entry.number
+record_text entry = decimal entry.number
 
 abbrev pub want_text : List Range → Text
-want_text ranges = codes "want" ++ each_text range_text ranges
+want_text ranges = codes "want" ++ each_text (λ range. codes " " ++ range_text range) ranges
 
 abbrev pub records_text : List Record → Text
-records_text records = codes "records" ++ each_text record_text records
+records_text records =
+    codes "records" ++ each_text (λ entry. codes " " ++ record_text entry) records
 
 -- a base: only the number of its last section
 abbrev pub base_text : BaseState → Text
@@ -47,3 +59,24 @@ module _ {M : Type 0} (letter_text : Fields → M → Text) (p : Fields) where
   -- the lines of parcels; the first parcel is the k-th
   abbrev pub parcel_lines : ℕ → List (ℕ × ℕ × Parcel M) → Text
   parcel_lines = texts_from parcel_line
+
+-- ---- as JSON
+
+module _ {M : Type 0} (parts : M → Parts) (p : Fields) where
+  -- the members of a parcel that follow its nodes
+  abbrev pub content_json : Parcel M → Text
+  content_json (Guard letter) = letter_json p (parts letter)
+  content_json (Want ranges) =
+      word_member (codes "kind") (codes "want")
+      ++ array_member (codes "ranges") range_json ranges.items
+  content_json (Base base) =
+      word_member (codes "kind") (codes "base") ++ number_member (codes "upto") base.upto
+  content_json (Records records) =
+      word_member (codes "kind") (codes "records")
+      ++ array_member (codes "numbers") record_text records.items
+
+  -- the line of the k-th parcel: an object
+  abbrev pub parcel_json : ℕ → ℕ × ℕ × Parcel M → Text
+  parcel_json k parcel =
+      number_start (codes "parcel") k ++ node_member p (codes "from") parcel.0
+      ++ node_member p (codes "to") parcel.1 ++ content_json parcel.2 ++ codes "}\n"

@@ -1,5 +1,5 @@
 -- What a plan says of its cluster, and the line of an exploration.
-use Rattle.std.specs.Prelude.{ℕ, ◌+◌, ◌&&◌, Bool, false, [], ◌++◌, codes, decimal, drop, length, nat_eq, if◌then◌else◌}
+use Rattle.std.specs.Prelude.{ℕ, ◌+◌, ◌&&◌, Bool, [], ◌++◌, codes, decimal, drop, length, nat_eq, if◌then◌else◌}
 use Rattle.std.specs.List.{position_or_len}
 use Rattle.mx_stamps.specs.Lists.{each_below}
 use Rattle.mx_quorums.specs.Family.{Family, has_of}
@@ -10,7 +10,7 @@ use Rattle.mx_plan.specs.declared.shape.Shape.{Shape}
 use Rattle.mx_plan.specs.declared.shape.Shape.TheVariants.{Ricart, Maekawa, Raymond}
 use Rattle.mx_format.specs.EventTexts.{name_of}
 use Rattle.mx_format.specs.Lines.{texts_from}
-use Rattle.mx_format.specs.Members.{node_member, node_start, number_member}
+use Rattle.mx_format.specs.Members.{node_pair, number_member, word_start}
 
 abbrev pub algorithm_text : Shape → Text
 algorithm_text (Ricart count) = codes "ricart"
@@ -27,10 +27,6 @@ plan_line p =
     codes "plan " ++ algorithm_text p.shape ++ codes ", nodes " ++ decimal (length p.nodes)
     ++ codes ", " ++ bounds_text p ++ line_feed
 
--- the start of the object of JSON of a plan
-abbrev pub algorithm_start : Shape → Text
-algorithm_start shape = codes "{\"plan\":\"" ++ algorithm_text shape ++ codes "\""
-
 -- how many nodes and registers a plan has, and its bounds
 abbrev pub sizes_json : Fields → Text
 sizes_json p =
@@ -39,7 +35,7 @@ sizes_json p =
     ++ number_member (codes "sections") p.sections ++ number_member (codes "origin") p.origin
 
 abbrev pub plan_json : Fields → Text
-plan_json p = algorithm_start p.shape ++ sizes_json p ++ codes "}\n"
+plan_json p = word_start (codes "plan") (algorithm_text p.shape) ++ sizes_json p ++ codes "}\n"
 
 abbrev pub plan_head : Bool → Fields → Text
 plan_head is_json p = if is_json then plan_json p else plan_line p
@@ -51,13 +47,10 @@ meet_line p i j node =
     codes "meet " ++ name_of p i ++ codes " " ++ name_of p j ++ codes ": " ++ name_of p node
     ++ line_feed
 
-abbrev pub meet_start : Fields → ℕ → ℕ → Text
-meet_start p i j =
-    codes "{\"meet\":[\"" ++ name_of p i ++ codes "\",\"" ++ name_of p j ++ codes "\"]"
-
 abbrev pub meet_json : Fields → ℕ → ℕ → ℕ → Text
 meet_json p i j node =
-    meet_start p i j ++ node_member p (codes "arbiter") node ++ codes "}\n"
+    codes "{\"meet\":[\"" ++ name_of p i ++ codes "\",\"" ++ name_of p j
+    ++ codes "\"],\"arbiter\":\"" ++ name_of p node ++ codes "\"}\n"
 
 abbrev pub meet_by : Bool → Fields → ℕ → ℕ → ℕ → Text
 meet_by is_json p i j node = if is_json then meet_json p i j node else meet_line p i j node
@@ -84,11 +77,9 @@ meet_lines is_json p f = texts_from (λ i name. meet_lines_of is_json p f i) 0 p
 abbrev pub toward_line : Fields → ℕ → ℕ → Text
 toward_line p i next = codes "toward " ++ name_of p i ++ codes ": " ++ name_of p next ++ line_feed
 
-abbrev pub toward_json : Fields → ℕ → ℕ → Text
-toward_json p i next = node_start p i ++ node_member p (codes "toward") next ++ codes "}\n"
-
 abbrev pub toward_by : Bool → Fields → ℕ → ℕ → Text
-toward_by is_json p i next = if is_json then toward_json p i next else toward_line p i next
+toward_by is_json p i next =
+    if is_json then node_pair p i (codes "toward") next else toward_line p i next
 
 -- the line of a node, or its object of JSON; nothing for the holder
 abbrev pub toward_text : Bool → Fields → Rooted → ℕ → Text
@@ -107,9 +98,6 @@ shape_lines is_json p (Raymond tree) = toward_lines is_json p tree
 
 abbrev pub plan_text_by : Bool → Fields → Text
 plan_text_by is_json p = plan_head is_json p ++ shape_lines is_json p p.shape
-
-abbrev pub plan_text : Fields → Text
-plan_text p = plan_text_by false p
 
 -- ---- explorations
 

@@ -1,37 +1,69 @@
-ghost use Rattle.std.specs.Prelude.{◌≡◌, ◌++◌, OnOk, Some, map, string_bytes};
+//! What a node knows, in a line and as JSON.
+
+ghost use Rattle.std.specs.Prelude.{◌≡◌, ◌++◌, OnOk, string_bytes};
 ghost use Rattle.mx_knowledge.specs.Facts.{fact_of};
-ghost use Rattle.mx_format.specs.Lines.{each_text};
-ghost use Rattle.mx_format.specs.FactTexts.{fact_text, facts_line, facts_text, item_text, next_text};
+ghost use Rattle.mx_format.specs.FactTexts.{fact_by, facts_line, item_by, item_json, item_text, knows_json};
 
 use crate::events::name_of;
+use crate::json::{add_array, add_node_name, add_number, start_node, start_number, start_word};
+use crate::lists::{Listed, add_each, add_joined};
 use mx_knowledge::{Fact, Facts, Item};
 use mx_plan::Plan;
 use std::alloc::AllocError;
-use std::fmt;
 
-#[derive(Clone, Copy)]
-struct ItemText<'a> {
-    plan: &'a Plan,
-    item: &'a Item,
+impl Listed for Item {
+    ghost written = { item_by };
+
+    fn add(&self, plan: &Plan, is_json: bool, text: &mut String) -> Result<(), AllocError> {
+        if is_json {
+            return add_item_json(plan, self, text);
+        }
+        add_item(plan, self, text)
+    }
 }
 
-impl fmt::Display for ItemText<'_> {
-    ghost output = { λ t. Some (item_text t.plan.now t.item.now) };
+fn add_item(plan: &Plan, item: &Item, text: &mut String) -> Result<(), AllocError>
+    ensures { OnOk result (string_bytes text.new
+        ≡ string_bytes text.old ++ item_text plan.now item.now) }
+{
+    match item {
+        Item::Number(number) => write!(text, "{number}"),
+        Item::Node(node) => text.push_str(name_of(plan, *node)),
+        Item::Stamp(stamp) => write!(text, "{}.{}", stamp.number, name_of(plan, stamp.node)),
+        Item::Numbered(node, number) => write!(text, "{}/{number}", name_of(plan, *node)),
+    }
+}
 
-    fn fmt<W: fmt::Write>(&self, f: &mut fmt::Formatter<W>) -> fmt::Result {
-        match self.item {
-            Item::Number(number) => write!(f, " {number}"),
-            Item::Node(node) => write!(f, " {}", name_of(self.plan, *node)),
-            Item::Stamp(stamp) => {
-                let number = stamp.number;
-                let name = name_of(self.plan, stamp.node);
-                write!(f, " {number}.{name}")
-            }
-            Item::Numbered(node, number) => {
-                let name = name_of(self.plan, *node);
-                write!(f, " {name}/{number}")
-            }
+fn add_item_json(plan: &Plan, item: &Item, text: &mut String) -> Result<(), AllocError>
+    ensures { OnOk result (string_bytes text.new
+        ≡ string_bytes text.old ++ item_json plan.now item.now) }
+{
+    match item {
+        Item::Number(number) => start_number("number", *number, text)?,
+        Item::Node(node) => start_node(plan, *node, text)?,
+        Item::Stamp(stamp) => {
+            start_number("stamp", stamp.number, text)?;
+            add_node_name(plan, "of", stamp.node, text)?;
         }
+        Item::Numbered(node, number) => {
+            start_node(plan, *node, text)?;
+            add_number("number", *number, text)?;
+        }
+    }
+    text.push_str("}")
+}
+
+impl Listed for Fact {
+    ghost written = { λ is_json p fact. fact_by is_json p (fact_of fact) };
+
+    fn add(&self, plan: &Plan, is_json: bool, text: &mut String) -> Result<(), AllocError> {
+        if is_json {
+            start_word("fact", self.name, text)?;
+            add_array(plan, "values", self.items.as_slice(), text)?;
+            return text.push_str("}");
+        }
+        text.push_str(self.name)?;
+        add_each(plan, false, " ", self.items.as_slice(), text)
     }
 }
 
@@ -41,53 +73,18 @@ pub fn add_facts_line(plan: &Plan, facts: &Facts, text: &mut String) -> Result<(
         ≡ string_bytes text.old ++ facts_line plan.now facts.now) }
 {
     text.push_str("  ")?;
-    add_facts(plan, facts.as_slice(), text)?;
+    add_joined(plan, false, ", ", facts.as_slice(), text)?;
     text.push_str("\n")
 }
 
-fn add_facts(plan: &Plan, facts: &[Fact], text: &mut String) -> Result<(), AllocError>
+/// Appends a comma, and the member `knows` with the facts that a node knows.
+pub(crate) fn add_knows_json(
+    plan: &Plan,
+    facts: &Facts,
+    text: &mut String,
+) -> Result<(), AllocError>
     ensures { OnOk result (string_bytes text.new
-        ≡ string_bytes text.old ++ facts_text plan.now (map fact_of facts.now)) }
+        ≡ string_bytes text.old ++ knows_json plan.now facts.now) }
 {
-    let Some((first, rest)) = facts.split_first() else {
-        return Ok(());
-    };
-    add_fact(plan, first, text)?;
-    add_rest(plan, rest, text)
-}
-
-fn add_rest(plan: &Plan, rest: &[Fact], text: &mut String) -> Result<(), AllocError>
-    ensures { OnOk result (string_bytes text.new ≡ string_bytes text.old
-        ++ each_text (λ fact. next_text plan.now (fact_of fact)) rest.now) }
-{
-    for fact in rest {
-        add_next(plan, fact, text)?;
-    }
-    Ok(())
-}
-
-fn add_next(plan: &Plan, fact: &Fact, text: &mut String) -> Result<(), AllocError>
-    ensures { OnOk result (string_bytes text.new
-        ≡ string_bytes text.old ++ next_text plan.now (fact_of fact.now)) }
-{
-    text.push_str(", ")?;
-    add_fact(plan, fact, text)
-}
-
-fn add_fact(plan: &Plan, fact: &Fact, text: &mut String) -> Result<(), AllocError>
-    ensures { OnOk result (string_bytes text.new
-        ≡ string_bytes text.old ++ fact_text plan.now (fact_of fact.now)) }
-{
-    text.push_str(fact.name)?;
-    add_items(plan, fact.items.as_slice(), text)
-}
-
-fn add_items(plan: &Plan, items: &[Item], text: &mut String) -> Result<(), AllocError>
-    ensures { OnOk result (string_bytes text.new
-        ≡ string_bytes text.old ++ each_text (item_text plan.now) items.now) }
-{
-    for item in items {
-        text.write(ItemText { plan, item })?;
-    }
-    Ok(())
+    add_array(plan, "knows", facts.as_slice(), text)
 }

@@ -1,8 +1,10 @@
+//! Nodes, in lines.
+
 ghost use Rattle.std.specs.Prelude.{◌≡◌, ◌++◌, string_bytes, OnOk};
-ghost use Rattle.mx_format.specs.NodeTexts.{journal_text, member_line, values_text};
+ghost use Rattle.mx_format.specs.NodeTexts.{comma_at, journal_text, member_line, value_by, values_by};
 
 use crate::events::{name_of, register_name_of};
-use crate::standings::{JournalSummary, Standing, ValueText};
+use crate::standings::{JournalSummary, Standing};
 use mx_journal::Journal;
 use mx_member::Member;
 use mx_nodelaws::Exclusion;
@@ -39,19 +41,50 @@ fn add_journal(plan: &Plan, journal: &Journal, text: &mut String) -> Result<(), 
         records: journal.len() as u64,
         gapless: journal.gapless_to(),
     })?;
-    add_values(plan, journal, text)
+    add_values(plan, journal, false, text)
 }
 
-fn add_values(plan: &Plan, journal: &Journal, text: &mut String) -> Result<(), AllocError>
+pub(crate) fn add_values(
+    plan: &Plan,
+    journal: &Journal,
+    is_json: bool,
+    text: &mut String,
+) -> Result<(), AllocError>
     ensures { OnOk result (string_bytes text.new
-        ≡ string_bytes text.old ++ values_text plan.now journal.now) }
+        ≡ string_bytes text.old ++ values_by is_json plan.now journal.now) }
 {
     let shown = view(journal, plan.registers());
     for register in 0..plan.registers() {
-        text.write(ValueText {
-            name: register_name_of(plan, register),
-            value: shown.value(register).unwrap_or(0),
-        })?;
+        let value = shown.value(register).unwrap_or(0);
+        add_value(
+            is_json,
+            register,
+            register_name_of(plan, register),
+            value,
+            text,
+        )?;
     }
     Ok(())
+}
+
+fn add_value(
+    is_json: bool,
+    register: u8,
+    name: &str,
+    value: u64,
+    text: &mut String,
+) -> Result<(), AllocError>
+    ensures { OnOk result (string_bytes text.new
+        ≡ string_bytes text.old ++ value_by is_json register name.now value) }
+{
+    if is_json {
+        return write!(text, "{}\"{name}\":{value}", comma_at(register));
+    }
+    write!(text, ", {name}={value}")
+}
+
+fn comma_at(place: u8) -> &'static str
+    ensures { result.now ≡ comma_at place }
+{
+    if place == 0 { "" } else { "," }
 }

@@ -1,70 +1,38 @@
-ghost use Rattle.std.specs.Prelude.{◌≡◌, ◌++◌, OnOk, Some, string_bytes};
+//! Parcels, in lines and as JSON.
+
+ghost use Rattle.std.specs.Prelude.{◌≡◌, ◌++◌, OnOk, codes, false, string_bytes, true};
 ghost use Rattle.mx_format.specs.LetterTexts.{letter_text};
-ghost use Rattle.mx_format.specs.ParcelTexts.{base_text, range_text, record_text, want_text, records_text, route_text, parcel_text, parcel_line};
+ghost use Rattle.mx_format.specs.Lines.{each_text};
+ghost use Rattle.mx_format.specs.Members.{array_member, word_member};
+ghost use Rattle.mx_format.specs.ParcelTexts.{content_json, parcel_json, parcel_line, parcel_text, range_by, record_text, route_text};
 
 use crate::events::name_of;
+use crate::json::{add_array, add_node_name, add_word, add_word_and_number, start_number};
 use crate::letters::Letter;
-use mx_journal::{Base, Range, Record};
+use crate::lists::{Listed, add_each};
+use crate::parts::add_letter_json;
+use mx_journal::{Range, Record};
 use mx_member::{Parcel, SentParcel};
 use mx_plan::Plan;
 use mx_stamps::NodeId;
 use std::alloc::AllocError;
-use std::fmt;
 
-/// A parcel's number, and from whom to whom it goes.
-#[derive(Clone, Copy)]
-pub struct Route<'a> {
-    pub plan: &'a Plan,
-    pub number: u64,
-    pub from: NodeId,
-    pub to: NodeId,
-}
+impl Listed for Range {
+    ghost written = { λ is_json _ range. range_by is_json range };
 
-impl fmt::Display for Route<'_> {
-    ghost output = { λ r. Some (route_text r.plan.now r.number r.from r.to) };
-
-    fn fmt<W: fmt::Write>(&self, f: &mut fmt::Formatter<W>) -> fmt::Result {
-        let number = self.number;
-        let from = name_of(self.plan, self.from);
-        let to = name_of(self.plan, self.to);
-        write!(f, "#{number} {from}>{to}")
+    fn add(&self, _plan: &Plan, is_json: bool, text: &mut String) -> Result<(), AllocError> {
+        if is_json {
+            return write!(text, "[{},{}]", self.first, self.last);
+        }
+        write!(text, "{}..{}", self.first, self.last)
     }
 }
 
-/// A range of section numbers, after one space.
-#[derive(Clone, Copy)]
-pub struct RangeText<'a>(pub &'a Range);
+impl Listed for Record {
+    ghost written = { λ _ _ entry. record_text entry };
 
-impl fmt::Display for RangeText<'_> {
-    ghost output = { λ r. Some (range_text r.0.now) };
-
-    fn fmt<W: fmt::Write>(&self, f: &mut fmt::Formatter<W>) -> fmt::Result {
-        write!(f, " {}..{}", self.0.first, self.0.last)
-    }
-}
-
-/// The number of a record, after one space.
-#[derive(Clone, Copy)]
-pub struct RecordText<'a>(pub &'a Record);
-
-impl fmt::Display for RecordText<'_> {
-    ghost output = { λ r. Some (record_text r.0.now) };
-
-    fn fmt<W: fmt::Write>(&self, f: &mut fmt::Formatter<W>) -> fmt::Result {
-        write!(f, " {}", self.0.number)
-    }
-}
-
-/// The text of a base: the word `base`, and the number of its last section.
-#[derive(Clone, Copy)]
-pub struct BaseText<'a>(pub &'a Base);
-
-impl fmt::Display for BaseText<'_> {
-    ghost output = { λ b. Some (base_text b.0.now) };
-
-    fn fmt<W: fmt::Write>(&self, f: &mut fmt::Formatter<W>) -> fmt::Result {
-        let upto = self.0.upto();
-        write!(f, "base {upto}")
+    fn add(&self, _plan: &Plan, _is_json: bool, text: &mut String) -> Result<(), AllocError> {
+        write!(text, "{}", self.number)
     }
 }
 
@@ -80,15 +48,25 @@ pub fn add_parcel_line<M: Letter>(
         (sent.now.from, sent.now.to, sent.now.parcel.now)) }
 {
     text.push_str("  ")?;
-    text.write(Route {
-        plan,
-        number,
-        from: sent.from,
-        to: sent.to,
-    })?;
+    add_route(plan, number, sent.from, sent.to, text)?;
     text.push_str(" ")?;
     add_parcel(plan, sent.parcel, text)?;
     text.push_str("\n")
+}
+
+/// Appends a parcel's number, and from whom to whom it goes.
+fn add_route(
+    plan: &Plan,
+    number: u64,
+    from: NodeId,
+    to: NodeId,
+    text: &mut String,
+) -> Result<(), AllocError>
+    ensures { OnOk result (string_bytes text.new
+        ≡ string_bytes text.old ++ route_text plan.now number from to) }
+{
+    let (from, to) = (name_of(plan, from), name_of(plan, to));
+    write!(text, "#{number} {from}>{to}")
 }
 
 /// Appends the text of a parcel.
@@ -102,29 +80,73 @@ pub fn add_parcel<M: Letter>(
 {
     match parcel {
         Parcel::Guard(letter) => letter.tell(plan, text),
-        Parcel::Want(ranges) => add_want(ranges.as_slice(), text),
-        Parcel::Base(base) => text.write(BaseText(base)),
-        Parcel::Records(records) => add_records(records.as_slice(), text),
+        Parcel::Want(ranges) => add_list(plan, "want", ranges.as_slice(), text),
+        Parcel::Base(base) => write!(text, "base {}", base.upto()),
+        Parcel::Records(records) => add_list(plan, "records", records.as_slice(), text),
     }
 }
 
-fn add_want(ranges: &[Range], text: &mut String) -> Result<(), AllocError>
-    ensures { OnOk result (string_bytes text.new ≡ string_bytes text.old ++ want_text ranges.now) }
-{
-    text.push_str("want")?;
-    for range in ranges {
-        text.write(RangeText(range))?;
-    }
-    Ok(())
-}
-
-fn add_records(records: &[Record], text: &mut String) -> Result<(), AllocError>
+fn add_list<V: Listed>(
+    plan: &Plan,
+    word: &str,
+    values: &[V],
+    text: &mut String,
+) -> Result<(), AllocError>
     ensures { OnOk result (string_bytes text.new ≡ string_bytes text.old
-        ++ records_text records.now) }
+        ++ (word.now ++ each_text (λ value. codes " " ++ V.written false plan.now value)
+        values.now)) }
 {
-    text.push_str("records")?;
-    for entry in records {
-        text.write(RecordText(entry))?;
+    text.push_str(word)?;
+    add_each(plan, false, " ", values, text)
+}
+
+/// Appends the line of a parcel, as an object of JSON.
+pub fn add_parcel_json<M: Letter>(
+    plan: &Plan,
+    number: u64,
+    sent: &SentParcel<'_, M>,
+    text: &mut String,
+) -> Result<(), AllocError>
+    ensures { OnOk result (string_bytes text.new ≡ string_bytes text.old
+        ++ parcel_json M.parts plan.now number
+        (sent.now.from, sent.now.to, sent.now.parcel.now)) }
+{
+    start_number("parcel", number, text)?;
+    add_node_name(plan, "from", sent.from, text)?;
+    add_node_name(plan, "to", sent.to, text)?;
+    add_content_json(plan, sent.parcel, text)?;
+    text.push_str("}\n")
+}
+
+fn add_content_json<M: Letter>(
+    plan: &Plan,
+    parcel: &Parcel<M>,
+    text: &mut String,
+) -> Result<(), AllocError>
+    ensures { OnOk result (string_bytes text.new
+        ≡ string_bytes text.old ++ content_json M.parts plan.now parcel.now) }
+{
+    match parcel {
+        Parcel::Guard(letter) => add_letter_json(plan, &letter.parts(), text),
+        Parcel::Want(ranges) => add_list_json(plan, "want", "ranges", ranges.as_slice(), text),
+        Parcel::Base(base) => add_word_and_number("kind", "base", "upto", base.upto(), text),
+        Parcel::Records(records) => {
+            add_list_json(plan, "records", "numbers", records.as_slice(), text)
+        }
     }
-    Ok(())
+}
+
+fn add_list_json<V: Listed>(
+    plan: &Plan,
+    kind: &str,
+    key: &str,
+    values: &[V],
+    text: &mut String,
+) -> Result<(), AllocError>
+    ensures { OnOk result (string_bytes text.new ≡ string_bytes text.old
+        ++ (word_member (codes "kind") kind.now
+        ++ array_member key.now (V.written true plan.now) values.now)) }
+{
+    add_word("kind", kind, text)?;
+    add_array(plan, key, values, text)
 }

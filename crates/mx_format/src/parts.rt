@@ -1,12 +1,14 @@
 //! The parts of a letter, from which its text, its JSON, its count and its arrow are made.
 
-ghost use Rattle.std.specs.Prelude.{Some};
-ghost use Rattle.mx_format.specs.Parts.{numbers_of, subject_of};
-ghost use Rattle.mx_format.specs.LetterTexts.{numbers_text, said_text, subject_text};
+ghost use Rattle.std.specs.Prelude.{◌≡◌, ◌++◌, OnOk, Some, string_bytes};
+ghost use Rattle.mx_format.specs.Parts.{numbers_of, parts_of, subject_of};
+ghost use Rattle.mx_format.specs.LetterTexts.{about_json, letter_json, numbers_json, numbers_text, said_text, subject_text};
 
 use crate::events::name_of;
+use crate::json::{add_node_name, add_number, add_word};
 use mx_plan::Plan;
 use mx_stamps::Stamp;
+use std::alloc::AllocError;
 use std::fmt;
 
 /// What a letter is about: a request, by its stamp, or a number, with the number's name.
@@ -97,5 +99,46 @@ impl fmt::Display for PartsText<'_> {
             subject: &self.parts.subject,
         };
         write!(f, "{word} {subject}{numbers}")
+    }
+}
+
+/// Appends the members of a letter.
+pub(crate) fn add_letter_json(
+    plan: &Plan,
+    parts: &LetterParts,
+    text: &mut String,
+) -> Result<(), AllocError>
+    ensures { OnOk result (string_bytes text.new
+        ≡ string_bytes text.old ++ letter_json plan.now (parts_of parts.now)) }
+{
+    add_word("kind", parts.word, text)?;
+    add_subject(plan, &parts.subject, text)?;
+    add_numbers(&parts.numbers, text)
+}
+
+fn add_subject(plan: &Plan, subject: &Subject, text: &mut String) -> Result<(), AllocError>
+    ensures { OnOk result (string_bytes text.new
+        ≡ string_bytes text.old ++ about_json plan.now (subject_of subject.now)) }
+{
+    match subject {
+        Subject::Stamp(stamp) => {
+            add_number("stamp", stamp.number, text)?;
+            add_node_name(plan, "of", stamp.node, text)
+        }
+        Subject::Number(name, number) => add_number(name, *number, text),
+    }
+}
+
+fn add_numbers(numbers: &Numbers, text: &mut String) -> Result<(), AllocError>
+    ensures { OnOk result (string_bytes text.new
+        ≡ string_bytes text.old ++ numbers_json (numbers_of numbers.now)) }
+{
+    match numbers {
+        Numbers::None => Ok(()),
+        Numbers::One(name, number) => add_number(name, *number, text),
+        Numbers::Two(name, number, second, other) => {
+            add_number(name, *number, text)?;
+            add_number(second, *other, text)
+        }
     }
 }

@@ -1,34 +1,19 @@
 //! Whom each node of a plan asks for a section.
 
-ghost use Rattle.std.specs.Prelude.{◌≡◌, ◌<◌, ◌++◌, Some, length, nat_eq, false, true, if◌then◌else◌, string_bytes, OnOk};
+ghost use Rattle.std.specs.Prelude.{◌≡◌, ◌<◌, ◌++◌, length, nat_eq, false, if◌then◌else◌, string_bytes, OnOk};
 ghost use Rattle.mx_trees.specs.Tree.{toward_of};
-ghost use Rattle.mx_format.specs.AskTexts.{asked_by, asked_json, asked_name, asked_names, asked_text, asks_end, asks_head, asks_line, asks_lines, asks_of, asks_start};
+ghost use Rattle.mx_format.specs.AskTexts.{asked_by, asked_names, asked_text, asks_end, asks_line, asks_lines, asks_of, asks_start};
 
 use crate::events::name_of;
-use crate::json::{NodeStart, add_node_name};
+use crate::json::add_node_pair;
 use mx_plan::{Plan, Shape};
 use mx_stamps::{MAX_NODES, NodeId};
 use mx_trees::Tree;
 use std::alloc::AllocError;
-use std::fmt;
 
-/// Appends a line for each node, in the order of the plan, with the names of those that it asks.
-pub fn add_asks(plan: &Plan, text: &mut String) -> Result<(), AllocError>
-    ensures { OnOk result (string_bytes text.new
-        ≡ string_bytes text.old ++ asks_lines false plan.now) }
-{
-    add_asks_as(plan, false, text)
-}
-
-/// Appends a line with a JSON object for each pair of a node and a node that it asks.
-pub fn add_asks_json(plan: &Plan, text: &mut String) -> Result<(), AllocError>
-    ensures { OnOk result (string_bytes text.new
-        ≡ string_bytes text.old ++ asks_lines true plan.now) }
-{
-    add_asks_as(plan, true, text)
-}
-
-fn add_asks_as(plan: &Plan, is_json: bool, text: &mut String) -> Result<(), AllocError>
+/// Appends a line for each node, in the order of the plan, with the names of those that it asks. If
+/// `is_json`, appends a JSON object for each pair of a node and a node that it asks, one on a line.
+pub fn add_asks(plan: &Plan, is_json: bool, text: &mut String) -> Result<(), AllocError>
     ensures { OnOk result (string_bytes text.new
         ≡ string_bytes text.old ++ asks_lines is_json plan.now) }
 {
@@ -56,7 +41,7 @@ fn add_start(plan: &Plan, is_json: bool, node: NodeId, text: &mut String) -> Res
     if is_json {
         return Ok(());
     }
-    text.write(AsksHead { plan, node })
+    write!(text, "asks {}:", name_of(plan, node))
 }
 
 /// Appends the line feed after the names. As JSON, appends nothing: each object ends its own line.
@@ -111,23 +96,9 @@ fn add_one_asked(
         ++ asked_by is_json plan.now node other) }
 {
     if is_json {
-        return add_asked_json(plan, node, other, text);
+        return add_node_pair(plan, node, "asks", other, text);
     }
-    text.write(AskedName { plan, node: other })
-}
-
-fn add_asked_json(
-    plan: &Plan,
-    node: NodeId,
-    other: NodeId,
-    text: &mut String,
-) -> Result<(), AllocError>
-    ensures { OnOk result (string_bytes text.new ≡ string_bytes text.old
-        ++ asked_json plan.now node other) }
-{
-    text.write(NodeStart(plan, node))?;
-    add_node_name(plan, "asks", other, text)?;
-    text.push_str("}\n")
+    write!(text, " {}", name_of(plan, other))
 }
 
 fn asks(plan: &Plan, node: NodeId, other: NodeId) -> bool
@@ -150,34 +121,4 @@ fn leads_to(tree: &Tree, node: NodeId, other: NodeId) -> bool
         return false;
     }
     tree.toward(node).get() == other.get()
-}
-
-#[derive(Clone, Copy)]
-struct AsksHead<'a> {
-    plan: &'a Plan,
-    node: NodeId,
-}
-
-impl fmt::Display for AsksHead<'_> {
-    ghost output = { λ l. Some (asks_head l.plan.now l.node) };
-
-    fn fmt<W: fmt::Write>(&self, f: &mut fmt::Formatter<W>) -> fmt::Result {
-        let node = name_of(self.plan, self.node);
-        write!(f, "asks {node}:")
-    }
-}
-
-#[derive(Clone, Copy)]
-struct AskedName<'a> {
-    plan: &'a Plan,
-    node: NodeId,
-}
-
-impl fmt::Display for AskedName<'_> {
-    ghost output = { λ l. Some (asked_name l.plan.now l.node) };
-
-    fn fmt<W: fmt::Write>(&self, f: &mut fmt::Formatter<W>) -> fmt::Result {
-        let node = name_of(self.plan, self.node);
-        write!(f, " {node}")
-    }
 }

@@ -1,26 +1,19 @@
 //! The lines that `check` and `explore` print.
 
 ghost use Rattle.std.specs.Prelude.{◌≡◌, Some};
-ghost use Rattle.mx_format.specs.PlanTexts.{algorithm_start, algorithm_text, bounds_text, explored_line, meet_line, meet_start, plan_line, toward_line};
+ghost use Rattle.mx_format.specs.PlanTexts.{algorithm_text, bounds_text, explored_line, plan_line};
 
-use crate::events::name_of;
 use mx_plan::{Plan, Shape};
-use mx_stamps::NodeId;
 use std::fmt;
 
-/// The word of an algorithm.
-#[derive(Clone, Copy)]
-pub struct AlgorithmText<'a>(pub &'a Shape);
-
-impl fmt::Display for AlgorithmText<'_> {
-    ghost output = { λ a. Some (algorithm_text a.0.now) };
-
-    fn fmt<W: fmt::Write>(&self, f: &mut fmt::Formatter<W>) -> fmt::Result {
-        match self.0 {
-            Shape::Ricart(_) => f.write_str("ricart"),
-            Shape::Maekawa(_) => f.write_str("maekawa"),
-            Shape::Raymond(_) => f.write_str("raymond"),
-        }
+/// Returns the word of an algorithm.
+pub(crate) fn algorithm_of(shape: &Shape) -> &'static str
+    ensures { result.now ≡ algorithm_text shape.now }
+{
+    match shape {
+        Shape::Ricart(_) => "ricart",
+        Shape::Maekawa(_) => "maekawa",
+        Shape::Raymond(_) => "raymond",
     }
 }
 
@@ -52,79 +45,10 @@ impl fmt::Display for PlanLine<'_> {
     ghost output = { λ l. Some (plan_line l.0.now) };
 
     fn fmt<W: fmt::Write>(&self, f: &mut fmt::Formatter<W>) -> fmt::Result {
-        let algorithm = AlgorithmText(self.0.shape());
+        let algorithm = algorithm_of(self.0.shape());
         let nodes = self.0.nodes();
         let bounds = BoundsText(self.0);
         writeln!(f, "plan {algorithm}, nodes {nodes}, {bounds}")
-    }
-}
-
-/// The start of a plan's JSON object: its algorithm.
-#[derive(Clone, Copy)]
-pub struct AlgorithmStart<'a>(pub &'a Shape);
-
-impl fmt::Display for AlgorithmStart<'_> {
-    ghost output = { λ a. Some (algorithm_start a.0.now) };
-
-    fn fmt<W: fmt::Write>(&self, f: &mut fmt::Formatter<W>) -> fmt::Result {
-        let algorithm = AlgorithmText(self.0);
-        write!(f, "{{\"plan\":\"{algorithm}\"")
-    }
-}
-
-/// The start of a JSON object about two nodes that share an arbiter: their names.
-#[derive(Clone, Copy)]
-pub struct MeetStart<'a> {
-    pub plan: &'a Plan,
-    pub first: NodeId,
-    pub second: NodeId,
-}
-
-impl fmt::Display for MeetStart<'_> {
-    ghost output = { λ l. Some (meet_start l.plan.now l.first l.second) };
-
-    fn fmt<W: fmt::Write>(&self, f: &mut fmt::Formatter<W>) -> fmt::Result {
-        let first = name_of(self.plan, self.first);
-        let second = name_of(self.plan, self.second);
-        write!(f, "{{\"meet\":[\"{first}\",\"{second}\"]")
-    }
-}
-
-/// The line of two nodes and `node`, the first arbiter that both have.
-#[derive(Clone, Copy)]
-pub struct MeetLine<'a> {
-    pub plan: &'a Plan,
-    pub first: NodeId,
-    pub second: NodeId,
-    pub node: NodeId,
-}
-
-impl fmt::Display for MeetLine<'_> {
-    ghost output = { λ l. Some (meet_line l.plan.now l.first l.second l.node) };
-
-    fn fmt<W: fmt::Write>(&self, f: &mut fmt::Formatter<W>) -> fmt::Result {
-        let first = name_of(self.plan, self.first);
-        let second = name_of(self.plan, self.second);
-        let node = name_of(self.plan, self.node);
-        writeln!(f, "meet {first} {second}: {node}")
-    }
-}
-
-/// The line of a node and `next`, its neighbour on the way to the holder.
-#[derive(Clone, Copy)]
-pub struct TowardLine<'a> {
-    pub plan: &'a Plan,
-    pub node: NodeId,
-    pub next: NodeId,
-}
-
-impl fmt::Display for TowardLine<'_> {
-    ghost output = { λ l. Some (toward_line l.plan.now l.node l.next) };
-
-    fn fmt<W: fmt::Write>(&self, f: &mut fmt::Formatter<W>) -> fmt::Result {
-        let node = name_of(self.plan, self.node);
-        let next = name_of(self.plan, self.next);
-        writeln!(f, "toward {node}: {next}")
     }
 }
 

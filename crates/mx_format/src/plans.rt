@@ -1,11 +1,12 @@
-ghost use Rattle.std.specs.Prelude.{◌≡◌, ◌+◌, ◌<◌, ◌++◌, true, length, drop, string_bytes, OnOk};
+ghost use Rattle.std.specs.Prelude.{◌≡◌, ◌+◌, ◌<◌, ◌++◌, length, drop, string_bytes, OnOk};
 ghost use Rattle.mx_plan.specs.Fields.{IsShape};
 ghost use Rattle.mx_plan.specs.declared.shape.Shape.TheVariants as shape;
 ghost use Rattle.mx_format.specs.Lines.{texts_from};
-ghost use Rattle.mx_format.specs.PlanTexts.{meet_by, meet_json, meet_lines, meet_lines_of, meet_text, plan_head, plan_json, plan_text, plan_text_by, sizes_json, toward_by, toward_json, toward_lines, toward_text};
+ghost use Rattle.mx_format.specs.PlanTexts.{meet_by, meet_lines, meet_lines_of, meet_text, plan_head, plan_json, plan_text_by, sizes_json, toward_by, toward_lines, toward_text};
 
-use crate::json::{NodeStart, add_node_name, add_number};
-use crate::plan_lines::{AlgorithmStart, MeetLine, MeetStart, PlanLine, TowardLine};
+use crate::events::name_of;
+use crate::json::{add_node_pair, add_number, start_word};
+use crate::plan_lines::{PlanLine, algorithm_of};
 use mx_plan::{Plan, Shape};
 use mx_quorums::Quorums;
 use mx_stamps::{MAX_NODES, NodeId};
@@ -14,22 +15,8 @@ use std::alloc::AllocError;
 
 /// Appends the line of a plan. For Maekawa's algorithm, a line for each pair of nodes follows, with
 /// the first arbiter that both have; for Raymond's, a line for each node but the holder, with its
-/// neighbour on the way to the holder.
-pub fn add_plan(plan: &Plan, text: &mut String) -> Result<(), AllocError>
-    ensures { OnOk result (string_bytes text.new ≡ string_bytes text.old ++ plan_text plan.now) }
-{
-    add_plan_as(plan, false, text)
-}
-
-/// Appends the lines of `add_plan` as JSON objects, one on a line.
-pub fn add_plan_json(plan: &Plan, text: &mut String) -> Result<(), AllocError>
-    ensures { OnOk result (string_bytes text.new
-        ≡ string_bytes text.old ++ plan_text_by true plan.now) }
-{
-    add_plan_as(plan, true, text)
-}
-
-fn add_plan_as(plan: &Plan, is_json: bool, text: &mut String) -> Result<(), AllocError>
+/// neighbour on the way to the holder. If `is_json`, appends JSON objects, one on a line.
+pub fn add_plan(plan: &Plan, is_json: bool, text: &mut String) -> Result<(), AllocError>
     ensures { OnOk result (string_bytes text.new
         ≡ string_bytes text.old ++ plan_text_by is_json plan.now) }
 {
@@ -54,7 +41,7 @@ fn add_head(plan: &Plan, is_json: bool, text: &mut String) -> Result<(), AllocEr
 fn add_object(plan: &Plan, text: &mut String) -> Result<(), AllocError>
     ensures { OnOk result (string_bytes text.new ≡ string_bytes text.old ++ plan_json plan.now) }
 {
-    text.write(AlgorithmStart(plan.shape()))?;
+    start_word("plan", algorithm_of(plan.shape()), text)?;
     add_sizes(plan, text)?;
     text.push_str("}\n")
 }
@@ -139,34 +126,16 @@ fn add_meet(
     ensures { OnOk result (string_bytes text.new ≡ string_bytes text.old
         ++ meet_by is_json plan.now first second node) }
 {
+    let first = name_of(plan, first);
+    let second = name_of(plan, second);
+    let node = name_of(plan, node);
     if is_json {
-        return add_meet_json(plan, first, second, node, text);
+        return write!(
+            text,
+            "{{\"meet\":[\"{first}\",\"{second}\"],\"arbiter\":\"{node}\"}}\n"
+        );
     }
-    text.write(MeetLine {
-        plan,
-        first,
-        second,
-        node,
-    })
-}
-
-fn add_meet_json(
-    plan: &Plan,
-    first: NodeId,
-    second: NodeId,
-    node: NodeId,
-    text: &mut String,
-) -> Result<(), AllocError>
-    ensures { OnOk result (string_bytes text.new ≡ string_bytes text.old
-        ++ meet_json plan.now first second node) }
-{
-    text.write(MeetStart {
-        plan,
-        first,
-        second,
-    })?;
-    add_node_name(plan, "arbiter", node, text)?;
-    text.push_str("}\n")
+    writeln!(text, "meet {first} {second}: {node}")
 }
 
 fn add_directions(
@@ -214,21 +183,8 @@ fn add_toward(
         ≡ string_bytes text.old ++ toward_by is_json plan.now node next) }
 {
     if is_json {
-        return add_toward_json(plan, node, next, text);
+        return add_node_pair(plan, node, "toward", next, text);
     }
-    text.write(TowardLine { plan, node, next })
-}
-
-fn add_toward_json(
-    plan: &Plan,
-    node: NodeId,
-    next: NodeId,
-    text: &mut String,
-) -> Result<(), AllocError>
-    ensures { OnOk result (string_bytes text.new
-        ≡ string_bytes text.old ++ toward_json plan.now node next) }
-{
-    text.write(NodeStart(plan, node))?;
-    add_node_name(plan, "toward", next, text)?;
-    text.push_str("}\n")
+    let (node, next) = (name_of(plan, node), name_of(plan, next));
+    writeln!(text, "toward {node}: {next}")
 }

@@ -1,7 +1,7 @@
-//! The parts of a node's line: its phase, the counts of its journal, and values of registers.
+//! The parts of a node's line: its phase, and the counts of its journal.
 
 ghost use Rattle.std.specs.Prelude.{Some};
-ghost use Rattle.mx_format.specs.NodeTexts.{phase_text, standing_text, summary_text, value_text};
+ghost use Rattle.mx_format.specs.NodeTexts.{phase_text, standing_text, summary_text};
 
 use mx_nodelaws::Phase;
 use std::fmt;
@@ -53,20 +53,5 @@ impl fmt::Display for JournalSummary {
 
     fn fmt<W: fmt::Write>(&self, f: &mut fmt::Formatter<W>) -> fmt::Result {
         write!(f, ", records {}, gapless {}", self.records, self.gapless)
-    }
-}
-
-/// The name of a register and its value.
-#[derive(Clone, Copy)]
-pub struct ValueText<'a> {
-    pub name: &'a str,
-    pub value: u64,
-}
-
-impl fmt::Display for ValueText<'_> {
-    ghost output = { λ v. Some (value_text v.name.now v.value) };
-
-    fn fmt<W: fmt::Write>(&self, f: &mut fmt::Formatter<W>) -> fmt::Result {
-        write!(f, ", {}={}", self.name, self.value)
     }
 }

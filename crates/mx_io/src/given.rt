@@ -4,8 +4,6 @@ ghost use Rattle.std.specs.Prelude.{◌≡◌, IfOk, IfErr, map, string_bytes};
 ghost use Rattle.std.specs.IoError.{error_kind};
 ghost use Rattle.mx_io.specs.Given.{status_without_words};
 
-use crate::output::Output;
-use crate::stream::Stream;
 use std::alloc::{AllocError, AllocGlobal, Global};
 use std::io::{ErrorKind, Write};
 use std::rt::Env;
@@ -38,7 +36,7 @@ pub fn as_slices<'a>(alloc: Global, given: &'a [String]) -> Result<Vec<&'a str>,
 
 /// Returns the exit status of a command: the one that it ended with. If its arguments could not be
 /// read, prints the reason to `err`, and returns 5 if memory ran out, and 2 otherwise.
-pub fn status_of<E: Write + Drop>(ended: io::Result<u8>, err: E) -> u8
+pub fn status_of<E: Write + Drop>(ended: io::Result<u8>, mut err: E) -> u8
     ensures ok { IfOk ended (λ status. result ≡ status) }
     ensures err { IfErr ended (λ e. result ≡ status_without_words (error_kind e)) }
 {
@@ -50,7 +48,7 @@ pub fn status_of<E: Write + Drop>(ended: io::Result<u8>, err: E) -> u8
             } else {
                 ("error: the words are not UTF-8\n", 2)
             };
-            let _ = Stream(err).put(line.as_bytes());
+            let _ = err.write_all(line.as_bytes());
             status
         }
     }

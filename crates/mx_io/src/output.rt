@@ -3,13 +3,16 @@ ghost use Rattle.std.specs.Io.KnownBytes.{Appends, Keeps};
 ghost use Rattle.mx_io.specs.Outputs.{refused_by};
 
 use std::alloc::{AllocError, Global};
+use thiserror::Error;
 
 /// Why an output refuses a text.
-#[derive(Clone, Copy, Debug, PartialEq, Eq)]
+#[derive(Clone, Copy, Debug, PartialEq, Eq, Error)]
 pub enum OutputFault {
     /// The output does not take the text.
+    #[error("the output refuses the text")]
     Refused,
     /// Memory ran out.
+    #[error("out of memory")]
     Memory,
 }
 
@@ -35,8 +38,8 @@ pub trait Output {
     // whether it has refused something, or nothing is known of that
     ghost has_refused: { Self → Bool } = { λ _. true };
 
-    // whether it has taken bytes that it has not passed on yet
-    ghost keeps_back: { Self → Bool } = { λ _. false };
+    // whether it has taken bytes that it has not passed on yet, or nothing is known of that
+    ghost keeps_back: { Self → Bool } = { λ _. true };
 
     /// Writes a text: all of it, or nothing.
     ///
@@ -71,6 +74,8 @@ impl Output for Vec<u8> {
     ghost takes_all = { λ _. true };
 
     ghost has_refused = { λ _. false };
+
+    ghost keeps_back = { λ _. false };
 
     fn put(&mut self, text: &[u8]) -> Result<(), OutputFault> {
         Ok(self.extend_from_slice(text)?)

@@ -3,13 +3,16 @@ ghost use Rattle.mx_io.specs.Told.{Asks, Telling, Tells, bytes_of, entries_of};
 
 use crate::streams::Refusal;
 use std::alloc::{AllocError, Global};
+use thiserror::Error;
 
 /// Why a source returns no bytes.
-#[derive(Clone, Copy, Debug)]
+#[derive(Clone, Copy, Debug, PartialEq, Eq, Error)]
 pub enum SourceFault {
     /// No such name exists, or it cannot be read.
+    #[error("the name cannot be read")]
     Unreadable,
     /// Memory ran out.
+    #[error("out of memory")]
     Memory,
 }
 

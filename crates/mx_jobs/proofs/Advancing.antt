@@ -21,7 +21,8 @@ use Rattle.mx_stations.specs.declared.answers.PutOut.TheVariants.{Sent, Full, No
 use Rattle.mx_stations.specs.Posts.{PutsOut, after_act, does}
 use Rattle.mx_stations.specs.Turns.{Chain, Goes, Moves, Station}
 use Rattle.mx_stations.specs.Works.{SettlesIfDue}
-use Rattle.mx_jobs.specs.Sections.{Advances, IsSection, Leaves, Pends, Reaches, Rests, Runs}
+use Rattle.mx_jobs.specs.declared.tries.JobFault.{JobFault}
+use Rattle.mx_jobs.specs.Sections.{Advances, CannotGoOn, Fails, IsSection, Leaves, Pends, Reaches, Rests, Runs}
 use Rattle.mx_jobs.proofs.Made.{pending_left}
 use Rattle.mx_jobs.proofs.Members.{pick, rests_acting, rests_here, rests_on}
 
@@ -172,6 +173,10 @@ module _ {J : Type 0} (AsksFor : J → List ℕ → Type 0) (Makes : J → ℕ �
 
     pub reaches_on : (p : Bool) (first job after : J) (from s t : Station core) → Reaches AsksFor Makes Holds core false first from job s → Reaches AsksFor Makes Holds core p job s after t → Reaches AsksFor Makes Holds core p first from after t
     reaches_on p first job after from s t a b = record { next = b.next; advances = advances_on first job b.next from s t (reached first job from s a) b.advances; rest = b.rest }
+
+    -- the job cannot go on
+    pub fails_on : (why : JobFault) (first job after : J) (from s t : Station core) → Reaches AsksFor Makes Holds core false first from job s → Rests core s t → CannotGoOn AsksFor Makes Holds core why job after t → Fails AsksFor Makes Holds core why first from after t
+    fails_on why first job after from s t a rests reason = record { next = job; advances = on_rests first job from s t (reached first job from s a) rests; reason = reason }
 
     -- a pending section is left
     pub left_at_last : (first job : J) (from s t : Station core) → Reaches AsksFor Makes Holds core true first from job s → (r : Receipt) × ((leave_of core s.me.member).answer ≡ Ok r) × (t ≡ does core Leave s) → Reaches AsksFor Makes Holds core false first from job t

@@ -4,7 +4,7 @@ use mathlib.Core.Option.{some}
 use lib.ListN.{get_elem?}
 use Rattle.std.proofs.lemmas.Option.{same_Some}
 use Rattle.mx_stamps.proofs.Lists.{get_snoc, none_is_no_some}
-use Rattle.mx_jobs.specs.Posted.{AreEach}
+use Rattle.mx_jobs.specs.Posted.{AreEach, AreReady}
 
 module _ {X : Type 0} where
   get_before : (xs : List X) (x : X) (m : ℕ) (y : X) → slice_get xs m ≡ Some y → slice_get (xs ++ x ∷ []) m ≡ Some y
@@ -67,3 +67,10 @@ pub as_elem : {X : Type 0} (xs : List X) (k : ℕ) (x : X) → slice_get xs k �
 as_elem [] k x at = absurd (none_is_no_some x at)
 as_elem (y ∷ xs) zero x at = ap some (same_Some y x at)
 as_elem (y ∷ xs) (suc k) x at = as_elem xs k x at
+
+-- the first of these jobs, and the others
+pub ready_on : {J : Type 0} (IsReady : J → Type 0) (job : J) (js all : List J) → all ≡ job ∷ js → AreReady IsReady all → IsReady job × AreReady IsReady js
+ready_on {J} IsReady job js all is ready = (
+  ready 0 job (ap (λ (l : List J). slice_get l 0) is),
+  λ k j at. ready (suc k) j (ap (λ (l : List J). slice_get l (suc k)) is ∙ at),
+)

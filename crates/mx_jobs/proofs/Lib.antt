@@ -1,6 +1,7 @@
 pub mod Members
 pub mod Made
 pub mod Advancing
+pub mod Able
 pub mod Kept
 pub mod Each
 pub mod OwnReceipts

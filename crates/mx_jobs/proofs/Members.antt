@@ -1,20 +1,22 @@
 -- What reads, writes and leaving make of a member.
-use Rattle.std.proofs.Common.{◌≡◌, ◌∙◌, ℕ, Bool, List, [], ◌∷◌, ◌++◌, Result, Ok, Err, refl, sym, ap, subst}
-use Rattle.std.specs.Prelude.{◌+◌, ◌<◌, get_or, length, map, nat_le, nat_lt, take, cond}
-use Rattle.std.proofs.lemmas.List.{append-nil, append_assoc, length_push, map_push, take_more}
+use Rattle.std.proofs.Common.{◌≡◌, ◌∙◌, ℕ, zero, suc, arith, Bool, List, [], ◌∷◌, ◌++◌, Result, Ok, Err, IsErrAnd, refl, sym, ap, subst, length-append}
+use Rattle.std.specs.Prelude.{◌+◌, ◌<◌, ◌≤◌, get_or, length, map, nat_le, nat_lt, take, cond}
+use Rattle.std.proofs.lemmas.Bool.Decides.{nat_tests}
+use Rattle.std.proofs.lemmas.List.{append-nil, append_assoc, length-take-le, length_push, map_push, take_more}
 use Rattle.std.proofs.lemmas.List.Elements.{All-nil, All-push}
 use Rattle.mx_journal.specs.declared.receipts.Read.{Read as OneRead}
 use Rattle.mx_journal.specs.declared.records.Write.{Write as OneWrite}
-use Rattle.mx_stamps.proofs.Choices.{cond_case, le_false}
+use Rattle.mx_stamps.proofs.Choices.{cond_case, cond_false, le_false, le_true}
 use Rattle.mx_journal.specs.declared.receipts.Receipt.{Receipt}
 use Rattle.mx_journal.specs.Drafted.{Drafted, fresh, with_read, with_write}
-use Rattle.mx_nodelaws.specs.Core.{Core}
+use Rattle.mx_nodelaws.specs.Core.{Core, IsInside}
 use Rattle.mx_nodelaws.specs.World.{Quiet}
 use Rattle.mx_nodelaws.specs.declared.phase.Phase.{Phase}
 use Rattle.mx_nodelaws.specs.declared.phase.Phase.TheVariants.{Idle, Waiting, Inside}
 use Rattle.mx_member.specs.declared.acts.Act.{Act}
 use Rattle.mx_member.specs.declared.acts.Act.TheVariants.{Read, Restart, Write}
 use Rattle.mx_member.specs.declared.faults.ReadFault.{ReadFault}
+use Rattle.mx_member.specs.declared.faults.ReadFault.TheVariants as read
 use Rattle.mx_member.specs.declared.faults.WriteFault.{WriteFault}
 use Rattle.mx_member.specs.Acts.{act_of}
 use Rattle.mx_member.specs.Receipts.{closed_by}
@@ -24,7 +26,7 @@ use Rattle.mx_stations.specs.Posts.{does}
 use Rattle.mx_stations.specs.Turns.{Station}
 use Rattle.mx_jobs.specs.declared.tries.JobFault.{JobFault}
 use Rattle.mx_jobs.specs.declared.tries.Tried.{Tried}
-use Rattle.mx_jobs.specs.declared.tries.Tried.TheVariants.{Gap, Left, Pending}
+use Rattle.mx_jobs.specs.declared.tries.Tried.TheVariants.{Gap, Left, Outside, Pending}
 use Rattle.mx_jobs.specs.Laws.{AreThere}
 use Rattle.mx_jobs.specs.Sections.{Drafts, HasRead, Rests}
 
@@ -35,8 +37,23 @@ pick P b x y one other = cond_case P b x y (λ is. one) (λ is. other)
 ok_err : {A F : Type 0} (v : A) (f : F) → ◌≡◌ {A = Result A F} (Ok v) (Err f) → ⊥
 ok_err v f e = cc
 
+same_err : {A F : Type 0} (f h : F) → ◌≡◌ {A = Result A F} (Err f) (Err h) → f ≡ h
+same_err f h e = cc
+
 pub same_ok : {A F : Type 0} (v w : A) → ◌≡◌ {A = Result A F} (Ok v) (Ok w) → v ≡ w
 same_ok v w e = cc
+
+no_gap : (n : ℕ) → ◌≡◌ {A = Result ℕ ReadFault} (Err read.NoRegister) (Err (read.Gap n)) → ⊥
+no_gap n e = cc
+
+no_full : ◌≡◌ {A = Result ℕ ReadFault} (Err read.NoRegister) (Err read.Full) → ⊥
+no_full e = cc
+
+no_settled : (n : ℕ) → ◌≡◌ {A = Result ℕ ReadFault} (Err read.NoRegister) (Err (read.Settled n)) → ⊥
+no_settled n e = cc
+
+no_outside : ◌≡◌ {A = Result ℕ ReadFault} (Err read.NoRegister) (Err read.NotInside) → ⊥
+no_outside e = cc
 
 module _ {S : Type 0} (m : MemberState S) where
   -- a step that answers this value notes a read of it
@@ -78,7 +95,37 @@ module _ {S : Type 0} (m : MemberState S) where
   inside_writes_there register v =
       cond_case (WritesThere register) (nat_le m.setting.registers register) _ _ (λ is e. absurd (ok_err tt _ e)) (λ is e. le_false m.setting.registers register is)
 
+  -- a step that is refused for want of its register reads none that is there
+  abbrev Lacks : ℕ → Quiet (MemberState S) (Result ℕ ReadFault) → Type 0
+  Lacks register step = Err read.NoRegister ≡ step.answer → register < m.setting.registers → ⊥
+
+  inside_lacks : (register n : ℕ) → Lacks register (read_inside register n m)
+  inside_lacks register n =
+      cond_case (Lacks register) (nat_le m.setting.registers register) _ _ (λ is e low. let high = le_true m.setting.registers register is in omega (arith, high, low))
+      (λ is. pick (Lacks register) (nat_lt (first_gap m.journal) n) _ _ (λ e low. no_gap _ e)
+      (pick (Lacks register) (nat_le 8 (length m.draft.reads)) _ _ (λ e low. no_full e)
+      (pick (Lacks register) (nat_le n m.journal.base.upto) _ _ (λ e low. no_settled _ e) (λ e low. ok_err _ _ (sym e)))))
+
+  -- a draft with room takes each write to a register that is there
+  inside_takes : (register v : ℕ) → length m.draft.writes < 8 → register < m.setting.registers → (write_inside register v m).answer ≡ Ok tt
+  inside_takes register v room there =
+      ap (λ (q : Quiet (MemberState S) (Result (Unit {0}) WriteFault)). q.answer)
+      (cond_false (nat_le m.setting.registers register) _ _ (grind (arith, nat_tests)) ∙ cond_false (nat_le 8 (length m.draft.writes)) _ _ (grind (arith, nat_tests)))
+
 module _ {H S M : Type 0} (core : Core H S M) where
+  at_lacks : (register : ℕ) (m : MemberState S) (p : Phase) → Lacks m register (read_at core register m p)
+  at_lacks register m Idle e low = no_outside e
+  at_lacks register m Waiting e low = no_outside e
+  at_lacks register m (Inside n) e low = inside_lacks m register n e low
+
+  pub read_lacks : (register : ℕ) (s : Station core) → Err read.NoRegister ≡ (read_of core register s.me.member).answer → register < s.me.member.setting.registers → ⊥
+  read_lacks register s e low = at_lacks register s.me.member (core.phase s.me.member.core) e low
+
+  -- a write that is refused inside, where the draft has room, is to a register that is not there
+  pub write_lacks : (register v : ℕ) (f : WriteFault) (s : Station core) → IsInside core s.me.member.core → length s.me.member.draft.writes < 8 → Err f ≡ (write_of core register v s.me.member).answer → register < s.me.member.setting.registers → ⊥
+  write_lacks register v f s inside room e there =
+      ok_err tt f (sym (e ∙ ap (λ (p : Phase). (write_at core register v s.me.member p).answer) inside.1 ∙ inside_takes s.me.member register v room there))
+
   at_notes : (register v : ℕ) (m : MemberState S) (p : Phase) → Notes m register v (read_at core register m p)
   at_notes register v m Idle e = absurd (ok_err v _ e)
   at_notes register v m Waiting e = absurd (ok_err v _ e)
@@ -155,6 +202,30 @@ module _ {H S M : Type 0} (core : Core H S M) where
   pub write_drafts : (register v : ℕ) (s t : Station core) → Ok tt ≡ (write_of core register v s.me.member).answer → t ≡ does core (Write register v) s → Drafts core s (with_write register v s.me.member.draft) t
   write_drafts register v s t found did = drafts_acting (Write register v) (with_write register v s.me.member.draft) s t refl (at_wrote register v s.me.member (core.phase s.me.member.core) found) did
 
+-- the fault that was passed on
+pub which : {A : Type 0} (r : Result A ReadFault) (f g : ReadFault) → IsErrAnd r (λ x. x ≡ f) → r ≡ Err g → f ≡ g
+which (Ok x) f g is e = absurd (ok_err x g e)
+which {A} (Err x) f g is e = sym is ∙ same_err {A = A} x g e
+
+-- writes that are noted so far leave room for one of eight
+pub room_left : (had all : List OneWrite) (k : ℕ) (now : List OneWrite) → had ≡ [] → length all ≤ 8 → k < length all → now ≡ had ++ take k all → length now < 8
+room_left had all k now none few low is =
+    let long = ap length is ∙ length-append had (take k all) in
+    let nothing = ap length none in
+    let cut = length-take-le k all (omega arith) in
+    omega (arith, long, nothing, cut, few, low)
+
+-- the register at a place of those that are there
+pub there_at : (count : ℕ) (rs : List ℕ) (k : ℕ) → k < length rs → AreThere count rs → get_or rs k 0 < count
+there_at count [] k low all = absurd (omega (arith, low))
+there_at count (r ∷ rs) zero low all = all.0
+there_at count (r ∷ rs) (suc k) low all = there_at count rs k (omega (arith, low)) all.1
+
+pub written_at : (count : ℕ) (ws : List OneWrite) (k : ℕ) (z : OneWrite) → k < length ws → AreThere count (map (λ (w : OneWrite). w.register) ws) → (get_or ws k z).register < count
+written_at count [] k z low all = absurd (omega (arith, low))
+written_at count (w ∷ ws) zero z low all = all.0
+written_at count (w ∷ ws) (suc k) z low all = written_at count ws k z (omega (arith, low)) all.1
+
 there_push : (count : ℕ) (rs : List ℕ) (r : ℕ) → AreThere count rs → r < count → AreThere count (rs ++ r ∷ [])
 there_push count [] r all low = (low, tt)
 there_push count (x ∷ rs) r all low = (all.0, there_push count rs r all.1 low)
@@ -210,6 +281,9 @@ module _ {H S M : Type 0} (core : Core H S M) where
 
 pub apart_tries : ◌≡◌ {A = Result Tried JobFault} (Ok Gap) (Ok Left) → ⊥
 apart_tries e = cc
+
+pub apart_outside : ◌≡◌ {A = Result Tried JobFault} (Ok Gap) (Ok Outside) → ⊥
+apart_outside e = cc
 
 pub apart_pending : ◌≡◌ {A = Result Tried JobFault} (Ok Gap) (Ok Pending) → ⊥
 apart_pending e = cc

@@ -25,7 +25,7 @@ use Rattle.mx_jobs.specs.declared.threads.WorkAt.{WorkAt}
 use Rattle.mx_jobs.specs.Posted.{AddsWorker, AreEach, ArePosted, Fit, IsPosted}
 use Rattle.mx_jobs.specs.Runs.{AreBack, AreDone, AreLeft, HasLeft, HaveRun, IsAtRest, IsDone, IsLeft, IsUnderWay, Opening, own_of, registers_at}
 use Rattle.mx_jobs.proofs.Each.{as_elem, cons_each, each_at, first_each, last_each, none_each, pushed_each, rest_each}
-use Rattle.mx_jobs.proofs.Telling.{done_is_not_yet, shut_is_done, shut_is_not_yet}
+use Rattle.mx_jobs.proofs.Telling.{done_is_not_yet, done_not_own, shut_is_done, shut_is_not_yet, shut_not_own}
 use Rattle.mx_jobs.proofs.OwnReceipts.{own_receipts, owned}
 
 module _ {X J : Type 0} (stations : List X) (jobs : List J) where
@@ -104,7 +104,14 @@ module _ {J : Type 0} (AsksFor : J → List ℕ → Type 0) (Makes : J → ℕ �
   }
 
   did_nothing : (s : Station core) (j : J) → IsLeft AsksFor Makes Holds Finished core options s j (s, j, GateShut)
-  did_nothing s j = record { works = refl; done = λ e. absurd (shut_is_done e); reached = λ e. absurd (shut_is_not_yet e); shut = λ e. refl }
+  did_nothing s j = record {
+    works = refl;
+    done = λ e. absurd (shut_is_done e);
+    reached = λ e. absurd (shut_is_not_yet e);
+    idles = λ e. absurd (shut_is_not_yet e);
+    broken = λ why e. absurd (shut_not_own why e);
+    shut = λ e. refl;
+  }
 
   -- with no thread nothing is done
   pub unstarted : (k : ℕ) (ss : List (Station core)) (js : List J) → length js ≡ length ss → Fit stations jobs k ss js → (ends : List Ended) × AreLeft AsksFor Makes Holds Finished core options stations jobs k ends ss js
@@ -244,7 +251,14 @@ module _ {J : Type 0} (AsksFor : J → List ℕ → Type 0) (Makes : J → ℕ �
         let one = was_at (λ (s : Station core). Done) lefts k end last in
         let is = done.each k from left job after place own here there in
         subst (λ (z : Ended). IsLeft AsksFor Makes Holds Finished core options from job (left, after, z)) one.2
-        (record { works = is.works; done = λ e. is; reached = λ e. absurd (done_is_not_yet e); shut = λ e. absurd (shut_is_done (sym e)) });
+        (record {
+          works = is.works;
+          done = λ e. is;
+          reached = λ e. absurd (done_is_not_yet e);
+          idles = λ e. absurd (done_is_not_yet e);
+          broken = λ why e. absurd (done_not_own why e);
+          shut = λ e. absurd (shut_is_done (sym e));
+        });
   }
 
   module _ (o : Opening H) (lefts : List (Station core)) (afters : List J) (rests : AreEach (IsAtRest core o) 0 stations) (done : AreDone AsksFor Makes Holds Finished core options stations jobs lefts afters) where

@@ -7,6 +7,10 @@ use Rattle.mx_jobs.specs.declared.worker.RunOptions.{RunOptions}
 pub record AreEach {X : Type 0} (IsSo : ℕ → X → Type 0) (from : ℕ) (xs : List X) : Type 0 where
   pub each : (k : ℕ) (x : X) → slice_get xs k ≡ Some x → IsSo (from + k) x
 
+-- each of these jobs may be asked for a section
+abbrev pub AreReady : {J : Type 0} → (J → Type 0) → List J → Type 0
+AreReady {J} IsReady jobs = (k : ℕ) (job : J) → slice_get jobs k ≡ Some job → IsReady job
+
 module _ {X J : Type 0} where
   -- one more worker was added, with this station, this job and these options
   pub record AddsWorker (options : RunOptions) (at : X) (job : J) (old new : List (WorkAt X J))

@@ -1,13 +1,13 @@
-use Rattle.std.specs.Prelude.{◌≡◌, ◌<◌, ◌≤◌, ℕ, zero, suc, List, [], ◌∷◌, length}
+use Rattle.std.specs.Prelude.{◌≡◌, ◌<◌, ◌≤◌, ℕ, zero, suc, Bool, true, false, length}
 use Rattle.mx_nodelaws.specs.Core.{Core}
 use Rattle.mx_member.specs.declared.acts.Act.{Act}
 use Rattle.mx_member.specs.declared.acts.Act.TheVariants as act
-use Rattle.mx_stations.specs.Posts.{does}
 use Rattle.mx_stations.specs.Turns.{Station}
-use Rattle.mx_stations.specs.Works.{HasTurned, MayLeave, SettlesIfDue}
+use Rattle.mx_stations.specs.Works.{Acts, HasTurned, MayLeave, SettlesIfDue}
 use Rattle.mx_jobs.specs.declared.worker.Ended.{Ended}
 use Rattle.mx_jobs.specs.declared.worker.Ended.TheVariants.{Broken, Done, GateShut, NotYet, Stopped}
 use Rattle.mx_jobs.specs.declared.worker.RunOptions.{RunOptions}
+use Rattle.mx_jobs.specs.Sections.{IsSpent}
 
 -- an act of one of n nodes for its job, by which no section is left: the node asks, enters, reads,
 -- writes, empties its draft, or asks one of the nodes for records
@@ -25,14 +25,9 @@ IsForJob n (act.Deliver from p) = ⊥
 IsForJob n act.Restart = Unit {0}
 
 module _ {H S M : Type 0} (core : Core H S M) where
-  -- these acts for a job, one after another, lead from s to t
-  abbrev pub Acts : List (Act M) → Station core → Station core → Type 0
-  Acts [] s t = t ≡ s
-  Acts (a ∷ more) s t = IsForJob s.nodes a × Acts more (does core a s) t
-
   -- some acts for a job, one after another, lead from s to t
   abbrev pub ActsForJob : Station core → Station core → Type 0
-  ActsForJob s t = (acts : List (Act M)) × Acts acts s t
+  ActsForJob s t = Acts core (λ n a. IsForJob n a) s t
 
   -- the acts of a round: some acts for the job, and then the node may leave its section
   pub record Serves (s t : Station core) : Type 0 where
@@ -41,11 +36,14 @@ module _ {H S M : Type 0} (core : Core H S M) where
     pub leaves : MayLeave core acted t
 
   -- One round: acts for the job, one turn of the station, and then the station settles if that is
-  -- due.
+  -- due. Unless the worker was idle, since the job wanted no section, its node was not refused for
+  -- want of a section number.
   pub record Round (every : ℕ) (s t : Station core) : Type 0 where
     pub served : Station core
     pub turned : Station core
     pub serves : Serves s served
+    pub idle : Bool
+    pub able : idle ≡ false → IsSpent core served → ⊥
     pub turns : HasTurned core served turned
     pub settles : SettlesIfDue core every (length s.me.receipts) turned t
 
@@ -53,6 +51,13 @@ module _ {H S M : Type 0} (core : Core H S M) where
   abbrev pub Rounds : ℕ → ℕ → Station core → Station core → Type 0
   Rounds every zero s t = t ≡ s
   Rounds every (suc made) s t = (m : Station core) × Rounds every made s m × Round every m t
+
+  -- the same, and the worker was idle in the last of these rounds only if its job is over
+  abbrev pub BusyRounds : Type 0 → ℕ → ℕ → Station core → Station core → Type 0
+  BusyRounds Over every zero s t = t ≡ s
+  BusyRounds Over every (suc made) s t =
+      (m : Station core) × Rounds every made s m
+      × ((round : Round every m t) × (round.idle ≡ true → Over))
 
   -- at most `options.turns` rounds, one after another, lead from s to t
   pub record WorksAtMost (options : RunOptions) (s t : Station core) : Type 0 where

@@ -14,14 +14,15 @@ use Rattle.mx_stations.specs.Posts.{Post}
 use Rattle.mx_stations.specs.Running.{fresh}
 use Rattle.mx_stations.specs.Turns.{Station}
 use Rattle.mx_jobs.specs.declared.worker.Ended.{Ended}
-use Rattle.mx_jobs.specs.declared.worker.Ended.TheVariants.{Done, GateShut, NotYet}
+use Rattle.mx_jobs.specs.declared.worker.Ended.TheVariants.{Broken, Done, GateShut, NotYet}
 use Rattle.mx_jobs.specs.declared.worker.RunOptions.{RunOptions}
 use Rattle.mx_jobs.specs.declared.faults.RunFault.{RunFault}
+use Rattle.mx_jobs.specs.declared.tries.JobFault.{JobFault}
 use Rattle.mx_jobs.specs.Faults.{Tells}
 use Rattle.mx_jobs.specs.declared.threads.WorkAt.{WorkAt}
 use Rattle.mx_jobs.specs.Posted.{AreEach, ArePosted}
-use Rattle.mx_jobs.specs.Rounds.{Works, WorksAtMost}
-use Rattle.mx_jobs.specs.Sections.{Advances, Reaches, Runs}
+use Rattle.mx_jobs.specs.Rounds.{BusyRounds, Works, WorksAtMost}
+use Rattle.mx_jobs.specs.Sections.{Advances, Fails, Reaches, Runs}
 use Rattle.mx_jobs.specs.Serial.{AreSerial}
 
 -- how the stations of a run were created: the cluster's shape, the number from which the numbers of
@@ -97,9 +98,15 @@ module _ {J : Type 0} (AsksFor : J → List ℕ → Type 0)
       pub works : Works core options left.2 from left.0
       pub done : left.2 ≡ Done → IsDone from job left.0 left.1
       -- if its turns were spent, it has made and left some sections of its job, and perhaps made
-      -- one more that it has not left yet
+      -- one more that it has not left yet. It was idle in its last round only if the job has no
+      -- more sections
       pub reached : left.2 ≡ NotYet
           → (pending : Bool) × Reaches AsksFor Makes Holds core pending job from left.1 left.0
+      pub idles : left.2 ≡ NotYet
+          → BusyRounds core (Finished left.1) options.settle_every options.turns from left.0
+      -- if its job cannot go on, that is for this reason
+      pub broken : (why : JobFault) → left.2 ≡ Broken why
+          → Fails AsksFor Makes Holds core why job from left.1 left.0
       pub shut : left.2 ≡ GateShut → left.1 ≡ job
 
     module _ (stations : List (Station core)) (jobs : List J) where

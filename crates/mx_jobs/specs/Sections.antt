@@ -1,4 +1,4 @@
-use Rattle.std.specs.Prelude.{◌≡◌, ℕ, Bool, MatchBool, List, [], ◌∷◌, ◌++◌, map}
+use Rattle.std.specs.Prelude.{◌≡◌, ◌⊎◌, ℕ, Bool, MatchBool, List, [], ◌∷◌, ◌++◌, Err, map}
 use Rattle.std.specs.List.{All}
 use Rattle.atomic_table.specs.Seated.{TableId}
 use Rattle.mx_journal.specs.declared.records.Write.{Write}
@@ -6,9 +6,12 @@ use Rattle.mx_journal.specs.declared.receipts.Read.{Read}
 use Rattle.mx_journal.specs.declared.receipts.Receipt.{Receipt}
 use Rattle.mx_journal.specs.Drafted.{Drafted, receipt_of}
 use Rattle.mx_nodelaws.specs.Core.{Core}
+use Rattle.mx_nodelaws.specs.declared.faults.EnterFault.TheVariants as enter
 use Rattle.mx_nodelaws.specs.declared.phase.Phase.TheVariants.{Inside}
 use Rattle.mx_stations.specs.Posts.{Post}
 use Rattle.mx_stations.specs.Turns.{Station}
+use Rattle.mx_jobs.specs.declared.tries.JobFault.{JobFault}
+use Rattle.mx_jobs.specs.declared.tries.JobFault.TheVariants.{NoRegister, NumbersSpent}
 use Rattle.mx_jobs.specs.Laws.{AreThere, KeepsLaw}
 
 abbrev pub registers_of : List Read → List ℕ
@@ -34,6 +37,10 @@ module _ {H S M : Type 0} (core : Core H S M) where
     pub rests : Rests s t
     pub same_core : t.me.member.core ≡ s.me.member.core
     pub drafted : t.me.member.draft ≡ draft
+
+  -- all section numbers are used: the node has waited and may enter, but `enter` is refused
+  abbrev pub IsSpent : Station core → Type 0
+  IsSpent s = (core.enter s.me.member.core).answer ≡ Err enter.NumbersSpent
 
   -- one section was left between s and t, and this is its receipt
   pub record Leaves (s : Station core) (r : Receipt) (t : Station core) : Type 0 where
@@ -70,7 +77,22 @@ module _ {J : Type 0} (AsksFor : J → List ℕ → Type 0)
   Runs count job (r ∷ rs) after =
       (next : J) × IsSection count job r next × Runs count next rs after
 
+  -- the job asks for a register that is not among the first `count`; or it made a section, which
+  -- led to the job `after`, and that writes one
+  abbrev pub LacksRegister : ℕ → J → J → Type 0
+  LacksRegister count job after =
+      ((after ≡ job)
+      × ((registers : List ℕ) × AsksFor job registers × (AreThere count registers → ⊥)))
+      ⊎ ((number : ℕ) × (values : List ℕ) × (writes : List Write)
+      × Makes job number values writes after
+      × (AreThere count (map (λ (w : Write). w.register) writes) → ⊥))
+
   module _ {H S M : Type 0} (core : Core H S M) where
+    -- the job cannot go on at this station, for this reason
+    abbrev pub CannotGoOn : JobFault → J → J → Station core → Type 0
+    CannotGoOn NoRegister job after t = LacksRegister t.me.member.setting.registers job after
+    CannotGoOn NumbersSpent job after t = (after ≡ job) × IsSpent core t
+
     -- some sections of the job were made and left, one after another: they led from the station s
     -- to t, and from the job to `after`
     pub record Advances (job : J) (s : Station core) (after : J) (t : Station core) : Type 0 where
@@ -79,6 +101,13 @@ module _ {J : Type 0} (AsksFor : J → List ℕ → Type 0)
       pub sections : List Receipt
       pub runs : Runs s.me.member.setting.registers job sections after
       pub receipts : t.me.receipts ≡ s.me.receipts ++ sections
+
+    -- some sections of the job were made and left, and then it could not go on, for this reason
+    pub record Fails (why : JobFault) (job : J) (s : Station core) (after : J) (t : Station core)
+        : Type 0 where
+      pub next : J
+      pub advances : Advances job s next t
+      pub reason : CannotGoOn why next after t
 
     -- A section of the job was made and is not left yet: the node is inside, and its draft is the
     -- section's.

@@ -52,10 +52,11 @@ pub struct Unfinished<C: Exclusion, J: Drop> {
 }
 
 pub(crate) fn with_end(fault: Option<RunFault>, ended: Ended) -> Option<RunFault>
-    ensures job { (why : TheFault) → fault ≡ Some (RunFault.Job why) → result ≡ fault }
+    ensures job { (why : TheFault) → fault ≡ Some (RunFault.Job why)
+        → ((w : TheFault) → ended ≢ Ended.Broken w) → result ≡ fault }
     ensures done { ended ≡ Ended.Done → result ≡ fault }
     ensures broken { (why : TheFault) → ended ≡ Ended.Broken why
-        → ((w : TheFault) → fault ≢ Some (RunFault.Job w)) → result ≡ Some (RunFault.Job why) }
+        → result ≡ Some (RunFault.Job why) }
     ensures stopped { (why : TheFault) → ended ≡ Ended.Stopped why
         → ((w : TheFault) → fault ≢ Some (RunFault.Job w)) → result ≡ Some (RunFault.Job why) }
     ensures shut { ended ≡ Ended.GateShut
@@ -66,8 +67,8 @@ pub(crate) fn with_end(fault: Option<RunFault>, ended: Ended) -> Option<RunFault
 {
     match (ended, fault) {
         (Ended::Done, _) => fault,
-        (_, Some(RunFault::Job(_))) => fault,
         (Ended::Broken(why), _) => Some(RunFault::Job(why)),
+        (_, Some(RunFault::Job(_))) => fault,
         (Ended::Stopped(why), _) => Some(RunFault::Job(why)),
         (Ended::GateShut, _) => Some(RunFault::GateShut),
         (Ended::NotYet, Some(RunFault::GateShut)) => fault,

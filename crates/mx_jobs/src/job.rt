@@ -36,6 +36,7 @@ pub trait Job: Drop {
     /// `values` are those of the registers that `asks` returned, in order.
     fn section(&mut self, number: u64, values: &[u64]) -> ArrayVec<Write, 8>
         requires { ready self.old }
+        ensures ready { ready self.new }
         ensures made { makes self.old number values.now result.items self.new }
         ensures keeps { KeepsLaw asks_for holds self.old number values.now result.items };
 }

@@ -9,7 +9,7 @@ ghost use Rattle.mx_jobs.specs.declared.worker.Ended.{Ended as TheEnd};
 ghost use Rattle.mx_jobs.specs.declared.worker.RunOptions.{RunOptions as TheOptions};
 ghost use Rattle.mx_jobs.specs.Faults.{IfOfEnds};
 ghost use Rattle.mx_jobs.specs.Laws.{contents_of};
-ghost use Rattle.mx_jobs.specs.Posted.{AreEach};
+ghost use Rattle.mx_jobs.specs.Posted.{AreEach, AreReady};
 ghost use Rattle.mx_jobs.specs.Runs.{AreBack, AreDone, AreNew, AreNotDone, HaveRun, IsAtRest, Opening, registers_at};
 
 use crate::ends::join_all;
@@ -65,7 +65,7 @@ where
     C::Msg: Send + 'static,
     C::Shape: Send + 'static,
     requires new { AreNew C.core stations.items }
-    requires ready { (j : J) → J.ready j }
+    requires ready { AreReady J.ready jobs.items }
     requires begins { (count : ℕ) → J.holds 0 (replicate count 0) }
     ensures ran { IfOk result (λ out. HaveRun J.asks_for J.makes J.holds J.finished
         (registers_at stations.items) jobs.items
@@ -111,7 +111,7 @@ pub fn run_stations<
 where
     C::Msg: Send + 'static,
     C::Shape: Send + 'static,
-    requires { (j : J) → J.ready j }
+    requires { AreReady J.ready jobs.items }
     ensures done { IfOk result (λ ran. AreDone J.asks_for J.makes J.holds J.finished C.core options
         stations.items jobs.items ran.stations.items ran.jobs.items) }
     ensures told { IfErr result (λ back. IfOfEnds back.fault
@@ -167,7 +167,7 @@ fn run_all<
 where
     C::Msg: Send + 'static,
     C::Shape: Send + 'static,
-    requires ready { (j : J) → J.ready j }
+    requires ready { AreReady J.ready jobs.old.items }
     requires each { length jobs.old.items ≡ length stations.old.items }
     ensures ok { OnOk result (AreDone J.asks_for J.makes J.holds J.finished C.core options
         stations.old.items jobs.old.items stations.new.items jobs.new.items) }

@@ -2,7 +2,7 @@
 
 ghost use Rattle.std.specs.Prelude.{◌≡◌, ◌<◌, ◌≤◌, ◌∷◌, [], length, vec_capacity, IfErr, IfNone, IfSome, OnErr, OnOk};
 ghost use Rattle.mx_jobs.specs.Faults.{IfOfEnds};
-ghost use Rattle.mx_jobs.specs.Posted.{AddsWorker, HaveRoom};
+ghost use Rattle.mx_jobs.specs.Posted.{AddsWorker, AreReady, HaveRoom};
 ghost use Rattle.mx_jobs.specs.Runs.{IsLeft, IsUnderWay};
 
 use crate::faults::{RunFault, fault_of};
@@ -44,7 +44,7 @@ fn do_work<C: Exclusion, J: Job, F: Fates + Drop>(
     gate: &StartGate,
     options: RunOptions,
 ) -> Left<C, J>
-    requires { (j : J) → J.ready j }
+    requires { J.ready job }
     ensures { IsLeft J.asks_for J.makes J.holds J.finished C.core options station job result }
 {
     let ended = work(&mut station, &mut job, gate, &mut fates, options);
@@ -68,7 +68,7 @@ fn start_one<
 where
     C::Msg: Send + 'static,
     C::Shape: Send + 'static,
-    requires { (j : J) → J.ready j }
+    requires { J.ready job }
     ensures ok { OnOk result (AddsWorker options station job workers.old workers.new) }
     ensures same { OnErr result (workers.new ≡ workers.old) }
     ensures err { IfErr result (λ back. IsLeft J.asks_for J.makes J.holds J.finished C.core
@@ -83,7 +83,7 @@ where
         rt,
         promise,
         move |gate: &StartGate| -> Left<C, J>
-            requires { (j : J) → J.ready j }
+            requires { J.ready job }
             ensures { IsLeft J.asks_for J.makes J.holds J.finished C.core
                 options station job result }
         { do_work(station, job, fates, gate, options) },
@@ -97,6 +97,7 @@ fn take_next<S: Drop, J: Drop, F: Drop>(
 ) -> Option<(S, J, F)>
     ensures station { IfSome result (λ next. stations.old.items ≡ next.0 ∷ stations.new.items) }
     ensures job { IfSome result (λ next. jobs.old.items ≡ next.1 ∷ jobs.new.items) }
+    ensures fates { IfSome result (λ next. fates.old.items ≡ next.2 ∷ fates.new.items) }
     ensures none { IfNone result ((stations.new.items ≡ stations.old.items)
         × (jobs.new.items ≡ jobs.old.items)) }
     ensures room { (vec_capacity stations.new ≡ vec_capacity stations.old)
@@ -134,7 +135,7 @@ pub(crate) fn start_each<
 where
     C::Msg: Send + 'static,
     C::Shape: Send + 'static,
-    requires ready { (j : J) → J.ready j }
+    requires ready { AreReady J.ready jobs.old.items }
     requires none { workers.old ≡ [] }
     requires each { length jobs.old.items ≡ length stations.old.items }
     ensures started { IsUnderWay J.asks_for J.makes J.holds J.finished C.core

@@ -1,15 +1,16 @@
 //! One try to make the next section of a job at a station.
 
-ghost use Rattle.std.specs.Prelude.{◌≡◌, ◌≤◌, ◌++◌, ◌∷◌, [], ℕ, Bool, Err, Ok, IfOk, OnErr, OnOk, false, length, map, true};
+ghost use Rattle.std.specs.Prelude.{◌≡◌, ◌≤◌, ◌++◌, ◌∷◌, [], ℕ, Bool, Err, Ok, IfErr, IfOk, OnErr, OnOk, false, length, map, true};
 ghost use Rattle.mx_journal.specs.Drafted.{Drafted, fresh};
 ghost use Rattle.mx_journal.specs.declared.receipts.Receipt.{Receipt as OneReceipt};
 ghost use Rattle.mx_journal.specs.declared.records.Write.{Write as OneWrite};
 ghost use Rattle.mx_member.specs.declared.acts.Act.TheVariants.{Leave};
 ghost use Rattle.mx_member.specs.Steps.{leave_of};
+ghost use Rattle.mx_nodelaws.specs.Core.{IsInside};
 ghost use Rattle.mx_stations.specs.Posts.{does};
 ghost use Rattle.mx_jobs.specs.Laws.{AreThere};
 ghost use Rattle.mx_jobs.specs.Rounds.{ActsForJob, Serves};
-ghost use Rattle.mx_jobs.specs.Sections.{Drafts, HasRead, IsSection, Leaves, Pends, Rests};
+ghost use Rattle.mx_jobs.specs.Sections.{CannotGoOn, Drafts, HasRead, IsSection, IsSpent, Leaves, Pends, Rests};
 
 use crate::job::Job;
 use arrayvec::ArrayVec;
@@ -51,6 +52,9 @@ fn read_all<C: Exclusion>(
         × HasRead station.old.me.member.setting.registers registers.now values.items draft
         × Drafts C.core station.old draft station.new) }
     ensures acts { ActsForJob C.core station.old station.new }
+    ensures phase { station.new.me.member.core ≡ station.old.me.member.core }
+    ensures lacks { result ≡ Err ReadFault.NoRegister
+        → AreThere station.old.me.member.setting.registers registers.now → ⊥ }
 {
     let mut values = ArrayVec::new();
     for register in registers {
@@ -61,6 +65,10 @@ fn read_all<C: Exclusion>(
 }
 
 fn write_all<C: Exclusion>(station: &mut Station<C>, writes: &[Write]) -> Result<(), WriteFault>
+    requires few { length writes.now ≤ 8 }
+    requires none { station.old.me.member.draft.writes ≡ [] }
+    requires inside { IsInside C.core station.old.me.member.core }
+    ensures rests { Rests C.core station.old station.new }
     ensures drafts { OnOk result (Drafts C.core station.old
         (record {
           reads = station.old.me.member.draft.reads;
@@ -69,6 +77,8 @@ fn write_all<C: Exclusion>(station: &mut Station<C>, writes: &[Write]) -> Result
         × AreThere station.old.me.member.setting.registers
         (map (λ (w : OneWrite). w.register) writes.now)) }
     ensures acts { ActsForJob C.core station.old station.new }
+    ensures lacks { OnErr result (AreThere station.old.me.member.setting.registers
+        (map (λ (w : OneWrite). w.register) writes.now) → ⊥) }
 {
     for write in writes {
         station.write(write.register, write.value)?;
@@ -96,7 +106,8 @@ pub(crate) fn try_section<C: Exclusion, J: Job>(
 ) -> Result<Tried, JobFault>
     requires few { length registers.now ≤ 8 }
     requires asked { J.asks_for job.old registers.now }
-    requires ready { (j : J) → J.ready j }
+    requires ready { J.ready job.old }
+    ensures ready { J.ready job.new }
     ensures left { result ≡ Ok Tried.Left → (r : OneReceipt)
         × IsSection J.asks_for J.makes J.holds
         station.old.me.member.setting.registers job.old r job.new
@@ -104,12 +115,16 @@ pub(crate) fn try_section<C: Exclusion, J: Job>(
     ensures pending { result ≡ Ok Tried.Pending → Rests C.core station.old station.new
         × Pends J.asks_for J.makes J.holds C.core job.old station.new job.new }
     ensures outside { result ≡ Ok Tried.Outside
-        → (job.new ≡ job.old) × Rests C.core station.old station.new }
-    ensures gap { result ≡ Ok Tried.Gap
-        → (job.new ≡ job.old) × Rests C.core station.old station.new }
+        → (job.new ≡ job.old) × (station.new ≡ station.old) }
+    ensures gap { result ≡ Ok Tried.Gap → (job.new ≡ job.old)
+        × Rests C.core station.old station.new
+        × (station.new.me.member.core ≡ station.old.me.member.core) }
+    ensures able { result ≡ Ok Tried.Left → IsSpent C.core station.new → ⊥ }
     ensures serves { OnOk result (Serves C.core station.old station.new) }
     ensures acts { result ≡ Ok Tried.Gap → ActsForJob C.core station.old station.new }
     ensures broken { OnErr result (ActsForJob C.core station.old station.new) }
+    ensures fails { IfErr result (λ why. Rests C.core station.old station.new
+        × CannotGoOn J.asks_for J.makes J.holds C.core why job.old job.new station.new) }
 {
     let Phase::Inside(number) = station.phase() else {
         return Ok(Tried::Outside);

@@ -1,13 +1,14 @@
 //! A worker: it takes a station through the sections of a job, and replies to the other nodes until
 //! all are done.
 
-ghost use Rattle.std.specs.Prelude.{◌≡◌, ◌≤◌, ◌<◌, ◌↔◌, Bool, false, true, IfOk, OnErr, OnOk, IsTrue, length};
+ghost use Rattle.std.specs.Prelude.{◌≡◌, ◌≤◌, ◌<◌, ◌↔◌, Bool, false, true, Err, IfErr, IfOk, OnErr, OnOk, IsTrue, length};
 ghost use Rattle.mx_member.specs.Member.{MemberState};
 ghost use Rattle.mx_member.specs.declared.parcel.Parcel.{Parcel};
 ghost use Rattle.mx_nodelaws.specs.Core.{IsInside};
 ghost use Rattle.mx_stations.specs.Posts.{Post};
-ghost use Rattle.mx_jobs.specs.Rounds.{ActsForJob, Round, Serves, Works};
-ghost use Rattle.mx_jobs.specs.Sections.{Advances, Reaches, Rests};
+ghost use Rattle.mx_jobs.specs.declared.tries.JobFault.{JobFault as TheFault};
+ghost use Rattle.mx_jobs.specs.Rounds.{ActsForJob, BusyRounds, Round, Serves, Works};
+ghost use Rattle.mx_jobs.specs.Sections.{Advances, CannotGoOn, Fails, IsSpent, Reaches, Rests};
 
 use crate::job::Job;
 use crate::tries::{JobFault, Tried, try_leave, try_section};
@@ -72,7 +73,7 @@ pub fn work<C: Exclusion, J: Job, G: Gate, F: Fates>(
     fates: &mut F,
     options: RunOptions,
 ) -> Ended
-    requires ready { (j : J) → J.ready j }
+    requires ready { J.ready job.old }
     ensures works { Works C.core options result station.old station.new }
     ensures done { result ≡ Ended.Done
         → Advances J.asks_for J.makes J.holds C.core job.old station.old job.new station.new }
@@ -81,6 +82,11 @@ pub fn work<C: Exclusion, J: Job, G: Gate, F: Fates>(
     ensures not_yet { result ≡ Ended.NotYet → (pending : Bool)
         × Reaches J.asks_for J.makes J.holds C.core
         pending job.old station.old job.new station.new }
+    ensures idles { result ≡ Ended.NotYet
+        → BusyRounds C.core (J.finished job.new) options.settle_every options.turns
+        station.old station.new }
+    ensures broken { (why : TheFault) → result ≡ Ended.Broken why
+        → Fails J.asks_for J.makes J.holds C.core why job.old station.old job.new station.new }
     ensures shut { result ≡ Ended.GateShut → job.new ≡ job.old }
 {
     let node = station.node();
@@ -121,7 +127,8 @@ fn take_turn<C: Exclusion, J: Job, F: Fates>(
     fates: &mut F,
     every: u64,
 ) -> Result<bool, JobFault>
-    requires ready { (j : J) → J.ready j }
+    requires ready { J.ready job.old }
+    ensures ready { J.ready job.new }
     ensures reaches { (first : J) (from : Post (MemberState C) (Parcel C.Msg))
         → Reaches J.asks_for J.makes J.holds C.core
         stance.old.pending first from job.old station.old
@@ -129,8 +136,17 @@ fn take_turn<C: Exclusion, J: Job, F: Fates>(
         stance.new.pending first from job.new station.new) }
     ensures finished { IfOk result (λ idle. idle ≡ true
         → (stance.new.pending ≡ false) × J.finished job.new) }
-    ensures round { OnOk result (Round C.core every station.old station.new) }
+    ensures round { (first : J) (from : Post (MemberState C) (Parcel C.Msg))
+        → Reaches J.asks_for J.makes J.holds C.core
+        stance.old.pending first from job.old station.old
+        → IfOk result (λ idle. (round : Round C.core every station.old station.new)
+        × (round.idle ≡ idle)) }
     ensures broken { OnErr result (ActsForJob C.core station.old station.new) }
+    ensures fails { (first : J) (from : Post (MemberState C) (Parcel C.Msg))
+        → Reaches J.asks_for J.makes J.holds C.core
+        stance.old.pending first from job.old station.old
+        → IfErr result (λ why. Fails J.asks_for J.makes J.holds C.core
+        why first from job.new station.new) }
 {
     let before = station.receipts().len();
     let idle = act(station, job, stance)?;
@@ -156,7 +172,8 @@ fn act<C: Exclusion, J: Job>(
     job: &mut J,
     stance: &mut WorkerState,
 ) -> Result<bool, JobFault>
-    requires ready { (j : J) → J.ready j }
+    requires ready { J.ready job.old }
+    ensures ready { J.ready job.new }
     ensures reaches { (first : J) (from : Post (MemberState C) (Parcel C.Msg))
         → Reaches J.asks_for J.makes J.holds C.core
         stance.old.pending first from job.old station.old
@@ -165,7 +182,16 @@ fn act<C: Exclusion, J: Job>(
     ensures finished { IfOk result (λ idle. idle ≡ true
         → (stance.new.pending ≡ false) × J.finished job.new) }
     ensures serves { OnOk result (Serves C.core station.old station.new) }
+    ensures able { (first : J) (from : Post (MemberState C) (Parcel C.Msg))
+        → Reaches J.asks_for J.makes J.holds C.core
+        stance.old.pending first from job.old station.old
+        → IfOk result (λ idle. idle ≡ false → IsSpent C.core station.new → ⊥) }
     ensures broken { OnErr result (ActsForJob C.core station.old station.new) }
+    ensures fails { (first : J) (from : Post (MemberState C) (Parcel C.Msg))
+        → Reaches J.asks_for J.makes J.holds C.core
+        stance.old.pending first from job.old station.old
+        → IfErr result (λ why. Fails J.asks_for J.makes J.holds C.core
+        why first from job.new station.new) }
 {
     if stance.pending {
         let has_left = try_leave(station);
@@ -180,14 +206,18 @@ fn go_on<C: Exclusion, J: Job>(
     job: &mut J,
     stance: &mut WorkerState,
 ) -> Result<bool, JobFault>
-    requires ready { (j : J) → J.ready j }
+    requires ready { J.ready job.old }
     requires left { stance.old.pending ≡ false }
+    ensures ready { J.ready job.new }
     ensures reaches { OnOk result (Reaches J.asks_for J.makes J.holds C.core
         stance.new.pending job.old station.old job.new station.new) }
     ensures finished { IfOk result (λ idle. idle ≡ true
         → (stance.new.pending ≡ false) × J.finished job.new) }
     ensures serves { OnOk result (Serves C.core station.old station.new) }
+    ensures able { IfOk result (λ idle. idle ≡ false → IsSpent C.core station.new → ⊥) }
     ensures broken { OnErr result (ActsForJob C.core station.old station.new) }
+    ensures fails { IfErr result (λ why. Rests C.core station.old station.new
+        × CannotGoOn J.asks_for J.makes J.holds C.core why job.old job.new station.new) }
 {
     let asked = job.asks();
     match &asked {
@@ -207,15 +237,19 @@ fn next_section<C: Exclusion, J: Job>(
 ) -> Result<(), JobFault>
     requires few { length registers.now ≤ 8 }
     requires asked { J.asks_for job.old registers.now }
-    requires ready { (j : J) → J.ready j }
+    requires ready { J.ready job.old }
     requires left { stance.old.pending ≡ false }
+    ensures ready { J.ready job.new }
     ensures reaches { OnOk result (Reaches J.asks_for J.makes J.holds C.core
         stance.new.pending job.old station.old job.new station.new) }
     ensures serves { OnOk result (Serves C.core station.old station.new) }
+    ensures able { OnOk result (IsSpent C.core station.new → ⊥) }
     ensures broken { OnErr result (ActsForJob C.core station.old station.new) }
+    ensures fails { IfErr result (λ why. Rests C.core station.old station.new
+        × CannotGoOn J.asks_for J.makes J.holds C.core why job.old job.new station.new) }
 {
     let _ = station.ask();
-    if station.enter() == Err(EnterFault::NumbersSpent) {
+    if is_spent(station.enter()) {
         return Err(JobFault::NumbersSpent);
     }
     match try_section(station, job, registers)? {
@@ -226,9 +260,16 @@ fn next_section<C: Exclusion, J: Job>(
     Ok(())
 }
 
+fn is_spent(entered: Result<u64, EnterFault>) -> bool
+    ensures { IsTrue result ↔ (entered ≡ Err EnterFault.NumbersSpent) }
+{
+    matches!(entered, Err(EnterFault::NumbersSpent))
+}
+
 fn want_next<C: Exclusion>(station: &mut Station<C>, stance: &mut WorkerState)
     ensures rests { Rests C.core station.old station.new }
     ensures acts { ActsForJob C.core station.old station.new }
+    ensures phase { station.new.me.member.core ≡ station.old.me.member.core }
     ensures same { stance.new.pending ≡ stance.old.pending }
 {
     let next = node_after(stance.wanted, station.node(), station.nodes());

@@ -66,8 +66,8 @@ pub record FirstNotDone {X : Type 0} (left : List (X × Worked)) (error : LiveEr
 abbrev pub EndInVain : {X : Type 0} → List (X × Worked) → LiveError → Type 0
 EndInVain left error = FirstNotDone left error ⊎ (AreDone left × (error ≡ Memory))
 
--- In a run of this plan some worker is not done, and this is the error of the first such worker, in
--- order of the nodes.
+-- Workers may leave stations of this plan so that some worker is not done, and this is the error of
+-- the first such worker, in order of the nodes. It does not say that threads left them.
 pub record RunsInVain {H S M : Type 0} (core : Core H S M) (shape : H) (p : Fields)
     (orders : WorkerConfig) (error : LiveError) : Type 0 where
   pub left : List (Station core × Worked)

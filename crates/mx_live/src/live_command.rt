@@ -27,8 +27,8 @@ use std::thread::Threads;
 
 /// Runs a command line that asks for `live`, without the program's name, and returns the exit
 /// status. For all other requests, writes nothing and returns 2. Of the threads, the contract says
-/// only that some outcome of theirs leads to this status. The outcome itself is returned by
-/// `run_stations` and `gather_left`.
+/// only that workers may leave stations that lead to this status, not that threads left them. The
+/// stations of the threads are returned by `run_stations`.
 pub fn live<R: Threads + Clock, S: Source, O: Output, E: Output>(
     rt: &R,
     alloc: Global,

@@ -57,8 +57,8 @@ fn add_line(bench: &Bench, text: &mut String) -> Result<(), AllocError> {
 fn add(bench: &Bench, call: Call, text: &mut String) -> Result<(), AllocError> {
     let plan = &bench.plan;
     match call {
-        Call::AddPlan => add_plan(plan, text),
-        Call::AddAsks => add_asks(plan, text),
+        Call::AddPlan => add_plan(plan, false, text),
+        Call::AddAsks => add_asks(plan, false, text),
         Call::AddMemberLine => add_member_line(plan, NodeId::default(), &bench.member, text),
         Call::AddParcelLine => add_line(bench, text),
         Call::TellRicart => RicartMsg::Reply(stamp(), 3).tell(plan, text),

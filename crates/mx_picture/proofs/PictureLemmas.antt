@@ -1,6 +1,7 @@
 -- A picture, from its lines, and what is printed where there is none.
 use Rattle.std.proofs.Common.{◌≡◌, ◌∙◌, ◌⊎◌, ◌++◌, ℕ, List, [], None, Result, Ok, Err, ap, false, inl, inr, length, refl, subst, sym, true}
 use Rattle.std.specs.Prelude.{codes, string_bytes}
+use Rattle.std.specs.Result.{result_err, result_map_both}
 use Rattle.mx_events.specs.declared.event.Event.{Event}
 use Rattle.mx_plan.specs.Text.{Text, line_feed}
 use Rattle.mx_plan.specs.Fields.{Fields}
@@ -16,7 +17,8 @@ use Rattle.mx_cli.specs.declared.stop.Stop.TheVariants as stop
 use Rattle.mx_cli.proofs.FrameLemmas.{fault_prints, line_prints, memory_prints, silent_end, text_prints}
 use Rattle.mx_picture.specs.declared.opening.Frame.{Frame}
 use Rattle.mx_picture.specs.Drawn.{IsPicture, opening_line, title_line}
-use Rattle.mx_picture.specs.Pictures.{IsDrawn, IsPictured, IsPicturedBy}
+use Rattle.mx_picture.specs.Pictures.{IsDrawn, IsPictured, IsPicturedBy, node_fault, node_in, part_in, part_on}
+use Rattle.mx_picture.specs.declared.part.Part.{Part as Shown}
 
 -- a text to which each part of a picture was appended
 pub picture_is : (p : Fields) (events : ℕ) (frame : Frame) (body t t1 t2 t3 t4 : Text) → t ≡ [] → t1 ≡ t ++ opening_line frame → t2 ≡ t1 ++ title_line p events
@@ -47,6 +49,10 @@ module _ (p : Fields) (es : List Event) where
         (subst (λ (e : End). IsDrawn p es e (ends (has_line (string_bytes line)))) (sym (silent_end r (has_line (string_bytes line)) h.shows)) refl) refl
     run_stops r stop.Writer h = absurd (never_refused r h.shows)
     run_stops r stop.Memory h = memory_prints (IsDrawn p es r.end) o
+
+-- the fault of a part is that of its node
+pub part_fault : (p : Fields) (part : Part) (r : Result Shown Fault) → r ≡ part_in p part → result_err r ≡ node_fault p part.node
+part_fault p part r is = ap result_err is ∙ elim (node_in p part.node) as (λ n. result_err (result_map_both (part_on part) (λ fault. fault) n) ≡ result_err n) [ Ok node ↦ refl | Err fault ↦ refl ]
 
 module _ (part : Part) (p : Fields) (text : Text) where
   -- the events that a text lists

@@ -1,6 +1,7 @@
 -- What `picture` prints.
-use Rattle.std.specs.Prelude.{◌≡◌, List, Option, None, Some, Result, Ok, Err, length}
+use Rattle.std.specs.Prelude.{◌≡◌, ℕ, List, Option, None, Some, Result, Ok, Err, length}
 use Rattle.std.specs.Option.{option_map_or}
+use Rattle.std.specs.Result.{result_err, result_map_both}
 use Rattle.mx_events.specs.declared.event.Event.{Event}
 use Rattle.mx_plan.specs.Text.{Text}
 use Rattle.mx_plan.specs.Fields.{Fields, node_of}
@@ -14,12 +15,25 @@ use Rattle.mx_cli.specs.declared.faults.Fault.{Fault}
 use Rattle.mx_cli.specs.declared.faults.Fault.TheVariants.{BadText}
 use Rattle.mx_commands.specs.Jobs.{run_by}
 use Rattle.mx_picture.specs.Drawn.{IsPicture}
+use Rattle.mx_picture.specs.declared.part.Part.{Part as Shown}
+
+-- the node of this name, or `Ok None` without a name; or the fault that the plan lacks the node
+abbrev pub node_in : Fields → Option Text → Result (Option ℕ) Fault
+node_in p None = Ok None
+node_in p (Some name) =
+    option_map_or (λ node. Ok (Some node)) (node_of p name) (Err (BadText (UnknownName Nodes)))
+
+-- the part that is shown: of this node, or of all
+abbrev pub part_on : Part → Option ℕ → Shown
+part_on part node =
+    record { from = part.from; to = part.to; node = node; only_letters = part.only_letters }
+
+abbrev pub part_in : Fields → Part → Result Shown Fault
+part_in p part = result_map_both (part_on part) (λ fault. fault) (node_in p part.node)
 
 -- the fault that a node was named that the plan does not have
 abbrev pub node_fault : Fields → Option Text → Option Fault
-node_fault p None = None
-node_fault p (Some name) =
-    option_map_or (λ _. None) (node_of p name) (Some (BadText (UnknownName Nodes)))
+node_fault p name = result_err (node_in p name)
 
 -- how these events end: as a replay of them, unless the named node is unknown
 abbrev pub end_of_run : Fields → Option Text → List Event → End

@@ -1,12 +1,11 @@
 //! `picture`: the events of a text happen as in a replay, and are drawn.
 
 ghost use Rattle.std.specs.Prelude.{◌≡◌, length};
-ghost use Rattle.std.specs.Result.{result_err};
 ghost use Rattle.mx_cli.specs.Printing.{Prints, sight};
 ghost use Rattle.mx_cli.specs.Requests.{part_of, text_of};
 ghost use Rattle.mx_commands.specs.Jobs.{run_by};
 ghost use Rattle.mx_commands.specs.Runs.{AllNameNodes};
-ghost use Rattle.mx_picture.specs.Pictures.{IsDrawn, IsPictured, end_of_run, node_fault};
+ghost use Rattle.mx_picture.specs.Pictures.{IsDrawn, IsPictured, end_of_run, node_in, part_in};
 
 use crate::drawing::Drawing;
 use crate::page::page_of;
@@ -60,7 +59,7 @@ fn draw<O: Output>(
 }
 
 fn part_of(plan: &Plan, options: &PictureOptions<'_>) -> Result<Part, Fault>
-    ensures { result_err result ≡ node_fault plan.now (text_of options.now.node) }
+    ensures { result ≡ part_in plan.now (part_of options.now) }
 {
     let node = node_in(plan, options.node)?;
     Ok(Part {
@@ -72,7 +71,7 @@ fn part_of(plan: &Plan, options: &PictureOptions<'_>) -> Result<Part, Fault>
 }
 
 fn node_in(plan: &Plan, name: Option<&str>) -> Result<Option<NodeId>, Fault>
-    ensures { result_err result ≡ node_fault plan.now (text_of name.entry) }
+    ensures { result ≡ node_in plan.now (text_of name.entry) }
 {
     let Some(name) = name else {
         return Ok(None);

@@ -5,7 +5,7 @@ ghost use Rattle.mx_format.specs.LetterTexts.{letter_text};
 ghost use Rattle.mx_format.specs.ParcelTexts.{parcel_lines};
 ghost use Rattle.mx_commands.specs.Runs.{event_lines};
 
-use mx_commands::add_parcels;
+use mx_commands::View;
 use mx_format::{EventLine, Letter};
 use mx_network::{Cluster, Entry};
 use mx_nodelaws::Exclusion;
@@ -26,7 +26,7 @@ where
         ++ parcel_lines (letter_text C.Msg.parts) plan.now parcel (drop parcel cluster.now.sent))) }
 {
     add_events(plan, cluster.trace(), event, text)?;
-    add_parcels(plan, cluster, parcel, text)
+    View::LINES.add_parcels(plan, cluster, parcel, text)
 }
 
 fn add_events(

@@ -6,12 +6,13 @@ ghost use Rattle.mx_commands.specs.Runs.{closing_text};
 ghost use Rattle.mx_scripts.specs.Files.{file_text};
 ghost use Rattle.mx_scripts.specs.Played.{events_of};
 
-use mx_commands::{add_closing, verdict_status};
+use mx_commands::{View, verdict_status};
 use mx_format::Letter;
+use mx_knowledge::Knowledge;
 use mx_nodelaws::Exclusion;
 use mx_plan::Plan;
 use mx_scripts::{State, add_file};
-use std::alloc::AllocError;
+use std::alloc::{AllocError, Global};
 
 pub(crate) fn add_events<C: Exclusion>(
     plan: &Plan,
@@ -24,7 +25,8 @@ pub(crate) fn add_events<C: Exclusion>(
     add_file(plan, state.cluster().trace(), text)
 }
 
-pub(crate) fn add_end<C: Exclusion>(
+pub(crate) fn add_end<C: Exclusion + Knowledge>(
+    alloc: Global,
     plan: &Plan,
     state: &State<C>,
     text: &mut String,
@@ -36,6 +38,6 @@ where
         ++ closing_text C.core (letter_text C.Msg.parts) plan.now state.now.cluster) }
     ensures zero { IfOk result (λ status. status ≡ 0) }
 {
-    let verdict = add_closing(plan, state.cluster(), text)?;
+    let verdict = View::LINES.add_closing(alloc, plan, state.cluster(), text)?;
     Ok(verdict_status(verdict))
 }

@@ -207,7 +207,7 @@ fn report<C: Exclusion, E: Output>(
     Ok(())
 }
 
-fn finish<C: Exclusion, O: Output>(
+fn finish<C: Exclusion + Knowledge, O: Output>(
     setting: &Setting<'_, C>,
     session: &Session<C>,
     out: &mut O,
@@ -222,7 +222,7 @@ where
     ensures zero { IfOk result (λ status. status ≡ 0) }
 {
     let mut text = String::new(setting.alloc);
-    let status = add_end(setting.plan, &session.state, &mut text)?;
+    let status = add_end(setting.alloc, setting.plan, &session.state, &mut text)?;
     out.put(text.as_bytes())?;
     Ok(status)
 }

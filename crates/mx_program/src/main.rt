@@ -58,8 +58,9 @@ where
     let given = given_words(rt)?;
     let words = with_help(as_slices(alloc, given.as_slice())?)?;
     let is_terminal = err.is_terminal();
-    let mut out = Stream(BufWriter::new(alloc, out)?);
-    let mut err = Stream(err);
+    let mut out = Stream::new(BufWriter::new(alloc, out)?);
+    // Without room, the buffer passes each line on at once.
+    let mut err = Stream::new(BufWriter::with_capacity(alloc, 0, err)?);
     let status = carry_out(rt, words.as_slice(), &mut out, &mut err);
     if status == 1 && is_terminal {
         tell_hint(alloc, words.as_slice(), &mut err);

@@ -5,7 +5,8 @@ use Rattle.mx_trace.specs.declared.outcome.Entry.{Entry}
 use Rattle.mx_plan.specs.Text.{Text}
 use Rattle.mx_plan.specs.Fields.{Fields}
 use Rattle.mx_format.specs.Lines.{each_text}
-use Rattle.mx_scripts.specs.Files.{file_text, item_text, next_text}
+use Rattle.mx_format.specs.EventArrays.{item_text}
+use Rattle.mx_scripts.specs.Files.{file_text, next_text}
 use Rattle.mx_scripts.specs.Played.{events_of}
 
 -- the texts of the further events of a trace

@@ -27,7 +27,7 @@ use Rattle.mx_plan.specs.Text.{Text, is_name_byte}
 use Rattle.mx_plan.specs.Fields.{Fields}
 use Rattle.mx_format.specs.EventTexts.{name_of, register_name_of}
 use Rattle.mx_format.specs.Lines.{each_text}
-use Rattle.mx_scripts.specs.Files.{item_text, quoted, value_text}
+use Rattle.mx_format.specs.EventArrays.{item_text, quoted, value_text}
 
 -- ---- a word
 

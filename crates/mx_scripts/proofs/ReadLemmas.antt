@@ -26,7 +26,8 @@ use Rattle.mx_plan.specs.Events.{event_of, events_at}
 use Rattle.mx_explorer.specs.Drawn.{IsDrawn}
 use Rattle.mx_format.specs.EventTexts.{name_of, register_name_of}
 use Rattle.mx_format.specs.Lines.{each_text}
-use Rattle.mx_scripts.specs.Files.{item_text, next_text, file_text}
+use Rattle.mx_format.specs.EventArrays.{item_text}
+use Rattle.mx_scripts.specs.Files.{next_text, file_text}
 use Rattle.mx_scripts.specs.Played.{AreReadable, IsNumbered}
 use Rattle.mx_scripts.proofs.ItemLemmas.{AreParts, IsPart, IsWord, Part, ascii_then, count, event_json, event_tokens, event_word, item_utf8, name, part_json, parts_json, parts_of}
 

@@ -1,5 +1,5 @@
 -- A station stays at its table, whatever it does.
-use Rattle.std.proofs.Common.{◌≡◌, inl, inr, ℕ, zero, suc, List, [], ◌∷◌, ◌++◌, Result, Ok, Err, IfOk, OnErr, OnOk, refl, sym, ap, ◌∙◌}
+use Rattle.std.proofs.Common.{◌≡◌, inl, inr, ℕ, zero, suc, List, [], ◌∷◌, ◌++◌, Result, Ok, Err, IfOk, OnErr, OnOk, refl, sym, ap, subst, ◌∙◌}
 use mathlib.Core.Option.{some, some-injective, some-ne-none}
 use lib.ListN.{get_elem?}
 use Rattle.mx_nodelaws.specs.Core.{Core}
@@ -62,6 +62,24 @@ module _ {T P : Type 0} where
       let last = left_of (λ (p : Post T P). (p.table ≡ one.0) × (p.nodes ≡ one.1)) all more t is one.2 in
       let next = left_of (λ (p : Post T P). (p.table ≡ one.0) × (p.nodes ≡ one.1)) more left s is_more last.0 in
       (last.1.0 ∙ sym next.1.0, last.1.1 ∙ sym next.1.1)
+
+  -- what is so of each, and of one more
+  pushed : (Q : Post T P → Type 0) (xs : List (Post T P)) (t : Post T P) → ((k : ℕ) (u : Post T P) → get_elem? xs k ≡ some u → Q u) → Q t → (k : ℕ) (u : Post T P) → get_elem? (xs ++ t ∷ []) k ≡ some u → Q u
+  pushed Q [] t all is zero u at = subst Q (some-injective t u at) is
+  pushed Q [] t all is (suc k) u at = absurd (some-ne-none u (sym at))
+  pushed Q (x ∷ xs) t all is zero u at = all zero u at
+  pushed Q (x ∷ xs) t all is (suc k) u at = pushed Q xs t (λ j v there. all (suc j) v there) is k u at
+
+  -- the first of some stations of one table goes to their end, still at its table
+  pub goes_last : (s t : Post T P) (xs old new : List (Post T P)) → old ≡ s ∷ xs → new ≡ xs ++ t ∷ [] → KeepsTable s t → OfOneTable old → OfOneTable new
+  goes_last s t xs old new is grown kept one =
+      let all : (k : ℕ) (u : Post T P) → get_elem? (s ∷ xs) k ≡ some u → (u.table ≡ one.0) × (u.nodes ≡ one.1) = subst (λ (l : List (Post T P)). (k : ℕ) (u : Post T P) → get_elem? l k ≡ some u → (u.table ≡ one.0) × (u.nodes ≡ one.1)) is one.2 in
+      let first = all 0 s refl in (
+        one.0,
+        one.1,
+        subst (λ (l : List (Post T P)). (k : ℕ) (u : Post T P) → get_elem? l k ≡ some u → (u.table ≡ one.0) × (u.nodes ≡ one.1)) (sym grown)
+            (pushed (λ (u : Post T P). (u.table ≡ one.0) × (u.nodes ≡ one.1)) xs t (λ k u at. all (suc k) u at) (kept.0 ∙ first.0, kept.1 ∙ first.1)),
+      )
 
 module _ {H S M : Type 0} (core : Core H S M) where
   -- an act, and a refused one

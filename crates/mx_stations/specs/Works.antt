@@ -38,9 +38,24 @@ module _ {H S M : Type 0} (core : Core H S M) (register : ℕ) where
   abbrev pub Works : Station core → Station core → Type 0
   Works s t = (ms : List (Station core)) × Row ms s t
 
-  -- the same, without leaving a section
+module _ {H S M : Type 0} (core : Core H S M) (IsKind : ℕ → Act M → Type 0) where
+  -- these acts of a station, one after another, lead from s to t. Each is of this kind, which
+  -- depends on the number of nodes
+  abbrev pub ActsIn : List (Act M) → Station core → Station core → Type 0
+  ActsIn [] s t = t ≡ s
+  ActsIn (a ∷ more) s t = IsKind s.nodes a × ActsIn more (does core a s) t
+
+  -- some acts of this kind, one after another, lead from s to t
+  abbrev pub Acts : Station core → Station core → Type 0
+  Acts s t = (acts : List (Act M)) × ActsIn acts s t
+
+module _ {H S M : Type 0} (core : Core H S M) (register : ℕ) where
+  -- some acts of a worker, one after another, lead from s to t, without a move of the station and
+  -- without leaving a section
   abbrev pub LeavesNone : Station core → Station core → Type 0
-  LeavesNone s t = Works s t × (length t.me.receipts ≡ length s.me.receipts)
+  LeavesNone s t =
+      Acts core (λ n a. IsWorkers register n a) s t
+      × (length t.me.receipts ≡ length s.me.receipts)
 
 module _ {H S M : Type 0} (core : Core H S M) where
   -- the node leaves its section, or nothing happens
@@ -55,7 +70,7 @@ module _ {H S M : Type 0} (core : Core H S M) where
 
 module _ {H S M : Type 0} (core : Core H S M) (register : ℕ) where
   -- a worker's turn: acts by which it leaves no section, then it may leave one, and then its
-  -- station takes a turn
+  -- station takes one turn
   abbrev pub TakesTurn : Station core → Station core → Type 0
   TakesTurn s t =
       (m : Station core) × (n : Station core) × LeavesNone core register s m × MayLeave core m n

@@ -2,7 +2,7 @@ use Rattle.std.proofs.Common.{◌∙◌, List, ap, arith, string_bytes}
 use Rattle.std.specs.List.{count_by}
 use Rattle.mx_trace.specs.declared.outcome.Entry.{Entry}
 use Rattle.mx_format.specs.Parts.{word_by}
-use Rattle.mx_commands.specs.Explored.{is_entry}
+use Rattle.mx_count.specs.NodeCounts.{is_entry}
 use Rattle.mx_count.proofs.CountedLemmas.{cluster_is}
 use Rattle.mx_count.proofs.counted_run.add_cluster.Goals as goal
 

@@ -7,4 +7,4 @@ use Rattle.mx_explain.proofs.runs.check.Goals as goal
 
 pub returns : goal.returns
 returns g c =
-    subst (λ (files : Files). Prints (IsReportFor (IsCheck false) (g.S.Source.told c.args.source.now) files) null_output null_output c.run_files.result) c.alone.ensures c.run_files.ensures.prints
+    subst (λ (files : Files). Prints (IsReportFor (IsCheck false false) (g.S.Source.told c.args.source.now) files) null_output null_output c.run_files.result) c.alone.ensures c.run_files.ensures.prints

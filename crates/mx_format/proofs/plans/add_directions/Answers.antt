@@ -1,25 +1,13 @@
-use Rattle.std.proofs.Common.{◌≡◌, ◌∙◌, ◌<◌, ◌≤◌, ℕ, arith, length, string_bytes, subst, sym}
+use Rattle.std.proofs.Common.{◌∙◌, string_bytes, sym}
 use Rattle.mx_format.specs.PlanTexts.{toward_text}
-use Rattle.mx_format.proofs.Places.{place_end, place_more}
-use Rattle.mx_format.proofs.NodeLemmas.{is_at}
+use Rattle.mx_format.proofs.NodeLemmas.{index_end, index_more}
 use Rattle.mx_format.proofs.plans.add_directions.Goals as goal
 
 pub loop-i-preserved : goal.loop-i-preserved
 loop-i-preserved c =
-    let nodes = c.args.plan.now.nodes in
-    let k = c.loop-i.i in
-    let lt : k < length nodes = subst (λ (n : ℕ). k < n) c.nodes-i-end.ensures.value c.loop-i-test.true in
-    let there = is_at nodes k lt in
-    record {
-      in_range = omega (arith, lt);
-      written = c.loop-i.invariant.written ∙ place_more (λ k name. toward_text c.args.is_json c.args.plan.now c.args.tree.now k) nodes k there.0 (string_bytes c.loop-i.text) (string_bytes c.add_direction.new.text) there.1 c.in_ok-add_direction.ensures;
-    }
+    c.loop-i.invariant
+    ∙ index_more (toward_text c.args.is_json c.args.plan.now c.args.tree.now) c.args.plan.now.nodes _ _ (string_bytes c.loop-i.text) (string_bytes c.add_direction.new.text) c.nodes-i-end.ensures.value c.loop-i-test.true c.in_ok-add_direction.ensures
 
 pub returns : goal.returns
 returns c =
-    let nodes = c.args.plan.now.nodes in
-    let k = c.loop-i.i in
-    let count : c.nodes-i-end.result ≡ length nodes = c.nodes-i-end.ensures.value in
-    let past = c.loop-i-test.false in
-    let end : length nodes ≤ k = omega (arith, count, past) in
-    sym (c.loop-i.invariant.written ∙ place_end (λ k name. toward_text c.args.is_json c.args.plan.now c.args.tree.now k) nodes k (string_bytes c.loop-i.text) end)
+    sym (c.loop-i.invariant ∙ index_end (toward_text c.args.is_json c.args.plan.now c.args.tree.now) c.args.plan.now.nodes _ _ (string_bytes c.loop-i.text) c.nodes-i-end.ensures.value c.loop-i-test.false)

@@ -1,25 +1,13 @@
-use Rattle.std.proofs.Common.{◌≡◌, ◌∙◌, ◌<◌, ◌≤◌, ℕ, arith, length, string_bytes, subst, sym}
+use Rattle.std.proofs.Common.{◌∙◌, string_bytes, sym}
 use Rattle.mx_format.specs.PlanTexts.{meet_text}
-use Rattle.mx_format.proofs.Places.{place_end, place_more}
-use Rattle.mx_format.proofs.NodeLemmas.{is_at}
+use Rattle.mx_format.proofs.NodeLemmas.{index_end, index_more}
 use Rattle.mx_format.proofs.plans.add_meetings_of.Goals as goal
 
 pub loop-j-preserved : goal.loop-j-preserved
 loop-j-preserved c =
-    let nodes = c.args.plan.now.nodes in
-    let k = c.loop-j.j in
-    let lt : k < length nodes = subst (λ (n : ℕ). k < n) c.nodes-j-end.ensures.value c.loop-j-test.true in
-    let there = is_at nodes k lt in
-    record {
-      in_range = omega (arith, lt);
-      written = c.loop-j.invariant.written ∙ place_more (λ k name. meet_text c.args.is_json c.args.plan.now c.args.sets.now c.args.i k) nodes k there.0 (string_bytes c.loop-j.text) (string_bytes c.add_meeting.new.text) there.1 c.in_ok-add_meeting.ensures;
-    }
+    c.loop-j.invariant
+    ∙ index_more (meet_text c.args.is_json c.args.plan.now c.args.sets.now c.args.i) c.args.plan.now.nodes _ _ (string_bytes c.loop-j.text) (string_bytes c.add_meeting.new.text) c.nodes-j-end.ensures.value c.loop-j-test.true c.in_ok-add_meeting.ensures
 
 pub returns : goal.returns
 returns c =
-    let nodes = c.args.plan.now.nodes in
-    let k = c.loop-j.j in
-    let count : c.nodes-j-end.result ≡ length nodes = c.nodes-j-end.ensures.value in
-    let past = c.loop-j-test.false in
-    let end : length nodes ≤ k = omega (arith, count, past) in
-    sym (c.loop-j.invariant.written ∙ place_end (λ k name. meet_text c.args.is_json c.args.plan.now c.args.sets.now c.args.i k) nodes k (string_bytes c.loop-j.text) end)
+    sym (c.loop-j.invariant ∙ index_end (meet_text c.args.is_json c.args.plan.now c.args.sets.now c.args.i) c.args.plan.now.nodes _ _ (string_bytes c.loop-j.text) c.nodes-j-end.ensures.value c.loop-j-test.false)

@@ -14,5 +14,7 @@ returns g c =
         works = subst (λ (e : Ended). Works g.C.Exclusion.core c.args.options e c.args.station c.work-ended.new.station) is ended.works;
       };
       reached = ended.not_yet;
+      idles = ended.idles;
+      broken = ended.broken;
       shut = ended.shut;
     }

@@ -1,7 +1,7 @@
 use Rattle.std.proofs.Common.{ℕ, ap, arith, length, subst, sym}
 use Rattle.mx_jobs.specs.Posted.{Fit}
 use Rattle.mx_jobs.specs.Runs.{IsUnderWay}
-use Rattle.mx_jobs.proofs.Each.{none_each, when_none}
+use Rattle.mx_jobs.proofs.Each.{none_each, ready_on, when_none}
 use Rattle.mx_jobs.proofs.Promised.{all_fit, first_fit, one_more, posted_on, refused, under_way}
 use Rattle.mx_jobs.proofs.threads.start_each.Goals as goal
 
@@ -12,6 +12,7 @@ loop-station-init g c =
     let none = ap length c.requires.none in record {
       many = omega (arith, none);
       each = c.requires.each;
+      ready = c.requires.ready;
       posted = none_each 0 _ c.requires.none;
       fit = subst (λ (k : ℕ). Fit posts all k posts all) (sym none) (all_fit posts all);
       room = (omega (arith, none, c.args.stations.now.ok), omega (arith, none, c.args.jobs.now.ok));
@@ -33,6 +34,7 @@ loop-station-preserved g c =
     let kept = c.take_next.ensures.room in record {
       many = omega (arith, many, one, s);
       each = omega (arith, each, s, j);
+      ready = (ready_on g.J.Job.ready _ _ _ c.in-Some.ensures.job i.ready).1;
       posted = posted_on posts all c.args.options _ _ _ _ first.0 first.1 adds i.posted;
       fit = subst (λ (k : ℕ). Fit posts all k c.take_next.new.stations.items c.take_next.new.jobs.items) one first.2;
       room = (omega (arith, room.0, kept.0, one, s), omega (arith, room.1, kept.1, one, j));
@@ -81,4 +83,4 @@ pub start_one-requires-send-C-Shape : goal.start_one-requires-send-C-Shape
 start_one-requires-send-C-Shape g c κs within = c.type_bounds.send-C-Shape
 
 pub start_one-requires-after_bounds : goal.start_one-requires-after_bounds
-start_one-requires-after_bounds g c κs within = (search (c.requires-raw.1.1.1.1.1.1.1.1.1.1.1.1.1.1.1.1, c.requires-raw.1.1.1.1.1.1.1.1.1.1.1.1.1.1.1.1.0), c.requires.ready)
+start_one-requires-after_bounds g c κs within = (search (c.requires-raw.1.1.1.1.1.1.1.1.1.1.1.1.1.1.1.1, c.requires-raw.1.1.1.1.1.1.1.1.1.1.1.1.1.1.1.1.0), (ready_on g.J.Job.ready _ _ _ c.in-Some.ensures.job c.loop-station.invariant.ready).0)

@@ -1,14 +1,18 @@
-use Rattle.std.proofs.Common.{◌++◌, List, ℕ, arith, inl, inr, map, refl, sym, subst}
+use Rattle.std.proofs.Common.{◌∙◌, ◌++◌, List, ℕ, ap, arith, inl, inr, map, refl, sym, subst}
+use Rattle.mx_journal.specs.Drafted.{Drafted}
 use Rattle.mx_journal.specs.declared.records.Write.{Write as OneWrite}
+use Rattle.mx_member.specs.Member.{Setting}
 use Rattle.mx_member.specs.declared.acts.Act.TheVariants.{Restart}
 use Rattle.mx_stamps.proofs.Choices.{bool_cases}
 use Rattle.mx_stations.specs.Turns.{Station}
 use Rattle.mx_jobs.specs.declared.tries.JobFault.{JobFault}
+use Rattle.mx_jobs.specs.declared.tries.JobFault.TheVariants.{NoRegister}
 use Rattle.mx_jobs.specs.Laws.{AreThere, KeepsLaw}
-use Rattle.mx_jobs.specs.Sections.{Drafts, Pends, Rests}
-use Rattle.mx_jobs.proofs.Members.{apart_pending, apart_tries, restarted, rests_on, same_ok}
+use Rattle.mx_jobs.specs.Sections.{CannotGoOn, Drafts, Pends, Rests}
+use Rattle.mx_jobs.proofs.Able.{left_able}
+use Rattle.mx_jobs.proofs.Members.{apart_outside, apart_pending, apart_tries, restarted, rests_on, same_ok}
 use Rattle.mx_jobs.proofs.Made.{pending_left, section_pends}
-use Rattle.mx_jobs.proofs.Rounding.{acted_on, if_err, no_act, one_act, serves_acting, serves_leaving}
+use Rattle.mx_jobs.proofs.Rounding.{acted_on, err_then, if_err, no_act, one_act, serves_acting, serves_leaving}
 use Rattle.mx_jobs.proofs.tries.try_section.Goals as goal
 
 pub outcome_of-requires : goal.outcome_of-requires
@@ -18,7 +22,13 @@ pub read_all-requires : goal.read_all-requires
 read_all-requires g c = (search (c.requires-raw), (c.requires.few, (restarted g.C.Exclusion.core c.args.station.now c.restart.new.self c.restart.ensures).drafted))
 
 pub write_all-requires : goal.write_all-requires
-write_all-requires g c = search (c.requires-raw)
+write_all-requires g c =
+    let core = g.C.Exclusion.core in
+    let read = c.in-Ok.ensures.read in
+    let same = c.read_all.ensures.phase ∙ (restarted core c.args.station.now c.restart.new.self c.restart.ensures).same_core in (
+      search (c.requires-raw),
+      (c.as_slice-in-Ok.ensures.fits, (ap (λ (d : Drafted). d.writes) read.2.drafted ∙ read.1.no_writes, (c.in-Inside.number, ap core.phase same ∙ sym c.in-Inside.ensures.value))),
+    )
 
 pub try_leave-has_left-requires : goal.try_leave-has_left-requires
 try_leave-has_left-requires g c = search (c.requires-raw)
@@ -69,8 +79,11 @@ returns-in-Err g c =
     record {
       left = λ e. absurd (apart_tries e);
       pending = λ e. absurd (apart_pending e);
-      outside = λ e. (refl, rests);
-      gap = λ e. (refl, rests);
+      outside = λ e. absurd (apart_outside e);
+      gap = λ e. (refl, rests, c.read_all.ensures.phase ∙ (restarted core c.args.station.now c.restart.new.self c.restart.ensures).same_core);
+      able = λ e. absurd (apart_tries e);
+      ready = c.requires.ready;
+      fails = tt;
       serves = serves_acting core _ _ acts;
       acts = λ e. acts;
       broken = tt;
@@ -102,4 +115,35 @@ returns-in_ok-write_all-in-Ok-clause-serves g c =
     ])
 
 pub section-writes-requires : goal.section-writes-requires
-section-writes-requires g c = c.requires.ready c.args.job.now
+section-writes-requires g c = c.requires.ready
+
+pub returns-in-Err-NoRegister-clause-fails : goal.returns-in-Err-NoRegister-clause-fails
+returns-in-Err-NoRegister-clause-fails g c =
+    let core = g.C.Exclusion.core in
+    let read = c.read_all.ensures in (
+      rests_on core c.args.station.now c.restart.new.self c.read_all.new.station (restarted core c.args.station.now c.restart.new.self c.restart.ensures).rests read.rests,
+      inl (refl, (c.args.registers.now, c.requires.asked, λ there. read.lacks (cc) (subst (λ (x : Setting). AreThere x.registers c.args.registers.now) read.rests.setting there))),
+    )
+
+pub returns-in_err-write_all-in-Ok-clause-fails : goal.returns-in_err-write_all-in-Ok-clause-fails
+returns-in_err-write_all-in-Ok-clause-fails g c =
+    let core = g.C.Exclusion.core in
+    let wrote = c.write_all.ensures in
+    let writes = c.section-writes.result.items in
+    let rests = rests_on core c.args.station.now c.read_all.new.station c.write_all.new.station (rests_on core c.args.station.now c.restart.new.self c.read_all.new.station (restarted core c.args.station.now c.restart.new.self c.restart.ensures).rests c.read_all.ensures.rests) wrote.rests in
+    let lacks : AreThere c.write_all.new.station.me.member.setting.registers (map (λ (w : OneWrite). w.register) writes) → ⊥ = λ there.
+    c.in_err-write_all-in-Ok.ensures.lacks
+    (subst (λ (ws : List OneWrite). AreThere c.read_all.new.station.me.member.setting.registers (map (λ (w : OneWrite). w.register) ws)) (sym c.as_slice-in-Ok.ensures.value)
+    (subst (λ (x : Setting). AreThere x.registers (map (λ (w : OneWrite). w.register) writes)) wrote.rests.setting there)) in
+    err_then (λ (w : JobFault). Rests core c.args.station.now c.write_all.new.station × CannotGoOn g.J.Job.asks_for g.J.Job.makes g.J.Job.holds core w c.args.job.now c.section-writes.new.self c.write_all.new.station)
+    c.from_residual.result NoRegister c.from_residual.ensures.1
+    (rests, inr (c.in-Inside.number, c.in-Ok.values.items, writes, subst (λ (vs : List ℕ). g.J.Job.makes c.args.job.now c.in-Inside.number vs writes c.section-writes.new.self) c.as_slice.ensures.value c.section-writes.ensures.made, lacks))
+
+pub returns-in_ok-write_all-in-Ok-clause-able : goal.returns-in_ok-write_all-in-Ok-clause-able
+returns-in_ok-write_all-in-Ok-clause-able g c = λ e.
+    let core = g.C.Exclusion.core in
+    let phases = g.met.C.Exclusion.phases in
+    let wrote = c.in_ok-write_all-in-Ok.ensures.drafts.0 in
+    let same = wrote.same_core ∙ c.read_all.ensures.phase ∙ (restarted core c.args.station.now c.restart.new.self c.restart.ensures).same_core in
+    left_able core phases c.in-Inside.number c.write_all.new.station c.try_leave-has_left.new.station (ap core.phase same ∙ sym c.in-Inside.ensures.value)
+    (c.try_leave-has_left.ensures.left (c.outcome_of.ensures.left (same_ok {F = JobFault} _ _ e))).2

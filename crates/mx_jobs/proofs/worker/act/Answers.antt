@@ -1,8 +1,10 @@
-use Rattle.std.proofs.Common.{Bool, inl, inr, not, refl, subst, sym}
-use Rattle.std.proofs.lemmas.Result.{on_ok_weaker}
+use Rattle.std.proofs.Common.{Bool, ap, inl, inr, not, refl, subst, sym}
+use Rattle.std.proofs.lemmas.Result.{IfErr-weaker, on_ok_weaker}
 use Rattle.mx_stamps.proofs.Choices.{bool_cases}
+use Rattle.mx_stations.specs.Turns.{Station}
 use Rattle.mx_jobs.specs.Sections.{Reaches}
-use Rattle.mx_jobs.proofs.Advancing.{left_at_last, reaches_on, still_there}
+use Rattle.mx_jobs.proofs.Able.{inside_able, left_able, same_able}
+use Rattle.mx_jobs.proofs.Advancing.{fails_on, left_at_last, reaches_on, still_there}
 use Rattle.mx_jobs.proofs.Rounding.{no_act, serves_leaving}
 use Rattle.mx_jobs.proofs.worker.act.Goals as goal
 
@@ -31,3 +33,23 @@ returns-then-stance-clause-serves g c =
       | inl t ↦ inr (done.left t).2
       | inr f ↦ inl (done.kept f)
     ])
+
+pub returns-then-stance-clause-able : goal.returns-then-stance-clause-able
+returns-then-stance-clause-able g c = λ first from so_far.
+    let core = g.C.Exclusion.core in
+    let phases = g.met.C.Exclusion.phases in
+    let before = subst (λ (p : Bool). Reaches g.J.Job.asks_for g.J.Job.makes g.J.Job.holds core p first from c.args.job.now c.args.station.now) c.if-stance.true so_far in
+    let done = c.try_leave-has_left.ensures in
+    elim (bool_cases c.try_leave-has_left.result) [
+      | inl t ↦ λ busy. left_able core phases _ c.args.station.now c.try_leave-has_left.new.station before.rest.inside (done.left t).2
+      | inr f ↦ λ busy. same_able core phases c.args.station.now c.try_leave-has_left.new.station (ap (λ (s : Station core). s.me.member.core) (done.kept f)) (inside_able core phases _ c.args.station.now before.rest.inside)
+    ]
+
+pub returns-clause-able : goal.returns-clause-able
+returns-clause-able g c = λ first from so_far. c.go_on.ensures.able
+
+pub returns-clause-fails : goal.returns-clause-fails
+returns-clause-fails g c = λ first from so_far.
+    let core = g.C.Exclusion.core in
+    let before = subst (λ (p : Bool). Reaches g.J.Job.asks_for g.J.Job.makes g.J.Job.holds core p first from c.args.job.now c.args.station.now) c.if-stance.false so_far in
+    IfErr-weaker c.go_on.result _ _ (λ why did. fails_on g.J.Job.asks_for g.J.Job.makes g.J.Job.holds core why first _ _ from _ _ before did.0 did.1) c.go_on.ensures.fails

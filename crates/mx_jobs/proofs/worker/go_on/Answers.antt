@@ -1,8 +1,9 @@
 use Rattle.std.proofs.Common.{Bool, IfSome, refl, subst, sym}
-use Rattle.mx_jobs.specs.Sections.{Reaches}
+use Rattle.mx_jobs.specs.declared.tries.JobFault.{JobFault}
+use Rattle.mx_jobs.specs.Sections.{CannotGoOn, Reaches, Rests}
 use Rattle.mx_jobs.proofs.Advancing.{settled, stands}
 use Rattle.mx_jobs.proofs.Members.{rests_here}
-use Rattle.mx_jobs.proofs.Rounding.{no_act, serves_acting}
+use Rattle.mx_jobs.proofs.Rounding.{err_then, no_act, serves_acting}
 use Rattle.mx_jobs.proofs.worker.go_on.Goals as goal
 
 pub next_section-requires : goal.next_section-requires
@@ -22,3 +23,9 @@ returns-in-None-clause-reaches g c =
 
 pub returns-in-None-clause-serves : goal.returns-in-None-clause-serves
 returns-in-None-clause-serves g c = serves_acting g.C.Exclusion.core _ _ (no_act g.C.Exclusion.core _ _ refl)
+
+pub returns-in_err-next_section-in-Some-clause-fails : goal.returns-in_err-next_section-in-Some-clause-fails
+returns-in_err-next_section-in-Some-clause-fails g c =
+    let core = g.C.Exclusion.core in
+    err_then (λ (w : JobFault). Rests core c.args.station.now c.next_section.new.station × CannotGoOn g.J.Job.asks_for g.J.Job.makes g.J.Job.holds core w c.args.job.now c.next_section.new.job c.next_section.new.station)
+    c.from_residual.result c.in_err-next_section-in-Some.field-0.0 c.from_residual.ensures.1 c.in_err-next_section-in-Some.ensures.fails

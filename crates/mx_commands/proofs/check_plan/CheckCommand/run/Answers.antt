@@ -6,6 +6,6 @@ use Rattle.mx_commands.proofs.check_plan.CheckCommand.run.Goals as goal
 
 pub returns-in-Ok : goal.returns-in-Ok
 returns-in-Ok g c =
-    let text = check_text c.args.self.now.has_asks c.args.plan.now in
+    let text = check_text c.args.self.now.has_asks c.args.self.now.is_json c.args.plan.now in
     let same = c.as_bytes.ensures.value ∙ c.in-Ok.ensures ∙ ap (λ l. l ++ text) c.new-text.ensures.bytes in
     record { prints = whole_prints (IsWhole text 0) c.as_bytes.result.now text 0 (sight g.O.Output c.args.out.now) (sight g.O.Output c.print.new.out) c.print.result same refl c.print.ensures.prints }

@@ -1,29 +1,32 @@
-use Rattle.std.proofs.Common.{List, length, subst, sym}
+use Rattle.std.proofs.Common.{Err, List, length, subst, sym}
 use Rattle.mx_events.specs.declared.event.Event.{Event}
-use Rattle.mx_commands.proofs.EventLemmas.{events_named}
-use Rattle.mx_commands.specs.Jobs.{run_by}
-use Rattle.mx_commands.specs.Runs.{AllNameNodes}
-use Rattle.mx_cli.specs.Printing.{IsReport, Prints, sight}
+use Rattle.mx_cli.specs.Printing.{Report, sight}
+use Rattle.mx_cli.specs.Requests.{view_of}
 use Rattle.mx_cli.proofs.FrameLemmas.{prints_as}
-use Rattle.mx_commands.specs.Commands.{IsReplay}
-use Rattle.mx_commands.proofs.ReplayLemmas.{is_replay, no_replay}
+use Rattle.mx_commands.specs.Runs.{AllNameNodes}
+use Rattle.mx_commands.specs.Viewed.{IsReplayed, IsShown, IsView}
+use Rattle.mx_commands.proofs.EventLemmas.{events_named}
+use Rattle.mx_commands.proofs.ViewedLemmas.{is_view, no_view, replayed}
 use Rattle.mx_commands.proofs.replays.ReplayCommand.run.Goals as goal
 
-pub drive-requires : goal.drive-requires
-drive-requires g c =
+pub show-requires : goal.show-requires
+show-requires g c =
     let p = c.args.plan.now in
-    subst (λ (es : List Event). AllNameNodes (length p.nodes) es) (sym c.as_slice.ensures.value)
-    (events_named p c.args.text.now c.in-Ok.events.items c.in-Ok.ensures)
+    subst (λ (es : List Event). AllNameNodes (length p.nodes) es) (sym c.as_slice.ensures.value) (events_named p c.args.text.now c.in-Ok.events.items c.in-Ok.ensures)
 
 pub returns-in-Ok : goal.returns-in-Ok
 returns-in-Ok g c =
     let p = c.args.plan.now in
-    let es = c.in-Ok.events.items in
-    let o = sight g.O.Output c.args.out.now in
-    let n = sight g.O.Output c.drive.new.out in
-    let res = c.drive.result in
-    let driven = subst (λ (l : List Event). Prints (IsReport (run_by p p.shape l)) o n res) c.as_slice.ensures.value c.drive.ensures.prints in
-    record { prints = prints_as (IsReport (run_by p p.shape es)) (IsReplay p c.args.text.now) (is_replay p c.args.text.now es c.in-Ok.ensures) o n res driven }
+    let text = c.args.text.now in
+    let options = view_of c.args.self.now.0 in
+    let es = c.as_slice.result.now in
+    let shown = λ (r : Report) (is : IsShown options p es r). replayed p text r options (is_view options p text c.in-Ok.events.items es c.in-Ok.ensures c.as_slice.ensures.value r is) in
+    record { prints = prints_as (IsShown options p es) (IsReplayed options p text) shown (sight g.O.Output c.args.out.now) (sight g.O.Output c.show.new.out) c.show.result c.show.ensures.prints }
 
 pub returns-in-Err : goal.returns-in-Err
-returns-in-Err g c = record { prints = no_replay c.args.plan.now c.args.text.now c.in-Err.fault (sight g.O.Output c.args.out.now) c.from.result c.in-Err.ensures c.from.ensures }
+returns-in-Err g c =
+    let p = c.args.plan.now in
+    let text = c.args.text.now in
+    let options = view_of c.args.self.now.0 in
+    let out = sight g.O.Output c.args.out.now in
+    record { prints = prints_as (IsView options p text) (IsReplayed options p text) (λ r. replayed p text r options) out out (Err c.from.result) (no_view options p text c.in-Err.fault out c.from.result c.in-Err.ensures c.from.ensures) }

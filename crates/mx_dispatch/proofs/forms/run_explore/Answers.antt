@@ -1,0 +1,12 @@
+use Rattle.std.proofs.Common.{subst}
+use Rattle.mx_cli.specs.Reports.{seen}
+use Rattle.mx_cli.specs.Frames.{Files, Runs}
+use Rattle.mx_dispatch.specs.Program.{IsExploration}
+use Rattle.mx_dispatch.proofs.forms.run_explore.Goals as goal
+
+pub returns : goal.returns
+returns g c =
+    let e = c.args.exploration.now in
+    subst (λ (files : Files). Runs (IsExploration e.seed e.steps c.args.conditions c.args.has_counts c.args.is_json) (g.S.Source.told c.args.source.now) files (g.O.Output.takes_all c.args.out.now)
+    (g.E.Output.takes_all c.args.err.now) (seen g.O.Output g.E.Output c.args.out.now c.args.err.now) (seen g.O.Output g.E.Output c.front.new.out c.front.new.err) c.front.result)
+    c.alone-files.ensures c.front.ensures.runs

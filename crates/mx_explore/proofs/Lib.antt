@@ -1,0 +1,4 @@
+pub mod ParcelLemmas
+pub mod StepLemmas
+pub mod RunLemmas
+pub mod DrawnLemmas

@@ -1,4 +1,0 @@
-pub mod JsonLemmas
-pub mod ClosingLemmas
-pub mod ShownLemmas
-pub mod ViewedLemmas

@@ -1,5 +1,0 @@
-pub mod SummaryLemmas
-pub mod ParcelLemmas
-pub mod StepLemmas
-pub mod LeadsLemmas
-pub mod DrawnLemmas

@@ -1,0 +1,158 @@
+// The page: it follows from the run and the view, and only `show` changes the view.
+
+const PAGE = 100, SHOWN = 40; // so many events are in the list at a time, and of a node's history
+const byId = id => document.getElementById(id);
+const run = readRun(JSON.parse(byId("run").textContent)), last = run.steps.length - 1;
+const nodesAfter = statesOf(run), broken = concerned(run, nodesAfter), ring = new Ring(byId("ring"), run);
+const timers = {};
+let view = { at: -1, chosen: {}, hasLost: true, note: "" };
+
+const outcomeAt = at => run.steps[at].event.outcome;
+const parcelAt = at => run.parcels[+run.steps[at]?.event.parcel];
+const textAt = at => `${at} ${eventText(run.steps[at].event)}`;
+const lineAt = at => parcelAt(at) ? `${textAt(at)} ${fullText(parcelAt(at))}` : textAt(at);
+const firstAt = at => Math.max(Math.floor(at / PAGE) * PAGE - 1, 0); // the first event that is listed then
+const sought = () => byId("sought").value.toLowerCase();
+
+const eventLink = at => html("a", { href: `#${at}` }, lineAt(at));
+const parcelItem = parcel => html("li", { class: kindOf(parcel) },
+  html("button", { type: "button", class: "parcel", "data-parcel": parcel.parcel }, fullText(parcel)));
+
+/** Puts these into a place; what had the focus there gets it again. */
+function fill(id, ...children) {
+  const place = byId(id), { dataset = {} } = place.querySelector(":focus") ?? {};
+  place.replaceChildren(...children);
+  Object.entries(dataset).forEach(([key, value]) => place.querySelector(`[data-${key}="${value}"]`)?.focus());
+}
+
+function drawNow() {
+  const { at, note } = view, { event, sent } = run.steps[at] ?? {}, { index, clause } = run.verdict;
+  if (!event) return fill("now", html("b", {}, "Start"), ` before the first of ${last + 1} events. ${note}`);
+  const sends = sent.length > 2 ? [`sends ${sent.length} parcels`] : sent.map(it => `sends ${fullText(it)}`);
+  const more = parcelAt(at) ? [fullText(parcelAt(at)), ...sends] : sends;
+  const breaks = at === +index ? `This breaks the run: ${clause}, ${broken.join(" and ")}. ` : "";
+  return fill("now", html("b", { class: event.outcome }, textAt(at)), ` ${more.join("; ")} ${breaks}${note}`);
+}
+
+/** The list has the page of events around this step, and at its ends events that lead on. */
+function drawRows(before) {
+  const rows = byId("rows"), first = firstAt(view.at), events = run.steps.slice(first, first + PAGE + 2);
+  const mark = at => outcomeAt(at) === "refused" ? "\u2717 " : "";
+  const row = at => html("option", { class: outcomeAt(at) }, mark(at) + lineAt(at));
+  if (!rows.length || first !== firstAt(before.at)) fill("rows", ...events.map((_, i) => row(first + i)));
+  rows.selectedIndex = view.at - first;
+  rows.scrollTop = (view.at - first - rows.size / 2) * rows.scrollHeight / rows.length;
+}
+
+function historyOf({ node, parcel }) {
+  const { sentAt, deliveries } = run.parcels[parcel] ?? {}, name = run.names[node];
+  if (deliveries) {
+    const item = (at, text) => html("li", {}, text, eventLink(at));
+    const got = deliveries.map((at, i) => item(at, i ? "delivered again: " : "delivered: "));
+    const ends = got.length ? got : [html("li", { class: "broken" }, "never delivered")];
+    return [html("h3", {}, fullText(run.parcels[parcel])), html("ul", {}, item(sentAt, "sent: "), ...ends)];
+  }
+  if (name === undefined) return ["Choose a node or a parcel."];
+  const done = [...run.steps.keys()].filter(at => at <= view.at && run.steps[at].node === name).reverse();
+  const item = at => html("li", {}, eventLink(at), html("ul", {}, ...run.steps[at].sent.map(parcelItem)));
+  return [html("h3", {}, `${name}: ${done.length} events up to this step, newest first`),
+    html("ul", {}, ...done.slice(0, SHOWN).map(item))];
+}
+
+function draw(before) {
+  const { at, chosen } = view, nodes = nodesAfter(at);
+  const parcels = underWay(run, at).filter(it => view.hasLost || it.deliveries.length);
+  const moves = at === before.at + 1 && !matchMedia("(prefers-reduced-motion: reduce)").matches;
+  const lasts = moves ? Math.min(0.6, 0.7 / byId("speed").value) : 0, more = parcels.length - DRAWN;
+  const scene = { nodes, parcels, at, chosen, lasts, step: run.steps[at], arrived: parcelAt(at) };
+  fill("ring", ...ring.draw({ ...scene, marked: at === +run.verdict.index ? broken : [] }));
+  fill("parcels", ...parcels.slice(0, DRAWN).map(parcelItem), more > 0 ? `and ${more} more, not drawn` : "");
+  fill("nodes", ...[...nodes].map(([name, node]) => html("li", {}, nodeText(name, node))));
+  fill("history", ...historyOf(chosen));
+  drawNow();
+  drawRows(before);
+  byId("slider").value = at;
+  byId("slider").setAttribute("aria-valuetext", at < 0 ? "start" : textAt(at));
+}
+
+function drawOnce() {
+  const sample = (text, kind = text, end = "arrives") => html("li", { class: kind },
+    svg("svg", { class: "arrow", viewBox: "0 -7 48 14" }, svg("path", { d: "M2 0H36" }),
+      svg("path", { d: TIPS[end], class: "tip", transform: "translate(42 0)" })), text);
+  const { verdict, index, clause } = run.verdict;
+  byId("title").textContent = document.title = `A run of ${last + 1} events, ${run.names.length} nodes`;
+  byId("slider").max = last;
+  const link = html("a", { href: `#${index}`, class: "broken" }, `broken at ${index}: ${clause} \u2717`);
+  fill("verdict", "Verdict: ", clause ? link : `${verdict} \u2713`);
+  fill("legend", sample("request"), sample("grant"), sample("other"), sample("waits for", "waits", "waits"),
+    sample("delivered again", "other again"), sample("never delivered", "lost", "lost"));
+}
+
+function show(change) {
+  const before = view, next = { ...view, note: "", ...change }, at = clamp(next.at, -1, last);
+  view = { ...next, at };
+  draw(before);
+  clearTimeout(timers.address); // browsers bound how often the address may change
+  timers.address = setTimeout(() => history.replaceState(null, "", at < 0 ? "#start" : `#${at}`), 200);
+}
+
+function play(isOn) {
+  const step = () => view.at < last ? DO.on() : play(false);
+  clearInterval(timers.play);
+  timers.play = isOn && setInterval(step, 1000 / byId("speed").value);
+  byId("play").textContent = isOn ? "\u275A\u275A Pause" : "\u25B6 Play";
+  byId("now").setAttribute("aria-live", isOn ? "off" : "polite");
+}
+
+/** Goes to the next event like this, or, the other way, to the one before. */
+function seek(way, what, isSought) {
+  let at = view.at + way;
+  while (run.steps[at] && !isSought(at)) at += way;
+  show(run.steps[at] ? { at } : { note: `There is no ${way > 0 ? "later" : "earlier"} ${what}.` });
+}
+
+const DO = { // of buttons and keys; with Shift, the way is -1
+  first: () => show({ at: -1 }), last: () => show({ at: last }),
+  back: () => show({ at: view.at - 1 }), on: () => show({ at: view.at + 1 }),
+  play: () => { if (!timers.play && view.at === last) DO.first(); play(!timers.play); },
+  section: way => seek(way, "section", at => outcomeAt(at) === "entered"),
+  refusal: way => seek(way, "refusal", at => outcomeAt(at) === "refused"),
+  next: way => seek(way, `event with ${sought()}`, at => lineAt(at).toLowerCase().includes(sought())),
+  find: () => byId("sought").focus(), none: () => show({ chosen: {} }),
+};
+const KEYS = { __proto__: null, arrowleft: "back", arrowright: "on", home: "first", end: "last", " ": "play",
+  s: "section", r: "refusal", n: "next", "/": "find", escape: "none" };
+
+/** Does what a button, a node or a parcel is for. */
+function press({ target }) {
+  const { do: word, node, parcel } = target.closest("[data-do], [data-node], [data-parcel]")?.dataset ?? {};
+  if (word) DO[word](1);
+  else if (node ?? parcel) show({ chosen: node ? { node: +node } : { parcel } });
+}
+
+function pressKey(event) {
+  const { key, target } = event, presses = key === " " || key === "Enter", word = KEYS[key.toLowerCase()];
+  const isTyped = target.closest("input:not([type=range]), #speed") || presses && target.closest("button, a");
+  if (isTyped || event.ctrlKey || event.altKey || event.metaKey) return;
+  if (presses && target.dataset.node) press(event);
+  else if (word) DO[word](event.shiftKey ? -1 : 1);
+  else return;
+  event.preventDefault();
+}
+
+function showAddress() {
+  const digits = /^#(\d+)$/.exec(location.hash)?.[1];
+  show({ at: +(digits ?? (location.hash ? -1 : run.verdict.index ?? -1)) });
+}
+
+const on = (id, kind, act) => byId(id).addEventListener(kind, act);
+document.addEventListener("click", press);
+document.addEventListener("keydown", pressKey);
+addEventListener("hashchange", showAddress);
+on("slider", "input", ({ target }) => show({ at: +target.value }));
+on("rows", "change", ({ target }) => show({ at: firstAt(view.at) + target.selectedIndex }));
+on("lost", "change", ({ target }) => show({ hasLost: target.checked }));
+on("speed", "change", () => play(timers.play));
+on("find", "submit", event => { event.preventDefault(); DO.next(1); });
+drawOnce();
+showAddress();
