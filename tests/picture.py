@@ -355,7 +355,7 @@ def read_back(picture, names):
     things, sections, boxes, box_titles, sides = [], {}, [], [], {}
     assert [part.tag for part in root[:2]] == [SVG + "title", SVG + "desc"] and root.get("role") == "img"
     things.append(("title", root[0].text))
-    things.append(("story", root[1].text.removeprefix("Time goes down, and each event is told beside its node. ")))
+    things.append(("story", root[1].text.removeprefix("Time runs downward; the text of each event is beside its node. ")))
     groups = root.findall(SVG + "g")
     assert groups[1][0].text == "event"
     places = places_in(root, names)

@@ -30,7 +30,7 @@ pub record Part : Type 0 where
   pub node : Option Text
   pub only_letters : Bool
 
--- the name of the plan, how many sections each node is to have, the seed, how many turns each may
+-- the name of the plan, how many sections each node enters, the seed, how many turns each may
 -- take, after how many of its sections it settles its journal (0 for never), and whether progress
 -- is to be reported
 pub record LiveRequest : Type 0 where

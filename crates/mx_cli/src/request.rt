@@ -49,7 +49,7 @@ pub struct PictureOptions<'a> {
     pub only_letters: bool,
 }
 
-/// What `live` is to run: the name of a plan, how many sections each node is to have, the seed of
+/// What `live` is to run: the name of a plan, how many sections each node enters, the seed of
 /// the first node's links, how many turns each node may take, after how many of its sections each
 /// node settles its journal (0 for never), and whether progress is reported on standard error.
 #[derive(Clone, Copy)]

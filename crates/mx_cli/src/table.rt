@@ -60,7 +60,7 @@ static CHECK: CommandRow = CommandRow {
 
 static REPLAY: CommandRow = CommandRow {
     name: "replay",
-    about: "Runs the events of a file and prints each outcome, each parcel sent, and the nodes at the end",
+    about: "Runs the events of a file; prints each outcome, each parcel sent, and the nodes at the end",
     arguments: &[PLAN, EVENTS, QUIET, NODE, JSON, STATE],
     example: help::REPLAY_EXAMPLE,
     is_explained: true,
@@ -97,7 +97,7 @@ static SCRIPTED: CommandRow = CommandRow {
     about: "Prints the events of a script as a file for `replay`",
     arguments: &[PLAN, SCRIPT],
     example: examples::SCRIPT,
-    is_explained: false,
+    is_explained: true,
 };
 
 static PLAY: CommandRow = CommandRow {
@@ -110,10 +110,10 @@ static PLAY: CommandRow = CommandRow {
 
 static PICTURE: CommandRow = CommandRow {
     name: "picture",
-    about: "Draws a run as an SVG in which time goes down",
+    about: "Draws a run as an SVG, in which time runs downward",
     arguments: &[PLAN, EVENTS, FROM, TO, PICTURE_NODE, LETTERS],
     example: examples::PICTURE,
-    is_explained: false,
+    is_explained: true,
 };
 
 static COUNT: CommandRow = CommandRow {
@@ -121,7 +121,7 @@ static COUNT: CommandRow = CommandRow {
     about: "Counts the letters, refusals and waits of a run",
     arguments: &[PLAN, EVENTS, JSON],
     example: examples::COUNT,
-    is_explained: false,
+    is_explained: true,
 };
 
 static JUDGE: CommandRow = CommandRow {

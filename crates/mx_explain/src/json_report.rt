@@ -63,7 +63,7 @@ impl JsonReport<'_> {
         let nearest = Nearest(nearest(alloc, spot.text(), wrong.known)?);
         let text = match spot.value.map(Actual) {
             Some(actual) => {
-                format!(in alloc; "{actual} stands here, expected {expected}{nearest}")?
+                format!(in alloc; "found {actual}, expected {expected}{nearest}")?
             }
             None => format!(in alloc; "missing; expected {expected}{nearest}")?,
         };

@@ -201,7 +201,7 @@ fn add_head(page: &Page<'_>, heading: &str, text: &mut String) -> Result<(), All
     let aside = left.saturating_sub(INDENT);
     write!(
         text,
-        "<desc>Time goes down, and each event is told beside its node. Sections:{story}</desc>\n{STYLES}"
+        "<desc>Time runs downward; the text of each event is beside its node. Sections:{story}</desc>\n{STYLES}"
     )?;
     write!(
         text,
