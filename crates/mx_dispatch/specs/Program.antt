@@ -14,7 +14,7 @@ use Rattle.mx_count.specs.Printed.{IsCount}
 use Rattle.mx_explain.specs.Explained.{Explains}
 use Rattle.mx_explore.specs.Drawn.{IsDraw}
 use Rattle.mx_explore.specs.Explored.{IsExplored}
-use Rattle.mx_explore.specs.declared.runs.RandomRun.{RandomRun}
+use Rattle.mx_explore.specs.declared.random_run.RandomRun.{RandomRun}
 use Rattle.mx_judge.specs.Judged.{IsJudgement}
 use Rattle.mx_picture.specs.Pictures.{IsPictured}
 use Rattle.mx_scripts.specs.Printed.{IsScript}

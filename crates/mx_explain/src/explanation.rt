@@ -10,7 +10,7 @@ ghost use Rattle.mx_explain.specs.Explained.{Explains, IsAsked, IsExplanation, n
 use crate::cached_source::CachedSource;
 use crate::files::print_files;
 use crate::notes::Notes;
-use crate::runs::run;
+use crate::explained_run::run;
 use mx_cli::{Names, Stop, close};
 use mx_io::{Output, Source};
 use std::alloc::Global;

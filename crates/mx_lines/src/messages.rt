@@ -9,7 +9,7 @@ use crate::escapes::add_escaped_text;
 use crate::names::Names;
 use crate::verbs::Verb;
 use crate::words::before_comment;
-use mx_events::{EVENT_KINDS, EventKind};
+use mx_events::{ArgumentKind, EVENT_KINDS, EventKind};
 use mx_plan::Plan;
 use std::alloc::{AllocError, Global};
 use std::fmt;
@@ -165,18 +165,15 @@ fn expected_text(expected: Expected) -> &'static str {
 }
 
 fn arguments_text(kind: EventKind) -> &'static str {
-    match kind {
-        EventKind::Ask
-        | EventKind::Enter
-        | EventKind::Leave
-        | EventKind::Cancel
-        | EventKind::Tick
-        | EventKind::Restart => "a node after the word, and no more",
-        EventKind::Read => "a node and a register after the word",
-        EventKind::Write => "a node, a register and a number after the word",
-        EventKind::Want => "two nodes after the word",
-        EventKind::Settle => "a node and the number of a section after the word",
-        EventKind::Deliver => "all, the number of a parcel, or two nodes after the word",
+    match kind.arguments() {
+        [ArgumentKind::Node] => "a node after the word, and no more",
+        [ArgumentKind::Node, ArgumentKind::Node] => "two nodes after the word",
+        [ArgumentKind::Node, ArgumentKind::Register] => "a node and a register after the word",
+        [ArgumentKind::Node, ArgumentKind::Section] => {
+            "a node and the number of a section after the word"
+        }
+        [ArgumentKind::Parcel] => "all, the number of a parcel, or two nodes after the word",
+        _ => "a node, a register and a number after the word",
     }
 }
 

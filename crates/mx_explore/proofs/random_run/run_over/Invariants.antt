@@ -1,7 +1,7 @@
 use Rattle.std.proofs.Common.{ℕ, ◌≡◌, ◌+◌}
 use Rattle.mx_explore.specs.Walk.{at_first, state_of}
 use Rattle.mx_explore.specs.Runs.{ran}
-use Rattle.mx_explore.proofs.runs.run_over.Given as goal
+use Rattle.mx_explore.proofs.random_run.run_over.Given as goal
 
 -- with the steps to come, the run is whole
 abbrev pub invariant-loop : goal.invariant-loop

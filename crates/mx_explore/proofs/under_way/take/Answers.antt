@@ -1,5 +1,5 @@
 use Rattle.mx_explore.proofs.ParcelLemmas.{kept, taken}
-use Rattle.mx_explore.proofs.parcels.take.Goals as goal
+use Rattle.mx_explore.proofs.under_way.take.Goals as goal
 
 pub returns-in-Some : goal.returns-in-Some
 returns-in-Some c =

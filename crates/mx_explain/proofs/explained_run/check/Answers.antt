@@ -3,7 +3,7 @@ use Rattle.mx_cli.specs.Frames.{Files}
 use Rattle.mx_cli.specs.Printing.{Prints, null_output}
 use Rattle.mx_commands.specs.Commands.{IsCheck}
 use Rattle.mx_explain.specs.Explained.{IsReportFor}
-use Rattle.mx_explain.proofs.runs.check.Goals as goal
+use Rattle.mx_explain.proofs.explained_run.check.Goals as goal
 
 pub returns : goal.returns
 returns g c =

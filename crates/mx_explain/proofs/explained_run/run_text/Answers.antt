@@ -1,7 +1,7 @@
 use Rattle.std.proofs.Common.{Bool, subst, sym}
 use Rattle.mx_cli.specs.Printing.{Prints, null_output}
 use Rattle.mx_explain.specs.Explained.{IsTextReport}
-use Rattle.mx_explain.proofs.runs.run_text.Goals as goal
+use Rattle.mx_explain.proofs.explained_run.run_text.Goals as goal
 
 pub returns-then-is_script : goal.returns-then-is_script
 returns-then-is_script c =

@@ -3,7 +3,7 @@ use Rattle.std.specs.Prelude.{OnOk, Option}
 use Rattle.mx_events.specs.declared.event.Event.{Event}
 use Rattle.mx_explore.specs.Runs.{after_placed}
 use Rattle.mx_explore.proofs.RunLemmas.{on_ok}
-use Rattle.mx_explore.proofs.runs.step.Goals as goal
+use Rattle.mx_explore.proofs.random_run.step.Goals as goal
 
 pub play-requires : goal.play-requires
 play-requires g c = omega arith

@@ -2,7 +2,7 @@ use Rattle.std.proofs.Common.{◌≡◌, ◌∙◌, suc, ap, arith, sym}
 use Rattle.mx_explore.specs.Walk.{StepperState, state_of}
 use Rattle.mx_explore.specs.Runs.{ran}
 use Rattle.mx_explore.proofs.RunLemmas.{ran_more, ran_none}
-use Rattle.mx_explore.proofs.runs.run_over.Goals as goal
+use Rattle.mx_explore.proofs.random_run.run_over.Goals as goal
 
 pub loop-init : goal.loop-init
 loop-init g c = λ rest is.

@@ -8,7 +8,7 @@ use Rattle.mx_commands.specs.Jobs.{run_by}
 use Rattle.mx_commands.specs.Runs.{AllNameNodes}
 use Rattle.mx_commands.proofs.EventLemmas.{events_named}
 use Rattle.mx_commands.proofs.ReplayLemmas.{is_replay, no_replay}
-use Rattle.mx_explain.proofs.runs.replay.Goals as goal
+use Rattle.mx_explain.proofs.explained_run.replay.Goals as goal
 
 pub observe-requires : goal.observe-requires
 observe-requires c =

@@ -1,6 +1,6 @@
 use Rattle.std.proofs.Common.{◌∙◌, sym}
 use Rattle.mx_explore.proofs.ParcelLemmas.{put_end, put_more}
-use Rattle.mx_explore.proofs.parcels.put_new.Goals as goal
+use Rattle.mx_explore.proofs.under_way.put_new.Goals as goal
 
 pub loop-number-preserved : goal.loop-number-preserved
 loop-number-preserved c =

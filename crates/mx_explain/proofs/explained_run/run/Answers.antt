@@ -4,7 +4,7 @@ use Rattle.mx_plan.specs.Text.{Text}
 use Rattle.mx_cli.specs.Printing.{Prints, null_output}
 use Rattle.mx_cli.specs.Requests.{text_of}
 use Rattle.mx_explain.specs.Explained.{IsExplained}
-use Rattle.mx_explain.proofs.runs.run.Goals as goal
+use Rattle.mx_explain.proofs.explained_run.run.Goals as goal
 
 pub returns-in-Some : goal.returns-in-Some
 returns-in-Some g c =

@@ -8,7 +8,7 @@ use Rattle.mx_cli.specs.declared.stop.Stop.{Stop}
 use Rattle.mx_cli.proofs.FrameLemmas.{unread_prints}
 use Rattle.mx_explain.specs.Explained.{IsTextReport}
 use Rattle.mx_explain.proofs.ExplainLemmas.{text_runs}
-use Rattle.mx_explain.proofs.runs.run_both.Goals as goal
+use Rattle.mx_explain.proofs.explained_run.run_both.Goals as goal
 
 pub returns-in-Ok : goal.returns-in-Ok
 returns-in-Ok g c =

@@ -1,5 +1,5 @@
 use Rattle.mx_explore.proofs.ParcelLemmas.{oldest_end, oldest_more}
-use Rattle.mx_explore.proofs.parcels.oldest_on.Goals as goal
+use Rattle.mx_explore.proofs.under_way.oldest_on.Goals as goal
 
 pub loop-other-preserved : goal.loop-other-preserved
 loop-other-preserved g c =

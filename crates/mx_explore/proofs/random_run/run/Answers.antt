@@ -1,6 +1,6 @@
 use Rattle.mx_explore.specs.Walk.{at_first}
 use Rattle.mx_explore.proofs.RunLemmas.{plays_if}
-use Rattle.mx_explore.proofs.runs.run.Goals as goal
+use Rattle.mx_explore.proofs.random_run.run.Goals as goal
 
 pub returns-clause-ran : goal.returns-clause-ran
 returns-clause-ran g c = rw (← c.nodes.ensures.value, ← c.registers.ensures.value) c.run_over.ensures

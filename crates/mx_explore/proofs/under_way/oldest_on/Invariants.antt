@@ -1,6 +1,6 @@
 use Rattle.std.proofs.Common.{◌≡◌, drop}
 use Rattle.mx_explore.specs.Walk.{oldest_on}
-use Rattle.mx_explore.proofs.parcels.oldest_on.Given as goal
+use Rattle.mx_explore.proofs.under_way.oldest_on.Given as goal
 
 abbrev pub invariant-loop-other : goal.invariant-loop-other
 invariant-loop-other g l =
