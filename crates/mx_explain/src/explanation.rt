@@ -71,8 +71,8 @@ fn run_and_explain<S: Source, O: Output>(
     ensures prints { Prints (IsExplanation (IsAsked (S.told source.old) asked.now))
         (sight O.Output out.old) (sight O.Output out.new) result }
 {
-    let entries = Vec::new(alloc);
-    let mut cached = CachedSource { source, entries };
+    let files = Vec::new(alloc);
+    let mut cached = CachedSource { source, files };
     let mut notes = Notes::new(alloc);
     let ended = run(alloc, asked, &mut cached, &mut notes);
     if let Err(Stop::Fault(fault)) = &ended {
