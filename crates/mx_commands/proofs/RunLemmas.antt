@@ -60,18 +60,10 @@ module _ {H S M : Type 0} (core : Core H S M) (g new : ClusterState S M) (e : Ev
 
 -- an event of nodes of the plan
 pub has_nodes : {S M : Type 0} (g : ClusterState S M) (e : Event) → NamesNodes (length g.members) e → NamesNoNode g e → ⊥
-has_nodes g (event.Ask i) lt le = absurd (omega (arith, lt, le))
-has_nodes g (event.Enter i) lt le = absurd (omega (arith, lt, le))
-has_nodes g (event.Read i register) lt le = absurd (omega (arith, lt, le))
-has_nodes g (event.Write i register value) lt le = absurd (omega (arith, lt, le))
-has_nodes g (event.Leave i) lt le = absurd (omega (arith, lt, le))
-has_nodes g (event.Cancel i) lt le = absurd (omega (arith, lt, le))
-has_nodes g (event.Tick i) lt le = absurd (omega (arith, lt, le))
 has_nodes g (event.Want i j) lt (inl le) = let h = lt.0 in absurd (omega (arith, h, le))
 has_nodes g (event.Want i j) lt (inr le) = let h = lt.1 in absurd (omega (arith, h, le))
-has_nodes g (event.Settle i upto) lt le = absurd (omega (arith, lt, le))
-has_nodes g (event.Restart i) lt le = absurd (omega (arith, lt, le))
 has_nodes g (event.Deliver k) lt le = le
+has_nodes g _ lt le = absurd (omega (arith, lt, le))
 
 -- an event that stops a run delivers a parcel that was not sent
 pub stops_without : {G : Type 0} (k : ℕ) (wanted : Result G StepFault) → IsFaultOf wanted step_fault.NoParcel → StopsAt k wanted (stop.Fault (NoParcel k))

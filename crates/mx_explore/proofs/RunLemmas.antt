@@ -34,17 +34,8 @@ module _ (P : Event → Type 0) (sent : ℕ) (each : (k : ℕ) → P (Deliver (s
   delivered false e h = h
 
   pub placed : (e : Event) → P e → IfSome (place_of e sent) P
-  placed (Ask node) h = h
-  placed (Enter node) h = h
-  placed (Read node register) h = h
-  placed (Write node register value) h = h
-  placed (Leave node) h = h
-  placed (Cancel node) h = h
-  placed (Tick node) h = h
-  placed (Want node other) h = h
-  placed (Settle node upto) h = h
-  placed (Restart node) h = h
   placed (Deliver k) h = delivered (nat_eq sent 0) (Deliver (sent - 1 - k % min sent 64)) (each (k % min sent 64))
+  placed _ h = h
 
 module _ {H S M : Type 0} (core : Core H S M) (nodes registers : ℕ) where
   -- the event of a step names nodes and registers that are there
