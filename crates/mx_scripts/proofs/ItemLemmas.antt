@@ -19,7 +19,7 @@ use Rattle.json.proofs.Printed.Utf8.{IsUtf8-are_ascii}
 use Rattle.mx_events.specs.declared.argument.Argument.{Argument}
 use Rattle.mx_events.specs.declared.argument.Argument.TheVariants as argument
 use Rattle.mx_events.specs.declared.event.Event.{Event}
-use Rattle.mx_events.specs.declared.event.Event.TheVariants.{Ask, Enter, Read, Write, Leave, Cancel, Tick, Want, Settle, Restart, Deliver}
+use Rattle.mx_events.specs.declared.event.Event.TheVariants.{Deliver}
 use Rattle.mx_events.specs.Arguments.{given}
 use Rattle.mx_events.specs.Events.{kind_of}
 use Rattle.mx_events.specs.Words.{word_of}
