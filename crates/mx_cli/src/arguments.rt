@@ -228,7 +228,7 @@ pub(crate) const PICTURE_NODE: Argument = Argument {
     help: "Draws the events of this node, those that send it a parcel, and those that deliver one of its own",
 };
 
-/// `--script` of `explain`.
+/// That a script comes in place of events.
 pub(crate) const IS_SCRIPT: Argument = Argument {
     name: "script",
     kind: ArgumentKind::Flag,

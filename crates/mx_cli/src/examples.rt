@@ -32,6 +32,7 @@ pub(crate) const SCRIPT: &str =
 
   mx script plan.json lost.txt > events.json
   mx replay plan.json events.json
+  mx replay --script plan.json lost.txt
 
 A line is an event as `replay` prints it: ask N, enter N, read N R, write N R V, leave N, cancel
 N, tick N, want N M, settle N K, restart N, deliver K; or it is about the parcels under way, those

@@ -103,7 +103,12 @@ pub enum Request<'a> {
         has_asks: bool,
         is_json: bool,
     },
-    Replay(Names<'a>, ViewOptions<'a>),
+    Replay {
+        names: Names<'a>,
+        view: ViewOptions<'a>,
+        /// Whether a script comes in place of events.
+        is_script: bool,
+    },
     Explore {
         exploration: Exploration<'a>,
         has_counts: bool,
@@ -120,10 +125,15 @@ pub enum Request<'a> {
         plan: &'a str,
         script: Option<&'a str>,
     },
-    Picture(Names<'a>, PictureOptions<'a>),
+    Picture {
+        names: Names<'a>,
+        part: PictureOptions<'a>,
+        is_script: bool,
+    },
     Count {
         names: Names<'a>,
         is_json: bool,
+        is_script: bool,
     },
     /// The second name is that of the trace.
     Judge(Names<'a>),

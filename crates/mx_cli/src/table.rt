@@ -61,7 +61,7 @@ static CHECK: CommandRow = CommandRow {
 static REPLAY: CommandRow = CommandRow {
     name: "replay",
     about: "Runs the events of a file; prints each outcome, each parcel sent, and the nodes at the end",
-    arguments: &[PLAN, EVENTS, QUIET, NODE, JSON, STATE],
+    arguments: &[PLAN, EVENTS, QUIET, NODE, JSON, STATE, IS_SCRIPT],
     example: help::REPLAY_EXAMPLE,
     is_explained: true,
 };
@@ -111,7 +111,7 @@ static PLAY: CommandRow = CommandRow {
 static PICTURE: CommandRow = CommandRow {
     name: "picture",
     about: "Draws a run as an SVG, in which time runs downward",
-    arguments: &[PLAN, EVENTS, FROM, TO, PICTURE_NODE, LETTERS],
+    arguments: &[PLAN, EVENTS, FROM, TO, PICTURE_NODE, LETTERS, IS_SCRIPT],
     example: examples::PICTURE,
     is_explained: true,
 };
@@ -119,7 +119,7 @@ static PICTURE: CommandRow = CommandRow {
 static COUNT: CommandRow = CommandRow {
     name: "count",
     about: "Counts the letters, refusals and waits of a run",
-    arguments: &[PLAN, EVENTS, JSON],
+    arguments: &[PLAN, EVENTS, JSON, IS_SCRIPT],
     example: examples::COUNT,
     is_explained: true,
 };

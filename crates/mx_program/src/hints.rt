@@ -55,15 +55,22 @@ fn hint_for<'a>(request: &Request<'a>) -> Option<Hint<'a>> {
         | Request::Draw(exploration, _) => (exploration.plan, None),
         Request::Live(run) => (run.plan, None),
         Request::Play { plan, script } => (*plan, *script),
-        Request::Replay(names, _)
+        Request::Replay { names, .. }
         | Request::Script(names)
-        | Request::Picture(names, _)
+        | Request::Picture { names, .. }
         | Request::Count { names, .. }
         | Request::Judge(names) => (names.plan, Some(names.events)),
         Request::Explain { plan, second, .. } => (*plan, *second),
         Request::Misfit(_) => return None,
     };
-    let is_script = matches!(request, Request::Script(_));
+    let is_script = match request {
+        Request::Script(_) => true,
+        Request::Replay { is_script, .. }
+        | Request::Picture { is_script, .. }
+        | Request::Count { is_script, .. }
+        | Request::Explain { is_script, .. } => *is_script,
+        _ => false,
+    };
     Some(Hint {
         plan,
         second,
