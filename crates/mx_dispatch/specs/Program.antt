@@ -57,7 +57,7 @@ Does told (draw e conditions) t u old new status =
 Does told (script names) t u old new status =
     Runs IsScript told (both names true) t u old new status
 Does told (picture names part is_script) t u old new status =
-    Runs (IsOnText is_script (IsPictured part)) told (both names false) t u old new status
+    Runs (IsOnText is_script (IsPictured part)) told (both names true) t u old new status
 Does told (count names is_json is_script) t u old new status =
     Runs (IsOnText is_script (IsCount is_json)) told (both names true) t u old new status
 Does told (judge names) t u old new status =

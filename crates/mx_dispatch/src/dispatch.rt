@@ -93,7 +93,7 @@ fn carry_out<S: Source, O: Output, E: Output>(
             is_script,
         } => {
             let picture = Picture(*part);
-            run_text(alloc, &picture, names, false, *is_script, source, out, err)
+            run_text(alloc, &picture, names, true, *is_script, source, out, err)
         }
         Request::Count {
             names,
