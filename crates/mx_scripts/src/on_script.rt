@@ -11,6 +11,7 @@ use std::alloc::Global;
 
 /// A command that gets the file of a script's events in place of the script. A script that is
 /// refused ends as with `Script`, and then the command prints nothing.
+#[derive(Drop)]
 pub struct OnScript<'a, C>(pub &'a C);
 
 impl<C: Command> Command for OnScript<'_, C> {
