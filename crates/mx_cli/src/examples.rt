@@ -137,18 +137,17 @@ it did not enter (overlap), the n-th section entered does not have the number n 
 that the writes before it, in order of entry, do not leave (read). The status is 0 if it is sound, and 4 if
 it is broken. docs/FORMATS.md has all formats.";
 
-pub(crate) const EXPLAIN: &str =
-    "Example: a key of a plan and a name in an event, which each lack a character.
+pub(crate) const EXPLAIN: &str = "Example: a key of a plan and a name in an event, both misspelt.
 
-  plan.json    {\"algorithm\":\"ricart\",\"nodes\":[\"a\",\"b1\"],\"registers\":[\"n\"],\"sections\":10,\"orgin\":7}
-  events.json  [[\"ask\",\"a\"],[\"deliver\",0],[\"enter\",\"b\"]]
+  plan.json    {\"algorithm\":\"ricart\",\"nodes\":[\"ann\",\"bob\"],\"registers\":[\"n\"],\"sections\":9,\"orgin\":7}
+  events.json  [[\"ask\",\"ann\"],[\"deliver\",0],[\"enter\",\"bop\"]]
 
   mx explain plan.json events.json
 
 prints
 
-  plan.json:1:74: warning: unknown key \"orgin\", ignored; the nearest is \"origin\"
-  events.json:1:37: events[2][1]: found \"b\", expected a node of the plan; the nearest is \"b1\"
+  plan.json:1:84: warning: unknown key \"orgin\", ignored; the nearest is \"origin\"
+  events.json:1:39: events[2][1]: found \"bop\", expected a node of the plan; the nearest is \"bob\"
 
 Without EVENTS the plan alone is looked at. With --script a script comes in place of events, as
 `mx script` reads it: `mx explain --script plan.json lost.txt`. The first fault of the plan, else
