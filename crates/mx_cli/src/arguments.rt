@@ -117,7 +117,7 @@ pub(crate) const STATE: Argument = Argument {
     name: "state",
     kind: ArgumentKind::Flag,
     is_required: false,
-    help: "Prints what each node knows at the end",
+    help: "Prints what nodes know, after each event and at the end",
 };
 
 pub(crate) const SEED: Argument = Argument {

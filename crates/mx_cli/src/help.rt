@@ -72,8 +72,9 @@ Where something is wrong, `mx explain PLAN EVENTS` says where it stands and what
 
 With --quiet only the lines at the end are printed; with --node NAME only those of this node: its events,
 the parcels that it sends or that are sent to it, and its line at the end; with --json an object of JSON
-in place of each line; with --state a line below that of each node at the end tells what the node knows by
-its algorithm, as `show` of `mx play` does. An object of JSON tells it too. They may stand together:
+in place of each line. With --state a line below that of a node tells what the node knows by its algorithm,
+as `show` of `mx play` does, and both lines of its node follow each event; with --json its object follows,
+which always tells what the node knows. They may stand together:
 
   mx replay plan.json events.json --node a --json
   mx replay plan.json events.json --quiet --state";
