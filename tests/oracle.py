@@ -868,7 +868,7 @@ class Replay:
         return member, ACTS[kind](member, *words)
 
     def happen(self, index, event):
-        """Lets an event happen, prints it and posts the letters that it put out."""
+        """Lets an event happen, prints it and posts the letters that it put out; gives the node that acted."""
         if event[0] == "deliver":
             member, outcome = self.deliver(event[1])
         else:
@@ -880,6 +880,7 @@ class Replay:
         self.put(f"{index} {' '.join(map(str, event))}: {outcome}")
         for addressee, letter in letters:
             self.post(member.core.me, addressee, letter)
+        return member
 
     def post(self, sender, addressee, letter):
         """Prints a parcel and keeps it to be delivered."""
@@ -887,22 +888,28 @@ class Replay:
         self.put(f"  #{len(self.parcels)} {way} {text(letter, self.names)}")
         self.parcels.append((sender, addressee, letter))
 
+    def state(self, member):
+        """The line that says how a node stands, and that of what it knows."""
+        return [member.closing(self.names[member.core.me], self.registers), member.knowledge(self.names)]
+
     def close(self, with_state=False):
         """Prints how the nodes stand, perhaps with what each knows, and the verdict."""
-        for name, member in zip(self.names, self.members):
-            self.put(member.closing(name, self.registers))
-            if with_state:
-                self.put(member.knowledge(self.names))
+        for member in self.members:
+            for line in self.state(member)[: 2 if with_state else 1]:
+                self.put(line)
         self.put("verdict sound")
 
 
 def replay(plan, events, put, with_state=False):
-    """Lets all events happen and puts each line that is printed; gives the fault, where there is one."""
+    """Lets all events happen and puts each line that is printed, perhaps with the state of its node after each event;
+    gives the fault, where there is one."""
     cluster = Replay(plan, put)
     for index, event in enumerate(events):
         if event[0] == "deliver" and event[1] >= len(cluster.parcels):
             return f"mx: no parcel: event {index}"
-        cluster.happen(index, event)
+        member = cluster.happen(index, event)
+        for line in cluster.state(member) if with_state else ():
+            put(line)
     cluster.close(with_state)
     return None
 

@@ -85,7 +85,15 @@ fn drive_events<C: Exclusion, K: Sink<Cluster<C>>, O: Output>(
     let mut text = String::new(alloc);
     for (index, event) in events.iter().enumerate() {
         text.clear();
-        drive_event(plan, index as u64, event, &mut cluster, sink, &mut text)?;
+        drive_event(
+            alloc,
+            plan,
+            index as u64,
+            event,
+            &mut cluster,
+            sink,
+            &mut text,
+        )?;
         out.put(text.as_bytes())?;
     }
     text.clear();
@@ -95,6 +103,7 @@ fn drive_events<C: Exclusion, K: Sink<Cluster<C>>, O: Output>(
 }
 
 fn drive_event<C: Exclusion, K: Sink<Cluster<C>>>(
+    alloc: Global,
     plan: &Plan,
     index: u64,
     event: &Event,
@@ -114,6 +123,6 @@ fn drive_event<C: Exclusion, K: Sink<Cluster<C>>>(
 {
     let before = cluster.sent();
     apply(index, event, cluster)?;
-    sink.event(plan, index, before, cluster, text)?;
+    sink.event(alloc, plan, index, before, cluster, text)?;
     Ok(())
 }

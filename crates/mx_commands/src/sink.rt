@@ -48,6 +48,7 @@ pub trait Sink<R: Running> {
     /// Returns `AllocError` if memory runs out.
     fn event(
         &mut self,
+        alloc: Global,
         plan: &Plan,
         index: u64,
         before: u64,

@@ -55,6 +55,7 @@ where
 
     fn event(
         &mut self,
+        _alloc: Global,
         plan: &Plan,
         index: u64,
         before: u64,
