@@ -686,6 +686,10 @@ class Journal:
             number += 1
         return number
 
+    def lacks_before(self, section):
+        """Whether some section before this one is neither settled nor there."""
+        return any(number not in self.writes for number in range(self.base.upto + 1, section))
+
     def gaps(self, limit):
         """The ranges of sections up to this limit that are neither settled nor there."""
         gaps = []
@@ -1093,7 +1097,7 @@ class Walk:
             return self.idles(name, member, self.words.next() % 16)
         if member.core.phase == WAITING:
             return self.waits(name, member.core, self.words.next() % 64)
-        return self.is_inside(name, self.words.next() % 16)
+        return self.is_inside(node, self.words.next() % 16)
 
     def idles(self, name, member, chance):
         if chance < 2:
@@ -1113,13 +1117,14 @@ class Walk:
             return ["tick", name]
         return None
 
-    def is_inside(self, name, chance):
+    def is_inside(self, node, chance):
+        name, member = self.cluster.names[node], self.cluster.members[node]
+        if member.journal.lacks_before(member.core.mine):
+            return ["want", name, self.one_of(self.cluster.names[node + 1 :] + self.cluster.names[:node])]
         if chance < 5:
             return ["read", name, self.one_of(self.cluster.registers)]
-        if chance < 9:
+        if chance < 10:
             return ["write", name, self.one_of(self.cluster.registers), self.words.next() % 1000]
-        if chance == 9:
-            return ["want", name, self.one_of(self.cluster.names)]
         return ["leave", name]
 
     def one_of(self, names):

@@ -3,6 +3,7 @@
 ghost use Rattle.std.specs.Prelude.{◌≡◌, ◌<◌, ◌≤◌, length, OnOk};
 ghost use Rattle.mx_scripts.specs.Played.{Plays};
 ghost use Rattle.mx_explore.specs.Walk.{at_first, state_of};
+ghost use Rattle.mx_explore.specs.Reads.{AddsNoVainRead};
 ghost use Rattle.mx_explore.specs.Runs.{after_placed, after_run, next_of, ran};
 
 use crate::stepper::Stepper;
@@ -33,6 +34,9 @@ pub fn run<C: Exclusion>(
     ensures ran { OnOk result (after_run C.core plan.now drawn.now cluster.old ≡ cluster.new) }
     ensures plays { OnOk result (Plays C.core (length plan.now.nodes) (length plan.now.registers)
         cluster.old cluster.new) }
+    // in a walk, no read is refused for a gap in the journal of its node
+    ensures reads { OnOk result
+        (AddsNoVainRead drawn.now.conditions cluster.old.trace cluster.new.trace) }
 {
     run_over(alloc, plan.nodes(), plan.registers(), cluster, drawn)
 }
