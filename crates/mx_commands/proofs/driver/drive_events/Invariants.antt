@@ -10,7 +10,7 @@ use Rattle.mx_commands.proofs.driver.drive_events.Given as goal
 abbrev pub invariant-loop-index : goal.invariant-loop-index
 invariant-loop-index g l =
     let texts = g.K.Sink.texts l.initial.sink l.plan in
-    let tells = record { heard = λ s. g.K.Sink.heard s l.plan; closed = λ s. g.K.Sink.closed s l.plan } in
+    let tells : Tells g.row.K.Denot g.row.C.Denot g.row.C-Msg.Denot = record { heard = λ s. g.K.Sink.heard s l.plan; closed = λ s. g.K.Sink.closed s l.plan } in
     record {
       stays : g.O.Output.takes_all l.out ≡ g.O.Output.takes_all l.initial.out;
       refused : g.O.Output.has_refused l.out ≡ g.O.Output.has_refused l.initial.out;
