@@ -21,7 +21,7 @@ _mx() {
             play) words="--help" ;;
             picture) words="--from --to --node --letters --help" ;;
             count) words="--json --help" ;;
-            judge) words="--help" ;;
+            judge) words="--json --help" ;;
             explain) words="--script --help" ;;
             help) words="check replay explore live draw script play picture count judge explain" ;;
         esac

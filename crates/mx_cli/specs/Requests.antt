@@ -54,7 +54,7 @@ pub data Request : Type 0 where
   play : Text → Option Text → Request
   picture : Text × Text → Part → Request
   count : Text × Text → Bool → Request
-  judge : Text × Text → Request
+  judge : Text × Text → Bool → Request
   explain : Text → Option Text → Bool → Request
   misfit : Misfit → Request
 
@@ -96,7 +96,7 @@ request_of (given.Script names) = script (names_of names)
 request_of (given.Play plan first) = play plan.now (text_of first)
 request_of (given.Picture names options) = picture (names_of names) (part_of options)
 request_of (given.Count names is_json) = count (names_of names) is_json
-request_of (given.Judge names) = judge (names_of names)
+request_of (given.Judge names is_json) = judge (names_of names) is_json
 request_of (given.Explain plan second is_script) = explain plan.now (text_of second) is_script
 request_of (given.Misfit reason) = misfit reason
 
@@ -217,6 +217,12 @@ count_in rows =
     option_map (λ names. count names (is_given (codes "json") rows))
     (names_in (codes "EVENTS") rows)
 
+-- `judge`
+abbrev pub judge_in : List Row → Option Request
+judge_in rows =
+    option_map (λ names. judge names (is_given (codes "json") rows))
+    (names_in (codes "TRACE") rows)
+
 -- `explain`
 abbrev pub explain_in : List Row → Option Request
 explain_in rows =
@@ -237,7 +243,7 @@ request_in (Some p) =
     else if bytes_eq p.0 (codes "play") then play_in p.1
     else if bytes_eq p.0 (codes "picture") then picture_in p.1
     else if bytes_eq p.0 (codes "count") then count_in p.1
-    else if bytes_eq p.0 (codes "judge") then option_map judge (names_in (codes "TRACE") p.1)
+    else if bytes_eq p.0 (codes "judge") then judge_in p.1
     else if bytes_eq p.0 (codes "explain") then explain_in p.1
     else None
 

@@ -59,8 +59,8 @@ Does told (picture names part) t u old new status =
     Runs (IsPictured part) told (both names false) t u old new status
 Does told (count names is_json) t u old new status =
     Runs (IsCount is_json) told (both names true) t u old new status
-Does told (judge names) t u old new status =
-    Runs IsJudgement told (both names true) t u old new status
+Does told (judge names is_json) t u old new status =
+    Runs (IsJudgement is_json) told (both names true) t u old new status
 Does told (explain plan second is_script) t u old new status =
     Explains told plan second is_script t u old new status
 Does told (misfit reason) t u old new status = ReportsUsage old new status
