@@ -54,7 +54,7 @@ pub data Request : Type 0 where
   play : Text → Option Text → Request
   picture : Text × Text → Part → Bool → Request
   count : Text × Text → Bool → Bool → Request
-  judge : Text × Text → Request
+  judge : Text × Text → Bool → Request
   explain : Text → Option Text → Bool → Request
   misfit : Misfit → Request
 
@@ -96,7 +96,7 @@ request_of (given.Script names) = script (names_of names)
 request_of (given.Play plan first) = play plan.now (text_of first)
 request_of (given.Picture names part is_script) = picture (names_of names) (part_of part) is_script
 request_of (given.Count names is_json is_script) = count (names_of names) is_json is_script
-request_of (given.Judge names) = judge (names_of names)
+request_of (given.Judge names is_json) = judge (names_of names) is_json
 request_of (given.Explain plan second is_script) = explain plan.now (text_of second) is_script
 request_of (given.Misfit reason) = misfit reason
 
@@ -221,6 +221,12 @@ count_in rows =
     (λ names. count names (is_given (codes "json") rows) (is_given (codes "script") rows))
     (names_in (codes "EVENTS") rows)
 
+-- `judge`
+abbrev pub judge_in : List Row → Option Request
+judge_in rows =
+    option_map (λ names. judge names (is_given (codes "json") rows))
+    (names_in (codes "TRACE") rows)
+
 -- `explain`
 abbrev pub explain_in : List Row → Option Request
 explain_in rows =
@@ -241,7 +247,7 @@ request_in (Some p) =
     else if bytes_eq p.0 (codes "play") then play_in p.1
     else if bytes_eq p.0 (codes "picture") then picture_in p.1
     else if bytes_eq p.0 (codes "count") then count_in p.1
-    else if bytes_eq p.0 (codes "judge") then option_map judge (names_in (codes "TRACE") p.1)
+    else if bytes_eq p.0 (codes "judge") then judge_in p.1
     else if bytes_eq p.0 (codes "explain") then explain_in p.1
     else None
 

@@ -141,9 +141,11 @@ count_app =
     app_with (codes "count")
     (plan_rule ∷ events_rule ∷ flag_rule (codes "json") ∷ flag_rule (codes "script") ∷ [])
 
--- `judge PLAN TRACE`
+-- `judge PLAN TRACE`, and perhaps `--json`
 abbrev pub judge_app : App
-judge_app = app_with (codes "judge") (plan_rule ∷ file_rule (codes "TRACE") ∷ [])
+judge_app =
+    app_with (codes "judge")
+    (plan_rule ∷ file_rule (codes "TRACE") ∷ flag_rule (codes "json") ∷ [])
 
 -- `explain PLAN`, and perhaps `EVENTS` and `--script`
 abbrev pub explain_app : App

@@ -120,7 +120,9 @@ pub(crate) const JUDGE: &str = "Example: two nodes whose sections overlap.
 
 prints
 
+  events 2, sections 2
   verdict broken at 1: overlap
+  line 2: enter b, while a is inside section 1
 
 A trace has an object of JSON on each line, as `mx replay --json` prints them, or is an array of them. Any
 program may write it, whatever its algorithm; of the plan only the names are used. The verdict looks at five
@@ -134,8 +136,9 @@ acts, and passes over all others:
 
 It is broken at the first event, counted from 0, at which two nodes are inside together or a node leaves what
 it did not enter (overlap), the n-th section entered does not have the number n (number), or a value was read
-that the writes before it, in order of entry, do not leave (read). The status is 0 if it is sound, and 4 if
-it is broken. docs/FORMATS.md has all formats.";
+that the writes before it, in order of entry, do not leave (read). The last line says where that event is and
+what was expected. With --json each event is an object of JSON, and so is the verdict. The status is 0 if the
+trace is sound, and 4 if it is broken. docs/FORMATS.md has all formats.";
 
 pub(crate) const EXPLAIN: &str = "Example: a key of a plan and a name in an event, both misspelt.
 

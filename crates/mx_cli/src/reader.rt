@@ -64,7 +64,7 @@ fn request_in<'a>(name: &str, matches: &ArgMatches<'a>) -> Option<Request<'a>>
         "play" => play_in(matches),
         "picture" => picture_in(matches),
         "count" => count_in(matches),
-        "judge" => names_in(matches, "TRACE").map(Request::Judge),
+        "judge" => judge_in(matches),
         "explain" => explain_in(matches),
         _ => None,
     }
@@ -211,6 +211,16 @@ fn count_in<'a>(matches: &ArgMatches<'a>) -> Option<Request<'a>>
         names,
         is_json: is_given(matches, "json"),
         is_script: is_given(matches, "script"),
+    })
+}
+
+fn judge_in<'a>(matches: &ArgMatches<'a>) -> Option<Request<'a>>
+    ensures { option_map spec.request_of result ≡ spec.judge_in (rows_of (found_of matches.now)) }
+{
+    let names = names_in(matches, "TRACE")?;
+    Some(Request::Judge {
+        names,
+        is_json: is_given(matches, "json"),
     })
 }
 

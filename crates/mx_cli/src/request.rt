@@ -135,8 +135,11 @@ pub enum Request<'a> {
         is_json: bool,
         is_script: bool,
     },
-    /// The second name is that of the trace.
-    Judge(Names<'a>),
+    Judge {
+        /// The second name is that of the trace.
+        names: Names<'a>,
+        is_json: bool,
+    },
     Explain {
         plan: &'a str,
         /// The name of the events, or of the script.

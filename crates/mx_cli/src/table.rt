@@ -127,7 +127,7 @@ static COUNT: CommandRow = CommandRow {
 static JUDGE: CommandRow = CommandRow {
     name: "judge",
     about: "Judges the trace of a run, whichever program wrote it",
-    arguments: &[PLAN, TRACE],
+    arguments: &[PLAN, TRACE, JSON],
     example: examples::JUDGE,
     is_explained: false,
 };

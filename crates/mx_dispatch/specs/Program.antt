@@ -60,8 +60,8 @@ Does told (picture names part is_script) t u old new status =
     Runs (IsOnText is_script (IsPictured part)) told (both names true) t u old new status
 Does told (count names is_json is_script) t u old new status =
     Runs (IsOnText is_script (IsCount is_json)) told (both names true) t u old new status
-Does told (judge names) t u old new status =
-    Runs IsJudgement told (both names true) t u old new status
+Does told (judge names is_json) t u old new status =
+    Runs (IsJudgement is_json) told (both names true) t u old new status
 Does told (explain plan second is_script) t u old new status =
     Explains told plan second is_script t u old new status
 Does told (misfit reason) t u old new status = ReportsUsage old new status

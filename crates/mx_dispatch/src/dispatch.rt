@@ -103,7 +103,10 @@ fn carry_out<S: Source, O: Output, E: Output>(
             let count = Count { is_json: *is_json };
             run_text(alloc, &count, names, true, *is_script, source, out, err)
         }
-        Request::Judge(names) => run_both(alloc, &Judge, names, true, source, out, err),
+        Request::Judge { names, is_json } => {
+            let judge = Judge { is_json: *is_json };
+            run_both(alloc, &judge, names, true, source, out, err)
+        }
         Request::Explain {
             plan,
             second,

@@ -59,7 +59,7 @@ fn hint_for<'a>(request: &Request<'a>) -> Option<Hint<'a>> {
         | Request::Script(names)
         | Request::Picture { names, .. }
         | Request::Count { names, .. }
-        | Request::Judge(names) => (names.plan, Some(names.events)),
+        | Request::Judge { names, .. } => (names.plan, Some(names.events)),
         Request::Explain { plan, second, .. } => (*plan, *second),
         Request::Misfit(_) => return None,
     };

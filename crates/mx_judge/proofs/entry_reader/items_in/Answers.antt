@@ -3,7 +3,7 @@ use Rattle.std.specs.Prelude.{unwrap_or}
 use Rattle.serde_json.specs.View.{view}
 use Rattle.mx_plan.specs.Values.{list_of}
 use Rattle.mx_plan.proofs.Lists.{list_of-items_of}
-use Rattle.mx_judge.proofs.trace_reader.items_in.Goals as goal
+use Rattle.mx_judge.proofs.entry_reader.items_in.Goals as goal
 
 pub returns-in-Some : goal.returns-in-Some
 returns-in-Some c =
