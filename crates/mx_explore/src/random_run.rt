@@ -34,7 +34,7 @@ pub fn run<C: Exclusion>(
     ensures ran { OnOk result (after_run C.core plan.now drawn.now cluster.old ≡ cluster.new) }
     ensures plays { OnOk result (Plays C.core (length plan.now.nodes) (length plan.now.registers)
         cluster.old cluster.new) }
-    // in a walk, no read is refused for a gap in the journal of its node
+    // a walk adds no read that is refused for a gap to a trace without one
     ensures reads { OnOk result
         (AddsNoVainRead drawn.now.conditions cluster.old.trace cluster.new.trace) }
 {
