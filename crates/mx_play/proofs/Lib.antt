@@ -5,6 +5,7 @@ pub mod SessionLemmas
 mod SessionLineLemmas
 mod LineTurnLemmas
 mod LinePlanLemmas
+mod ReportLemmas
 pub mod TurnLemmas
 pub mod PlayedLemmas
 mod CommandLemmas

@@ -1,6 +1,7 @@
 pub mod Help
-pub mod Histories
+pub mod Printed
 pub mod Cuts
+pub mod Histories
 pub mod Views
 pub mod Commands
 pub mod Lines
