@@ -3,6 +3,7 @@ pub mod HistoryLemmas
 mod InterpreterLemmas
 pub mod SessionLemmas
 mod SessionLineLemmas
+mod TypedLemmas
 mod LineTurnLemmas
 mod LinePlanLemmas
 mod ReportLemmas

@@ -5,6 +5,7 @@ pub mod Histories
 pub mod Views
 pub mod Commands
 pub mod Lines
+pub mod TypedLines
 pub mod SameLines
 pub mod LineTurns
 pub mod Sessions
