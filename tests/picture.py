@@ -42,6 +42,11 @@ class Run:
                 self.parcels.append((len(self.events) - 1, *ends, parcel[3]))
         self.arriving = {int(args[0]) for word, args, _, _ in self.events if word == "deliver"}
 
+    def is_overtaken(self, number):
+        """Whether a parcel sent later from the same node to the same is delivered."""
+        link = self.parcels[number][1:3]
+        return any(later > number and self.parcels[later][1:3] == link for later in self.arriving)
+
     def is_original(self, number):
         """Whether a parcel is a letter that no tick sent again."""
         by, _, _, text = self.parcels[number]
@@ -188,11 +193,10 @@ class Drawing:
         if outcome.startswith(("entered", "left")):
             self.story.append(f" {index} {told}.")
         self.change(node, outcome)
-        for number, parcel in enumerate(self.run.parcels):
-            if parcel[0] == index and self.part.concerns(parcel):
-                self.shown[number] = row
-                if number not in self.run.arriving:
-                    self.lose(number, row)
+        sent = [number for number, parcel in enumerate(self.run.parcels) if parcel[0] == index and self.part.concerns(parcel)]
+        self.shown |= dict.fromkeys(sent, row)
+        if undelivered := [number for number in sent if number not in self.run.arriving]:
+            self.keep(undelivered, row)
 
     def deliver(self, number):
         """What is drawn of a delivery in the present row; returns its text."""
@@ -208,14 +212,21 @@ class Drawing:
         is_far = is_cut or abs(start - node) >= LONG_NODES or self.row - self.shown[number] >= LONG_ROWS
         return f"#{number} {text}" + (f" from {self.run.names[start]}" if is_far else "")
 
-    def lose(self, number, sent_in):
-        """A parcel that is never delivered, in a row of its own."""
-        _, start, to, text = self.run.parcels[number]
+    def keep(self, numbers, sent_in):
+        """The parcels of an event that are never delivered, in a row of their own."""
         self.row += 1
+        marks = {}
+        for number in numbers:
+            _, start, to, _ = self.run.parcels[number]
+            kind = "overtaken" if self.run.is_overtaken(number) else "pending"
+            marks.setdefault((kind, start, sent_in, "right" if start <= to else "left"), []).append(self.title(number))
+        for mark, titles in marks.items():
+            self.add(*mark)
+            self.add("title", "\n".join(titles))
+        _, start, to, text = self.run.parcels[numbers[0]]
+        more = f", and {len(numbers) - 1} more" if len(numbers) > 1 else ""
         side = "right" if start <= to else "left"
-        self.add("lost", start, sent_in, side, self.row)
-        self.add("title", self.title(number))
-        self.add("air", start, self.row, side, f"#{number} {text} to {self.run.names[to]}")
+        self.add("air", start, self.row, side, f"#{numbers[0]} {text} to {self.run.names[to]}{more}")
 
     def nodes(self):
         """The nodes that have a line."""
@@ -321,9 +332,10 @@ def path_of(look, d, node_at):
         return "waits", node(x), row_of(y), row_of(y + down)
     if line := re.fullmatch(r"M(\d+)-12V(\d+)", d):
         return "line", node(line[1]), row_of(line[2])
-    if lost := re.fullmatch(r"M(\d+) (\d+)l(-?)26 (\d+)m-3-3l6 6m0-6l-6 6", d):
-        x, y, side, down = lost.groups()
-        return "lost", node(x), row_of(y), "left" if side else "right", row_of(int(y) + int(down))
+    if mark := re.fullmatch(r"M(\d+) (\d+)l(-?)26 13(m-3-3l6 6m0-6l-6 6|m-3 0a3 3 0 1 0 6 0a3 3 0 1 0-6 0)", d):
+        x, y, side, end = mark.groups()
+        assert look == ("overtaken" if end.startswith("m-3-3") else "pending")
+        return look, node(x), row_of(y), "left" if side else "right"
     if tip := re.fullmatch(r"M(\d+) (\d+)m(-?)26-13l(-?)26 13", d):
         x, y, back, aside = tip.groups()
         assert back != aside
@@ -376,7 +388,7 @@ def read_back(picture, names):
         elif part.tag == SVG + "path":
             thing = path_of(look, part.get("d"), node_at)
             (boxes if thing[0] == "inside" else things).append(thing)
-            if thing[0] in ("arrow", "tip", "start", "lost"):
+            if thing[0] in ("arrow", "tip", "start", "overtaken", "pending"):
                 things.append(("title", part[0].text))
             if thing[0] == "inside":
                 box_titles.append(part[0].text)

@@ -79,9 +79,10 @@ pub(crate) const PICTURE: &str = "Example: the events of one section, in a clust
 Each node has a line, and each event a row with its index at the left and what came of it beside its node.
 A parcel is an arrow from the event that sent it to its delivery, with its number and its text at the tip:
 blue for requests, green for what grants them, purple for all others, and dashed where it was delivered
-before. One that is never delivered ends in the air, in a row of its own. A blue bar stands where a node
-waits, and a yellow box where it is inside, with the number of the section. `mx replay --help` tells what
-events are, and its faults are those of `picture`; docs/FORMATS.md has all formats.";
+before. Those of an event that are never delivered have one row below it: a ring marks those under way at
+the end, and a cross those that a later parcel from the same node to the same overtook. A blue bar stands
+where a node waits, and a yellow box where it is inside, with the number of the section. `mx replay --help`
+tells what events are, and its faults are those of `picture`; docs/FORMATS.md has all formats.";
 
 pub(crate) const COUNT: &str =
     "Example: what the events of one section cost, in a cluster of three nodes.

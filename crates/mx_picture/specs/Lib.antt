@@ -1,4 +1,6 @@
--- Drawn: the printed picture. LettersOnly: what `--letters` draws. Pictures: what `picture` prints.
+-- Drawn: the printed picture. LettersOnly: what `--letters` draws. Overtaken: which parcels are
+-- overtaken. Pictures: what `picture` prints.
 pub mod Drawn
 pub mod LettersOnly
+pub mod Overtaken
 pub mod Pictures

@@ -8,6 +8,7 @@ mod drawing;
 mod labels;
 mod legend;
 mod letters;
+mod links;
 mod name_rows;
 mod omissions;
 mod opening;
@@ -21,5 +22,6 @@ mod shapes;
 mod sheet;
 mod side;
 mod text;
+mod undelivered;
 
 pub use command::Picture;

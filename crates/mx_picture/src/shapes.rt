@@ -3,10 +3,12 @@
 use crate::arrows::{Arrow, End};
 use crate::columns::{Columns, Lanes};
 use crate::labels::{Extent, Label, add_labels};
+use crate::links::Links;
 use crate::name_rows::NameRow;
 use crate::phases::Bar;
 use crate::route::Route;
 use crate::text::escaped;
+use crate::undelivered::{Undelivered, add_undelivered};
 use mx_plan::Plan;
 use mx_stamps::NodeId;
 use std::alloc::{AllocError, Global};
@@ -34,6 +36,9 @@ pub(crate) struct Shapes {
     pub(crate) bars: Vec<Bar>,
     /// The arrows of which only an end is drawn.
     pieces: Vec<Arrow>,
+    /// The parcels that no event delivers.
+    pub(crate) undelivered: Vec<Undelivered>,
+    pub(crate) links: Links,
     /// The other arrows. None ends in a lower row than a later one.
     pub(crate) arrows: Vec<Arrow>,
     pub(crate) names: Vec<NameRow>,
@@ -55,6 +60,8 @@ impl Shapes {
             alloc,
             bars: Vec::new(alloc),
             pieces: Vec::new(alloc),
+            undelivered: Vec::new(alloc),
+            links: Links::new(),
             arrows: Vec::new(alloc),
             names: Vec::new(alloc),
             dots: Vec::new(alloc),
@@ -112,6 +119,7 @@ impl Shapes {
         for piece in &self.pieces {
             piece.add_to(columns, text)?;
         }
+        add_undelivered(self.undelivered.as_slice(), &self.links, columns, text)?;
         for arrow in &self.arrows {
             arrow.add_to(columns, text)?;
         }

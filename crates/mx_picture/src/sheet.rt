@@ -12,6 +12,7 @@ use crate::segment::{MAX_ROWS, y_of};
 use crate::shapes::{Dot, Shapes};
 use crate::side::Side;
 use crate::text::{add_escaped, escaped, width_of};
+use crate::undelivered::Undelivered;
 use mx_nodelaws::Phase;
 use mx_stamps::{MAX_NODES, NodeId};
 use std::alloc::{AllocError, Global};
@@ -165,11 +166,21 @@ impl Sheet {
         Ok(())
     }
 
-    pub(crate) fn lose(&mut self, route: Route, title: &str) -> Result<(), AllocError> {
-        self.next_row()?;
-        let y = y_of(self.event);
-        let end = End::Loss(y_of(self.row - self.event));
-        self.shapes.add_arrow(route, end, y, title)
+    /// Notes that no event delivers the parcel of this number, which the current event sent.
+    pub(crate) fn add_undelivered(
+        &mut self,
+        number: u64,
+        route: Route,
+        title: &str,
+    ) -> Result<(), AllocError> {
+        let title = escaped(self.shapes.alloc, title)?;
+        self.shapes.undelivered.push(Undelivered {
+            number,
+            route,
+            y: y_of(self.event),
+            title,
+        })?;
+        Ok(())
     }
 
     /// Notes that the parcel of this number is delivered now, and draws what is seen of its arrow.
@@ -185,6 +196,7 @@ impl Sheet {
         if index >= self.flights.len() {
             return Ok(());
         }
+        self.shapes.links.deliver(number, &route);
         let flight = self.deliver(index);
         let is_repeat = flight.is_delivered;
         let y = y_of(flight.row);
