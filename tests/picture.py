@@ -13,6 +13,7 @@ import xml.etree.ElementTree as xml
 from collections import Counter
 
 ROW = 13  # how far apart rows are
+CUT = 6  # how much shorter a bar is where the event at its end is left out
 COLUMNS = 60, 180  # how far apart the lines of nodes are, at least and at most
 SPAN = 2000  # how far apart the first and the last line are, at most
 GAP = 8  # the room between a text and the next line
@@ -120,7 +121,7 @@ class Drawing:
                 self.row += 1
                 skipped = False
             if self.row - named >= NAMED_ROWS:
-                inside = [at for at, (_, what) in self.since.items() if what.startswith("inside")]
+                inside = [at for at, (_, what, _) in self.since.items() if what.startswith("inside")]
                 self.things += [("named", at, self.row, name) for at, name in enumerate(run.names) if at not in inside]
                 named, self.row = self.row, self.row + 1
             self.draw(index)
@@ -134,22 +135,22 @@ class Drawing:
     def add(self, *thing):
         self.things.append(thing)
 
-    def end(self, node):
-        """The phase of a node ends."""
-        begun, what = self.since.pop(node, (self.row, "nothing"))
+    def end(self, node, is_cut=False):
+        """The phase of a node ends; it is cut where the event at an end is not drawn."""
+        begun, what, was_cut = self.since.pop(node, (self.row, "nothing", False))
         if begun != self.row:
-            self.add(what, node, begun, self.row)
+            self.add(what, node, (begun, was_cut), (self.row, is_cut))
 
-    def change(self, node, outcome):
+    def change(self, node, outcome, is_cut=False):
         """The phase of a node after an outcome."""
         if outcome.startswith("asked"):
-            self.since[node] = self.row, "waits"
+            self.since[node] = self.row, "waits", is_cut
         elif outcome.startswith("entered"):
-            self.end(node)
+            self.end(node, is_cut)
             self.entered += 1
-            self.since[node] = self.row, "inside " + outcome.split()[1]
+            self.since[node] = self.row, "inside " + outcome.split()[1], is_cut
         elif outcome.startswith("left") or outcome == "cancelled":
-            self.end(node)
+            self.end(node, is_cut)
 
     def leave_out(self, index):
         """What an event does that is not drawn."""
@@ -163,7 +164,7 @@ class Drawing:
                 self.add("title", self.title(number))
             self.delivered.add(number)
         elif self.part.last is None or index <= self.part.last:
-            self.change(self.run.node_of(self.run.events[index]), outcome)
+            self.change(self.run.node_of(self.run.events[index]), outcome, is_cut=True)
 
     def look(self, number):
         again = " again" if number in self.delivered else ""
@@ -318,6 +319,16 @@ def row_of(y):
     return int(y) // ROW
 
 
+def top_of(y):
+    """The row in which a bar begins, and whether it is cut there."""
+    return (row_of(y), False) if y % ROW == 0 else (row_of(y - CUT), True)
+
+
+def foot_of(y):
+    """The row in which a bar ends, and whether it is cut there."""
+    return (row_of(y), False) if y % ROW == 0 else (row_of(y + CUT), True)
+
+
 def path_of(look, d, node_at):
     """The thing that a path draws."""
 
@@ -326,10 +337,10 @@ def path_of(look, d, node_at):
 
     if box := re.fullmatch(r"M(\d+) (\d+)m-12-6h24v(\d+)h-24z", d):
         x, y, high = map(int, box.groups())
-        return "inside", node(x), row_of(y), row_of(y + high - 12)
+        return "inside", node(x), top_of(y), foot_of(y + high - 12)
     if bar := re.fullmatch(r"M(\d+) (\d+)v(\d+)", d):
         x, y, down = map(int, bar.groups())
-        return "waits", node(x), row_of(y), row_of(y + down)
+        return "waits", node(x), top_of(y), foot_of(y + down)
     if line := re.fullmatch(r"M(\d+)-12V(\d+)", d):
         return "line", node(line[1]), row_of(line[2])
     if mark := re.fullmatch(r"M(\d+) (\d+)l(-?)26 13(m-3-3l6 6m0-6l-6 6|m-3 0a3 3 0 1 0 6 0a3 3 0 1 0-6 0)", d):
@@ -408,7 +419,7 @@ def read_back(picture, names):
                 things.append(("named", node, row_of(y), part.text) if again else ("name", node, part.text))
                 continue
             if look == "section":
-                sections[node, row_of(y)] = part.text
+                sections[node, top_of(y)] = part.text
                 continue
             side = "left" if "left" in look else "right"
             assert part.get("dx") == ("-" if side == "left" else "") + ("33" if "air" in look else "17")
