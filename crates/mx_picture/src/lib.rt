@@ -11,6 +11,7 @@ mod letters;
 mod links;
 mod name_rows;
 mod omissions;
+mod open_arrows;
 mod opening;
 mod page;
 mod parcels;

@@ -56,12 +56,26 @@ impl Segment {
         }
     }
 
+    /// Returns whether the arrow begins at the height `y` or above.
+    pub(crate) fn begins_by(&self, y: u64) -> bool {
+        self.top <= y
+    }
+
+    /// Returns whether the rectangle around the arrow meets this one.
+    fn is_near(&self, rect: &Rect) -> bool {
+        self.from.min(self.to) <= rect.right
+            && self.from.max(self.to) >= rect.left
+            && self.top <= rect.bottom
+            && self.bottom >= rect.top
+    }
+
     pub(crate) fn crosses(&self, rect: &Rect) -> bool {
+        self.is_near(rect) && self.runs_through(rect)
+    }
+
+    fn runs_through(&self, rect: &Rect) -> bool {
         let top = rect.top.max(self.top);
         let bottom = rect.bottom.min(self.bottom);
-        if bottom < top {
-            return false;
-        }
         let above = self.across(top);
         let below = self.across(bottom);
         above.min(below) <= rect.right && above.max(below) >= rect.left

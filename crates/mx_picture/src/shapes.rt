@@ -13,6 +13,9 @@ use mx_plan::Plan;
 use mx_stamps::NodeId;
 use std::alloc::{AllocError, Global};
 
+/// The number of bytes that the SVG of a row takes, roughly.
+const ROW_BYTES: usize = 400;
+
 /// The dot of an event at its node. It is hollow if the event is refused.
 #[derive(Drop)]
 pub(crate) struct Dot {
@@ -94,6 +97,12 @@ impl Shapes {
         Ok(())
     }
 
+    /// Returns how many bytes the SVG of the shapes takes, roughly, so that it need not grow step by
+    /// step.
+    pub(crate) fn room(&self) -> usize {
+        self.labels.len().saturating_mul(ROW_BYTES)
+    }
+
     /// Returns the texts beside nodes, each on its side, as SVG, and how far they extend.
     pub(crate) fn texts(&self, columns: &Columns) -> Result<Texts, AllocError> {
         let mut segments = Vec::new(self.alloc);
@@ -102,7 +111,7 @@ impl Shapes {
         }
         let mut svg = String::new(self.alloc);
         let labels = self.labels.as_slice();
-        let extent = add_labels(labels, segments.as_slice(), columns, &mut svg)?;
+        let extent = add_labels(self.alloc, labels, segments, columns, &mut svg)?;
         Ok(Texts { svg, extent })
     }
 
