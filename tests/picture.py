@@ -17,6 +17,7 @@ CUT = 6  # how much shorter a bar is where the event at its end is left out
 COLUMNS = 60, 180  # how far apart the lines of nodes are, at least and at most
 SPAN = 2000  # how far apart the first and the last line are, at most
 GAP = 8  # the room between a text and the next line
+NEAR = {"text": 17, "air": 33}  # how far a text is from its node
 NAMED_ROWS = 50  # after how many rows the names of the nodes come again
 LONG_ROWS, LONG_NODES = 26, 6  # from how many rows, or nodes, on an arrow is long, so that its text names the sender
 EDGE = 60  # the room at each edge for the indices of the events
@@ -226,8 +227,8 @@ class Drawing:
             self.add("title", "\n".join(titles))
         _, start, to, text = self.run.parcels[numbers[0]]
         more = f", and {len(numbers) - 1} more" if len(numbers) > 1 else ""
-        side = "right" if start <= to else "left"
-        self.add("air", start, self.row, side, f"#{numbers[0]} {text} to {self.run.names[to]}{more}")
+        self.best[start, self.row] = "right" if start <= to else "left"
+        self.add("air", start, self.row, f"#{numbers[0]} {text} to {self.run.names[to]}{more}")
 
     def nodes(self):
         """The nodes that have a line."""
@@ -250,10 +251,9 @@ class Drawing:
         right, left = Counter(), Counter()
         for thing in self.things:
             if thing[0] in ("text", "air"):
-                node, row, text = thing[1], thing[2], thing[-1]
-                side, near = (thing[3], 33) if thing[0] == "air" else (self.best[node, row], 17)
-                wants = right if side == "right" else left
-                wants[node] = max(wants[node], near + room_of(text))
+                _, node, row, text = thing
+                wants = right if self.best[node, row] == "right" else left
+                wants[node] = max(wants[node], NEAR[thing[0]] + room_of(text))
         nodes, half = self.nodes(), {node: room_of(name) // 2 for node, name in enumerate(self.run.names)}
         wanted = [GAP + max(right[one], left[two], half[one] + half[two]) for one, two in zip(nodes, nodes[1:])]
         columns = [max(min(width, COLUMNS[1]), COLUMNS[0]) for width in wanted]
@@ -295,20 +295,23 @@ def is_crossed(arrow, places, node, row, side, reach):
 
 
 def badly_placed(things, places, sides, best):
-    """The texts at a side where an arrow runs through them while the other is free, and those at the other in vain."""
+    """The texts at a side where arrows run through them that are worse than those at the other side, and those at the
+    other in vain. An arrow between other nodes is worse than one from or to the node of the text."""
     arrows = [thing for thing in things if thing[0] == "arrow"]
-    for _, node, row, text in (thing for thing in things if thing[0] == "text"):
+    for kind, node, row, text in (thing for thing in things if thing[0] in NEAR):
         own, other = best[node, row], "left" if best[node, row] == "right" else "right"
 
-        def crossed(side, reach):
-            return any(is_crossed(arrow, places, node, row, side, reach) for arrow in arrows)
+        def worst(side, reach):
+            across = [arrow for arrow in arrows if is_crossed(arrow, places, node, row, side, reach)]
+            return max((1 if node in (arrow[2], arrow[4]) else 2 for arrow in across), default=0)
 
         # the program counts in whole points
-        surely, maybe = (18, 16 + width_of(text)), (16, 18 + room_of(text))
+        near = NEAR[kind]
+        surely, maybe = (near + 1, near - 1 + width_of(text)), (near - 1, near + 1 + room_of(text))
         if sides[node, row] == own:
-            is_well = not crossed(own, surely) or crossed(other, maybe)
+            is_well = worst(own, surely) <= worst(other, maybe)
         else:
-            is_well = crossed(own, maybe) and not crossed(other, surely)
+            is_well = worst(own, maybe) > worst(other, surely)
         if not is_well:
             yield node, row, sides[node, row], text
 
@@ -422,12 +425,10 @@ def read_back(picture, names):
                 sections[node, top_of(y)] = part.text
                 continue
             side = "left" if "left" in look else "right"
-            assert part.get("dx") == ("-" if side == "left" else "") + ("33" if "air" in look else "17")
-            if "air" in look:
-                things.append(("air", node, row_of(y), side, part.text))
-            else:
-                things.append(("text", node, row_of(y), part.text))
-                sides[node, row_of(y)] = side
+            kind = "air" if "air" in look else "text"
+            assert part.get("dx") == ("-" if side == "left" else "") + str(NEAR[kind])
+            things.append((kind, node, row_of(y), part.text))
+            sides[node, row_of(y)] = side
             reach = x - 33 - wide if side == "left" else x + 33 + wide
             assert left + EDGE <= reach <= left + width - EDGE, f"too wide: {part.text}"
             assert 0 <= y <= top + height

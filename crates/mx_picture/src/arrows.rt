@@ -36,8 +36,7 @@ impl Arrow {
             End::Whole { down, .. } => down,
             _ => 0,
         };
-        let from = columns.x_of(self.route.from);
-        Segment::new(from, columns.x_of(self.route.to), self.y, down)
+        Segment::new(self.route, columns, self.y, down)
     }
 
     pub(crate) fn add_to(&self, columns: &Columns, text: &mut String) -> Result<(), AllocError> {

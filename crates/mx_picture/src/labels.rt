@@ -1,6 +1,8 @@
-//! Texts beside nodes, each on a side where no arrow runs through it, if there is such a side.
+//! Texts beside nodes, each on a side where no arrow runs through it, if there is such a side, or
+//! else none of other nodes.
 
 use crate::columns::Columns;
+use crate::crossing::Crossing;
 use crate::open_arrows::OpenArrows;
 use crate::segment::{Rect, SHIFT, Segment};
 use crate::side::Side;
@@ -49,13 +51,17 @@ impl Label {
         self.y.saturating_add(HALF_HIGH)
     }
 
-    fn is_crossed(&self, x: u64, arrows: &OpenArrows, side: Side) -> bool {
-        arrows.is_any_across(&self.rect(x, side))
+    fn crossing(&self, x: u64, arrows: &OpenArrows, side: Side) -> Crossing {
+        arrows.crossing(self.node, &self.rect(x, side))
     }
 
-    fn free_side(&self, x: u64, arrows: &OpenArrows) -> Side {
+    fn better_side(&self, x: u64, arrows: &OpenArrows) -> Side {
+        let here = self.crossing(x, arrows, self.side);
+        if let Crossing::Clear = here {
+            return self.side;
+        }
         let other = self.side.other();
-        if self.is_crossed(x, arrows, self.side) && !self.is_crossed(x, arrows, other) {
+        if here.is_worse_than(self.crossing(x, arrows, other)) {
             other
         } else {
             self.side
@@ -95,7 +101,7 @@ fn sides_of(
     for label in labels.iter().rev() {
         // the last arrow before the text may end in its row
         arrows.rise(label.arrows.saturating_sub(1), label.bottom())?;
-        sides.push(label.free_side(columns.x_of(label.node), &arrows))?;
+        sides.push(label.better_side(columns.x_of(label.node), &arrows))?;
     }
     Ok(sides)
 }

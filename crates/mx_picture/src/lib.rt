@@ -4,6 +4,7 @@
 mod arrows;
 mod columns;
 mod command;
+mod crossing;
 mod drawing;
 mod labels;
 mod legend;

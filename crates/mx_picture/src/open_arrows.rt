@@ -1,8 +1,13 @@
 //! The arrows beside a text. Texts are visited from the bottom of the picture up, so that only the
 //! arrows that are open in a row have to be kept.
 
+use crate::crossing::Crossing;
 use crate::segment::{Rect, Segment};
+use mx_stamps::NodeId;
 use std::alloc::{AllocError, Global};
+
+/// The greatest number of arrows that are looked at for one place of a text: those that end first.
+const MAX_OPEN: usize = 1000;
 
 /// The arrows that end above a height, and those that are open there: they end below it, and begin
 /// above it.
@@ -45,7 +50,17 @@ impl OpenArrows {
         }
     }
 
-    pub(crate) fn is_any_across(&self, rect: &Rect) -> bool {
-        self.open.iter().any(|segment| segment.crosses(rect))
+    /// Returns which arrows run through this place of a text of the node.
+    pub(crate) fn crossing(&self, node: NodeId, rect: &Rect) -> Crossing {
+        let mut crossing = Crossing::Clear;
+        for segment in self.open.iter().rev().take(MAX_OPEN) {
+            if segment.crosses(rect) {
+                if !segment.is_of(node) {
+                    return Crossing::Foreign;
+                }
+                crossing = Crossing::Own;
+            }
+        }
+        crossing
     }
 }

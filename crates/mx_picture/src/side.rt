@@ -13,7 +13,8 @@ impl Side {
         match self {
             Side::Left => Side::Right,
             Side::Right => Side::Left,
-            Side::LeftInAir | Side::RightInAir => self,
+            Side::LeftInAir => Side::RightInAir,
+            Side::RightInAir => Side::LeftInAir,
         }
     }
 
