@@ -225,7 +225,7 @@ pub(crate) const PICTURE_NODE: Argument = Argument {
     name: "node",
     kind: ArgumentKind::Text,
     is_required: false,
-    help: "Draws the events of this node, those that send it a parcel, and those that deliver one of its own",
+    help: "Draws this node's events, and those that send it a parcel or deliver one of its own",
 };
 
 /// That a script comes in place of events.

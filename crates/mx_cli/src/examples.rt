@@ -53,7 +53,7 @@ After `all`, N M means those from N to M.
 Where both names are -, the first line of standard input is the plan and the rest is the script.
 docs/FORMATS.md has all formats.";
 
-pub(crate) const PLAY: &str = "Example: node a enters, and then the last two lines never happened.
+pub(crate) const PLAY: &str = "Example: node a enters, and then the last two lines are undone.
 
   plan.json    {\"algorithm\":\"ricart\",\"nodes\":[\"a\",\"b\",\"c\"],\"registers\":[\"count\"],\"sections\":10}
 
@@ -65,12 +65,15 @@ pub(crate) const PLAY: &str = "Example: node a enters, and then the last two lin
   undo 2
   end
 
-A line of standard input is one of a script, as `mx script --help` tells them, and what is printed of it is what
-`mx replay` prints of its events. `show` prints the line of each node, and of each parcel under way; `show N` those
-of node N. `undo` takes back the last line that was done, `undo K` the last K of them, and `redo` the last undo. `events`
-prints the events so far, as a file that `mx replay` reads, `mark WORD` itself, and `help` the words. What is wrong in a line is told on standard error, and
-nothing changes. `end`, `quit`, `exit` or the end of standard input prints the closing lines and the verdict. Where a script is
-named, its lines come first. Where the plan is -, it is the first line of standard input.";
+A line of standard input is one of a script, as `mx script --help` tells them, and what is printed
+of it is what `mx replay` prints of its events. `show` prints the line of each node, and of each
+parcel under way; `show N` those of node N. `undo` takes back the last line that was done,
+`undo K` the last K of them, and `redo` the last undo. `events` prints the events so far, as a
+file that `mx replay` reads, `mark WORD` itself, and `help` the words. What is wrong in a line is
+told on standard error, and nothing changes. `end`, `quit`, `exit` or the end of standard input
+prints the closing lines and the verdict. Where a script is named, its lines come first. Where the
+plan is -, it is the first line of standard input. `rlwrap mx play plan.json` keeps a history of
+the lines typed.";
 
 pub(crate) const PICTURE: &str = "Example: the events of one section, in a cluster of three nodes.
 
@@ -83,10 +86,11 @@ pub(crate) const PICTURE: &str = "Example: the events of one section, in a clust
 Each node has a line, and each event a row with its index at the left and what came of it beside
 its node. A parcel is an arrow from the event that sent it to its delivery, with its number and
 its text at the tip: blue for requests, green for what grants them, purple for all others, and
-dashed where it was delivered before. One that is never delivered ends in the air, in a row of its
-own. A blue bar stands where a node waits, and a yellow box where it is inside, with the number of
-the section. `mx replay --help` tells what events are, and its faults are those of `picture`;
-docs/FORMATS.md has all formats.";
+dashed where it was delivered before. Those of an event that are never delivered have one row
+below it: a ring marks those under way at the end, and a cross those that a later parcel from the
+same node to the same overtook. A blue bar stands where a node waits, and a yellow box where it is
+inside, with the number of the section. `mx replay --help` tells what events are, and its faults
+are those of `picture`; docs/FORMATS.md has all formats.";
 
 pub(crate) const COUNT: &str =
     "Example: what the events of one section cost, in a cluster of three nodes.
@@ -124,9 +128,9 @@ prints
   verdict broken at 1: overlap
   line 2: enter b, while a is inside section 1
 
-A trace has an object of JSON on each line, as `mx replay --json` prints them, or is an array of them. Any
-program may write it, whatever its algorithm; of the plan only the names are used. The verdict looks at five
-acts, and passes over all others:
+A trace has an object of JSON on each line, as `mx replay --json` prints them, or is an array of
+them. Any program may write it, whatever its algorithm; of the plan only the names are used. The
+verdict looks at five acts, and passes over all others:
 
   {\"act\":\"enter\",\"node\":NODE,\"outcome\":\"entered\",\"number\":SECTION}
   {\"act\":\"read\",\"node\":NODE,\"register\":REGISTER,\"outcome\":\"value\",\"value\":VALUE}
@@ -134,11 +138,12 @@ acts, and passes over all others:
   {\"act\":\"leave\",\"node\":NODE,\"outcome\":\"left\",\"number\":SECTION}
   {\"act\":\"restart\",\"node\":NODE,\"outcome\":\"woken\"}
 
-It is broken at the first event, counted from 0, at which two nodes are inside together or a node leaves what
-it did not enter (overlap), the n-th section entered does not have the number n (number), or a value was read
-that the writes before it, in order of entry, do not leave (read). The last line says where that event is and
-what was expected. With --json each event is an object of JSON, and so is the verdict. The status is 0 if the
-trace is sound, and 4 if it is broken. docs/FORMATS.md has all formats.";
+It is broken at the first event, counted from 0, at which two nodes are inside together or a node
+leaves what it did not enter (overlap), the n-th section entered does not have the number n
+(number), or a value was read that the writes before it, in order of entry, do not leave (read).
+The last line says where that event is and what was expected. With --json each event is an object
+of JSON, and so is the verdict. The status is 0 if the trace is sound, and 4 if it is broken.
+docs/FORMATS.md has all formats.";
 
 pub(crate) const EXPLAIN: &str = "Example: a key of a plan and a name in an event, both misspelt.
 

@@ -67,19 +67,20 @@ pub(crate) const REPLAY_EXAMPLE: &str =
 
 Events are [\"ask\",NODE], [\"enter\",NODE], [\"read\",NODE,REGISTER], [\"write\",NODE,REGISTER,VALUE],
 [\"leave\",NODE], [\"cancel\",NODE], [\"tick\",NODE], [\"want\",NODE,NODE], [\"settle\",NODE,SECTION],
-[\"restart\",NODE] and [\"deliver\",K], where K counts the parcels sent so far from 0. A node that settles
-keeps what the sections up to that one left in the registers, in place of their records. For each event a
-line tells what came of it, and for each parcel that it sent, from whom to whom it goes and what it says.
-Then a line for each node tells where it stands and what its journal has, and the last line is the verdict.
-A name - is standard input. Where both are -, its first line is the plan and the rest is the events.
-Where something is wrong, `mx explain PLAN EVENTS` says where it stands and what was expected.
-`mx check --help` tells what a plan is; docs/FORMATS.md has all formats.
+[\"restart\",NODE] and [\"deliver\",K], where K counts the parcels sent so far from 0. A node that
+settles keeps what the sections up to that one left in the registers, in place of their records.
+For each event a line tells what came of it, and for each parcel that it sent, from whom to whom
+it goes and what it says. Then a line for each node tells where it stands and what its journal
+has, and the last line is the verdict. A name - is standard input. Where both are -, its first
+line is the plan and the rest is the events. If something is wrong, `mx explain PLAN EVENTS` says
+where it is and what was expected. `mx check --help` tells what a plan is; docs/FORMATS.md has all
+formats.
 
-With --quiet only the lines at the end are printed; with --node NAME only those of this node: its events,
-the parcels that it sends or that are sent to it, and its line at the end; with --json an object of JSON
-in place of each line. With --state a line below that of a node tells what the node knows by its algorithm,
-as `show` of `mx play` does, and both lines of its node follow each event; with --json its object follows,
-which always tells what the node knows. They may stand together:
+With --quiet only the lines at the end are printed; with --node NAME only those of this node: its
+events, the parcels that it sends or that are sent to it, and its line at the end; with --json an
+object of JSON in place of each line. With --state a line below that of a node tells what the node
+knows by its algorithm, as `show` of `mx play` does, and both lines of its node follow each event;
+with --json its object follows, which always tells what the node knows. They may stand together:
 
   mx replay plan.json events.json --node a --json
   mx replay plan.json events.json --quiet --state";

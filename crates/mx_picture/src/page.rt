@@ -130,6 +130,7 @@ fn body_of(plan: &Plan, part: &Part, sheet: &Sheet) -> Result<Body, AllocError> 
         bottom,
     };
     let mut svg = String::new(shapes.alloc);
+    svg.reserve(shapes.room())?;
     add_page(&page, heading.as_str(), texts.svg.as_str(), &mut svg)?;
     Ok(Body { frame, svg })
 }
