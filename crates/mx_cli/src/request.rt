@@ -35,7 +35,7 @@ pub struct ViewOptions<'a> {
     /// The only node that is shown, if one is named.
     pub node: Option<&'a str>,
     pub is_json: bool,
-    /// Whether what each node knows at the end is shown.
+    /// Whether what nodes know is shown, after each event and at the end.
     pub has_state: bool,
 }
 
