@@ -37,8 +37,7 @@ pub trait Sink<R: Running> {
         → ClusterState R.Core R.Core.Msg → Self → Type 0 } = { λ sink p k old new told. Unit {0} };
 
     // the second sink is what the first becomes at the end of a run
-    ghost closed: { Self → Fields → ClusterState R.Core R.Core.Msg → Self → Type 0 }
-        = { λ sink p cluster told. Unit {0} };
+    ghost closed: { Self → Fields → ClusterState R.Core R.Core.Msg → Self → Type 0 } = { λ sink p cluster told. Unit {0} };
 
     /// Appends the text of the newest event of a run. The event has this index, and sent the
     /// parcels from the number `before` on.

@@ -69,7 +69,16 @@ fn carry_out<S: Source, O: Output, E: Output>(
         } => {
             let replay = Replay(*view);
             let names_texts = replay.has_options();
-            run_text(alloc, &replay, names, names_texts, *is_script, source, out, err)
+            run_text(
+                alloc,
+                &replay,
+                names,
+                names_texts,
+                *is_script,
+                source,
+                out,
+                err,
+            )
         }
         Request::Explore {
             exploration,

@@ -30,10 +30,7 @@ pub(crate) fn report_bad_token(report: &mut Report, part: &Part<'_>) -> Result<b
     let (offset, cause) = match first_bad_token(alloc, text)? {
         Some((offset, cause)) if end == part.text.len() || offset < end => (offset, cause),
         None if end == part.text.len() => return Ok(false),
-        _ => (
-            text.len(),
-            Cause::Is("found bytes that are not UTF-8"),
-        ),
+        _ => (text.len(), Cause::Is("found bytes that are not UTF-8")),
     };
     let mut message = String::from_str(alloc, " not JSON: ")?;
     match cause {

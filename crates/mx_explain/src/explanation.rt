@@ -8,9 +8,9 @@ ghost use Rattle.mx_cli.specs.Words.{names_of};
 ghost use Rattle.mx_explain.specs.Explained.{Explains, IsAsked, IsExplanation, names_in};
 
 use crate::cached_source::CachedSource;
+use crate::explained_run::run;
 use crate::files::print_files;
 use crate::notes::Notes;
-use crate::explained_run::run;
 use mx_cli::{Names, Stop, close};
 use mx_io::{Output, Source};
 use std::alloc::Global;
