@@ -24,6 +24,10 @@ where
 {
     ghost texts = { λ view p. view_texts C.core C.Msg.parts p view C.knows };
 
+    ghost heard = { λ view p k old new told. told ≡ view };
+
+    ghost closed = { λ view p cluster told. told ≡ view };
+
     fn event(
         &mut self,
         alloc: Global,
@@ -40,6 +44,9 @@ where
             → OnOk result (string_bytes text.new ≡ string_bytes text.old
             ++ step_text C.core C.Msg.parts plan.now self.old C.knows index old cluster.now) }
         ensures stays { self.new ≡ self.old }
+        ensures heard { (old : ClusterState C C.Msg) (entry : Entry)
+            → cluster.now.trace ≡ old.trace ++ entry ∷ [] → before ≡ length old.sent
+            → OnOk result (self.new ≡ self.old) }
     {
         if self.is_quiet {
             return Ok(());
@@ -58,6 +65,7 @@ where
         ensures text { OnOk result (string_bytes text.new ≡ string_bytes text.old
             ++ shown_closing plan.now self.old C.core C.knows cluster.now) }
         ensures zero { IfOk result (λ status. status ≡ 0) }
+        ensures closed { OnOk result (self.new ≡ self.old) }
     {
         let verdict = self.add_closing(alloc, plan, cluster, text)?;
         Ok(verdict_status(verdict))
