@@ -19,8 +19,8 @@ _mx() {
             draw) words="--seed --steps --walk --loss --repeat --in-order --help" ;;
             script) words="--help" ;;
             play) words="--help" ;;
-            picture) words="--from --to --node --letters --help" ;;
-            count) words="--json --help" ;;
+            picture) words="--from --to --node --letters --script --help" ;;
+            count) words="--json --script --help" ;;
             judge) words="--json --help" ;;
             explain) words="--script --help" ;;
             help) words="check replay explore live draw script play picture count judge explain" ;;

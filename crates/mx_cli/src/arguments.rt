@@ -146,21 +146,21 @@ pub(crate) const WALK: Argument = Argument {
     name: "walk",
     kind: ArgumentKind::Flag,
     is_required: false,
-    help: "Draws by the state of the cluster, so that parcels arrive, and nodes enter and leave",
+    help: "Draws by the state of the cluster: parcels arrive, nodes enter and leave",
 };
 
 pub(crate) const LOSS: Argument = Argument {
     name: "loss",
     kind: ArgumentKind::Number(MAX_SHARE),
     is_required: false,
-    help: "With --walk: of 256 parcels, how many are lost, 0 to 256; 4 if not given",
+    help: "With --walk: losses in 256 parcels, 0 to 256; 4 if not given",
 };
 
 pub(crate) const REPEAT: Argument = Argument {
     name: "repeat",
     kind: ArgumentKind::Number(MAX_SHARE),
     is_required: false,
-    help: "With --walk: of 256 steps, how many repeat a parcel, 0 to 256; 8 if not given",
+    help: "With --walk: repeats in 256 steps, 0 to 256; 8 if not given",
 };
 
 pub(crate) const IN_ORDER: Argument = Argument {
@@ -196,14 +196,14 @@ pub(crate) const SETTLE: Argument = Argument {
     name: "settle",
     kind: ArgumentKind::Number(MAX_SECTIONS),
     is_required: false,
-    help: "After how many of its sections a node settles its journal, 0 to 1000000; 0: never",
+    help: "After how many of its sections a node settles, 0 to 1000000; 0: never",
 };
 
 pub(crate) const PROGRESS: Argument = Argument {
     name: "progress",
     kind: ArgumentKind::Flag,
     is_required: false,
-    help: "Prints on standard error, about once a second, how many sections are done",
+    help: "Prints on standard error, each second, how many sections are done",
 };
 
 pub(crate) const FROM: Argument = Argument {
@@ -225,7 +225,7 @@ pub(crate) const PICTURE_NODE: Argument = Argument {
     name: "node",
     kind: ArgumentKind::Text,
     is_required: false,
-    help: "Draws this node's events, and those that send it a parcel or deliver one of its own",
+    help: "Draws this node's events, and those that send it a parcel or deliver its own",
 };
 
 /// That a script comes in place of events.

@@ -60,7 +60,7 @@ static CHECK: CommandRow = CommandRow {
 
 static REPLAY: CommandRow = CommandRow {
     name: "replay",
-    about: "Runs the events of a file; prints each outcome, each parcel sent, and the nodes at the end",
+    about: "Runs the events of a file; prints outcomes, parcels sent, and the nodes at the end",
     arguments: &[PLAN, EVENTS, QUIET, NODE, JSON, STATE, IS_SCRIPT],
     example: help::REPLAY_EXAMPLE,
     is_explained: true,
