@@ -6,7 +6,7 @@ use Rattle.mx_io.specs.Outputs.{Held}
 
 -- the line of progress, with the number of sections completed so far
 abbrev pub progress_line : ℕ → Text
-progress_line count = codes "mx: " ++ decimal count ++ codes " sections done" ++ line_feed
+progress_line count = codes "mx: " ++ decimal count ++ codes " sections stand" ++ line_feed
 
 abbrev pub progress_lines : List ℕ → Text
 progress_lines counts = concat (map progress_line counts)

@@ -24,7 +24,7 @@ impl fmt::Display for ProgressLine {
     ghost output = { λ l. Some (progress_line l.0) };
 
     fn fmt<W: fmt::Write>(&self, f: &mut fmt::Formatter<W>) -> fmt::Result {
-        writeln!(f, "mx: {} sections done", self.0)
+        writeln!(f, "mx: {} sections stand", self.0)
     }
 }
 
