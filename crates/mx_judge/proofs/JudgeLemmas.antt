@@ -1,5 +1,5 @@
 -- What `judge` prints, from what it reads.
-use Rattle.std.proofs.Common.{◌≡◌, ◌⊎◌, ◌≤◌, ℕ, Bool, List, [], length, slice_get, take, Option, Some, Result, Ok, Err, ap, inl, inr, refl, subst, sym, ◌∙◌}
+use Rattle.std.proofs.Common.{◌≡◌, ◌⊎◌, ◌≤◌, ◌++◌, ℕ, Bool, List, [], OnOk, append_assoc, length, slice_get, take, Option, Some, Result, Ok, Err, ap, inl, inr, refl, subst, sym, ◌∙◌}
 use Rattle.std.specs.Option.{option_map_or}
 use Rattle.std.proofs.lemmas.Option.{slice_get_past}
 use Rattle.mx_plan.specs.Text.{Text}
@@ -17,6 +17,11 @@ use Rattle.mx_judge.specs.Reasons.{reason_at, reason_of}
 use Rattle.mx_judge.specs.Traces.{trace_at}
 use Rattle.mx_judge.specs.declared.faults.TraceFault.{TraceFault}
 use Rattle.mx_judge.specs.declared.faults.TraceFault.TheVariants as fault
+
+-- one text after another
+pub both_written : {T E : Type 0} (t t1 t2 a b : Text) (r : Result T E) → t1 ≡ t ++ a → OnOk r (t2 ≡ t1 ++ b) → OnOk r (t2 ≡ t ++ (a ++ b))
+both_written t t1 t2 a b (Ok u) first second = second ∙ ap (λ (x : Text). x ++ b) first ∙ append_assoc t a b
+both_written t t1 t2 a b (Err e) first second = tt
 
 -- the reason of an entry that is there, and of one past the end
 pub reason_here : (p : Fields) (trace before : List Entry) (k : ℕ) (e : Entry) (broken : Clause) → slice_get trace k ≡ Some e → before ≡ take k trace

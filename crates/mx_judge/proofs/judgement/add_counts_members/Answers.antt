@@ -1,7 +1,7 @@
 use Rattle.std.proofs.Common.{◌≡◌, ◌++◌, ℕ, OnOk, codes, length, string_bytes, subst}
 use Rattle.mx_format.specs.Members.{number_member}
-use Rattle.mx_commands.proofs.ShownLemmas.{both_written}
 use Rattle.mx_judge.specs.Reasons.{entered_in}
+use Rattle.mx_judge.proofs.JudgeLemmas.{both_written}
 use Rattle.mx_judge.proofs.judgement.add_counts_members.Goals as goal
 
 pub returns : goal.returns

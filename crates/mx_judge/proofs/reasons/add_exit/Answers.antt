@@ -1,8 +1,8 @@
 use Rattle.std.proofs.Common.{◌≡◌, ◌++◌, append_assoc, codes, decimal, string_bytes, subst}
 use Rattle.mx_plan.specs.Text.{Text}
 use Rattle.mx_format.specs.EventTexts.{name_of}
-use Rattle.mx_commands.proofs.ShownLemmas.{both_written}
 use Rattle.mx_judge.specs.Reasons.{inside_text}
+use Rattle.mx_judge.proofs.JudgeLemmas.{both_written}
 use Rattle.mx_judge.proofs.reasons.add_exit.Goals as goal
 
 pub returns : goal.returns
