@@ -13,15 +13,15 @@ _mx() {
     else
         case ${COMP_WORDS[at]} in
             check) words="--asks --json --help" ;;
-            replay) words="--quiet --node --json --state --help" ;;
+            replay) words="--quiet --node --json --state --script --help" ;;
             explore) words="--seed --steps --count --json --walk --loss --repeat --in-order --help" ;;
             live) words="--sections --seed --turns --settle --progress --help" ;;
             draw) words="--seed --steps --walk --loss --repeat --in-order --help" ;;
             script) words="--help" ;;
             play) words="--help" ;;
-            picture) words="--from --to --node --letters --help" ;;
-            count) words="--json --help" ;;
-            judge) words="--help" ;;
+            picture) words="--from --to --node --letters --script --help" ;;
+            count) words="--json --script --help" ;;
+            judge) words="--json --help" ;;
             explain) words="--script --help" ;;
             help) words="check replay explore live draw script play picture count judge explain" ;;
         esac

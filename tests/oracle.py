@@ -686,6 +686,10 @@ class Journal:
             number += 1
         return number
 
+    def lacks_before(self, section):
+        """Whether some section before this one is neither settled nor there."""
+        return any(number not in self.writes for number in range(self.base.upto + 1, section))
+
     def gaps(self, limit):
         """The ranges of sections up to this limit that are neither settled nor there."""
         gaps = []
@@ -868,7 +872,7 @@ class Replay:
         return member, ACTS[kind](member, *words)
 
     def happen(self, index, event):
-        """Lets an event happen, prints it and posts the letters that it put out."""
+        """Lets an event happen, prints it and posts the letters that it put out; gives the node that acted."""
         if event[0] == "deliver":
             member, outcome = self.deliver(event[1])
         else:
@@ -880,6 +884,7 @@ class Replay:
         self.put(f"{index} {' '.join(map(str, event))}: {outcome}")
         for addressee, letter in letters:
             self.post(member.core.me, addressee, letter)
+        return member
 
     def post(self, sender, addressee, letter):
         """Prints a parcel and keeps it to be delivered."""
@@ -887,22 +892,28 @@ class Replay:
         self.put(f"  #{len(self.parcels)} {way} {text(letter, self.names)}")
         self.parcels.append((sender, addressee, letter))
 
+    def state(self, member):
+        """The line that says how a node stands, and that of what it knows."""
+        return [member.closing(self.names[member.core.me], self.registers), member.knowledge(self.names)]
+
     def close(self, with_state=False):
         """Prints how the nodes stand, perhaps with what each knows, and the verdict."""
-        for name, member in zip(self.names, self.members):
-            self.put(member.closing(name, self.registers))
-            if with_state:
-                self.put(member.knowledge(self.names))
+        for member in self.members:
+            for line in self.state(member)[: 2 if with_state else 1]:
+                self.put(line)
         self.put("verdict sound")
 
 
 def replay(plan, events, put, with_state=False):
-    """Lets all events happen and puts each line that is printed; gives the fault, where there is one."""
+    """Lets all events happen and puts each line that is printed, perhaps with the state of its node after each event;
+    gives the fault, where there is one."""
     cluster = Replay(plan, put)
     for index, event in enumerate(events):
         if event[0] == "deliver" and event[1] >= len(cluster.parcels):
             return f"mx: no parcel: event {index}"
-        cluster.happen(index, event)
+        member = cluster.happen(index, event)
+        for line in cluster.state(member) if with_state else ():
+            put(line)
     cluster.close(with_state)
     return None
 
@@ -1086,7 +1097,7 @@ class Walk:
             return self.idles(name, member, self.words.next() % 16)
         if member.core.phase == WAITING:
             return self.waits(name, member.core, self.words.next() % 64)
-        return self.is_inside(name, self.words.next() % 16)
+        return self.is_inside(node, self.words.next() % 16)
 
     def idles(self, name, member, chance):
         if chance < 2:
@@ -1106,13 +1117,14 @@ class Walk:
             return ["tick", name]
         return None
 
-    def is_inside(self, name, chance):
+    def is_inside(self, node, chance):
+        name, member = self.cluster.names[node], self.cluster.members[node]
+        if member.journal.lacks_before(member.core.mine):
+            return ["want", name, self.one_of(self.cluster.names[node + 1 :] + self.cluster.names[:node])]
         if chance < 5:
             return ["read", name, self.one_of(self.cluster.registers)]
-        if chance < 9:
+        if chance < 10:
             return ["write", name, self.one_of(self.cluster.registers), self.words.next() % 1000]
-        if chance == 9:
-            return ["want", name, self.one_of(self.cluster.names)]
         return ["leave", name]
 
     def one_of(self, names):

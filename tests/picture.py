@@ -13,9 +13,11 @@ import xml.etree.ElementTree as xml
 from collections import Counter
 
 ROW = 13  # how far apart rows are
+CUT = 6  # how much shorter a bar is where the event at its end is left out
 COLUMNS = 60, 180  # how far apart the lines of nodes are, at least and at most
 SPAN = 2000  # how far apart the first and the last line are, at most
 GAP = 8  # the room between a text and the next line
+NEAR = {"text": 17, "air": 33}  # how far a text is from its node
 NAMED_ROWS = 50  # after how many rows the names of the nodes come again
 LONG_ROWS, LONG_NODES = 26, 6  # from how many rows, or nodes, on an arrow is long, so that its text names the sender
 EDGE = 60  # the room at each edge for the indices of the events
@@ -41,6 +43,11 @@ class Run:
                 ends = names.index(parcel[1]), names.index(parcel[2])
                 self.parcels.append((len(self.events) - 1, *ends, parcel[3]))
         self.arriving = {int(args[0]) for word, args, _, _ in self.events if word == "deliver"}
+
+    def is_overtaken(self, number):
+        """Whether a parcel sent later from the same node to the same is delivered."""
+        link = self.parcels[number][1:3]
+        return any(later > number and self.parcels[later][1:3] == link for later in self.arriving)
 
     def is_original(self, number):
         """Whether a parcel is a letter that no tick sent again."""
@@ -115,7 +122,7 @@ class Drawing:
                 self.row += 1
                 skipped = False
             if self.row - named >= NAMED_ROWS:
-                inside = [at for at, (_, what) in self.since.items() if what.startswith("inside")]
+                inside = [at for at, (_, what, _) in self.since.items() if what.startswith("inside")]
                 self.things += [("named", at, self.row, name) for at, name in enumerate(run.names) if at not in inside]
                 named, self.row = self.row, self.row + 1
             self.draw(index)
@@ -129,22 +136,22 @@ class Drawing:
     def add(self, *thing):
         self.things.append(thing)
 
-    def end(self, node):
-        """The phase of a node ends."""
-        begun, what = self.since.pop(node, (self.row, "nothing"))
+    def end(self, node, is_cut=False):
+        """The phase of a node ends; it is cut where the event at an end is not drawn."""
+        begun, what, was_cut = self.since.pop(node, (self.row, "nothing", False))
         if begun != self.row:
-            self.add(what, node, begun, self.row)
+            self.add(what, node, (begun, was_cut), (self.row, is_cut))
 
-    def change(self, node, outcome):
+    def change(self, node, outcome, is_cut=False):
         """The phase of a node after an outcome."""
         if outcome.startswith("asked"):
-            self.since[node] = self.row, "waits"
+            self.since[node] = self.row, "waits", is_cut
         elif outcome.startswith("entered"):
-            self.end(node)
+            self.end(node, is_cut)
             self.entered += 1
-            self.since[node] = self.row, "inside " + outcome.split()[1]
+            self.since[node] = self.row, "inside " + outcome.split()[1], is_cut
         elif outcome.startswith("left") or outcome == "cancelled":
-            self.end(node)
+            self.end(node, is_cut)
 
     def leave_out(self, index):
         """What an event does that is not drawn."""
@@ -158,7 +165,7 @@ class Drawing:
                 self.add("title", self.title(number))
             self.delivered.add(number)
         elif self.part.last is None or index <= self.part.last:
-            self.change(self.run.node_of(self.run.events[index]), outcome)
+            self.change(self.run.node_of(self.run.events[index]), outcome, is_cut=True)
 
     def look(self, number):
         again = " again" if number in self.delivered else ""
@@ -188,11 +195,10 @@ class Drawing:
         if outcome.startswith(("entered", "left")):
             self.story.append(f" {index} {told}.")
         self.change(node, outcome)
-        for number, parcel in enumerate(self.run.parcels):
-            if parcel[0] == index and self.part.concerns(parcel):
-                self.shown[number] = row
-                if number not in self.run.arriving:
-                    self.lose(number, row)
+        sent = [number for number, parcel in enumerate(self.run.parcels) if parcel[0] == index and self.part.concerns(parcel)]
+        self.shown |= dict.fromkeys(sent, row)
+        if undelivered := [number for number in sent if number not in self.run.arriving]:
+            self.keep(undelivered, row)
 
     def deliver(self, number):
         """What is drawn of a delivery in the present row; returns its text."""
@@ -208,14 +214,21 @@ class Drawing:
         is_far = is_cut or abs(start - node) >= LONG_NODES or self.row - self.shown[number] >= LONG_ROWS
         return f"#{number} {text}" + (f" from {self.run.names[start]}" if is_far else "")
 
-    def lose(self, number, sent_in):
-        """A parcel that is never delivered, in a row of its own."""
-        _, start, to, text = self.run.parcels[number]
+    def keep(self, numbers, sent_in):
+        """The parcels of an event that are never delivered, in a row of their own."""
         self.row += 1
-        side = "right" if start <= to else "left"
-        self.add("lost", start, sent_in, side, self.row)
-        self.add("title", self.title(number))
-        self.add("air", start, self.row, side, f"#{number} {text} to {self.run.names[to]}")
+        marks = {}
+        for number in numbers:
+            _, start, to, _ = self.run.parcels[number]
+            kind = "overtaken" if self.run.is_overtaken(number) else "pending"
+            marks.setdefault((kind, start, sent_in, "right" if start <= to else "left"), []).append(self.title(number))
+        for mark, titles in marks.items():
+            self.add(*mark)
+            self.add("title", "\n".join(titles))
+        _, start, to, text = self.run.parcels[numbers[0]]
+        more = f", and {len(numbers) - 1} more" if len(numbers) > 1 else ""
+        self.best[start, self.row] = "right" if start <= to else "left"
+        self.add("air", start, self.row, f"#{numbers[0]} {text} to {self.run.names[to]}{more}")
 
     def nodes(self):
         """The nodes that have a line."""
@@ -238,10 +251,9 @@ class Drawing:
         right, left = Counter(), Counter()
         for thing in self.things:
             if thing[0] in ("text", "air"):
-                node, row, text = thing[1], thing[2], thing[-1]
-                side, near = (thing[3], 33) if thing[0] == "air" else (self.best[node, row], 17)
-                wants = right if side == "right" else left
-                wants[node] = max(wants[node], near + room_of(text))
+                _, node, row, text = thing
+                wants = right if self.best[node, row] == "right" else left
+                wants[node] = max(wants[node], NEAR[thing[0]] + room_of(text))
         nodes, half = self.nodes(), {node: room_of(name) // 2 for node, name in enumerate(self.run.names)}
         wanted = [GAP + max(right[one], left[two], half[one] + half[two]) for one, two in zip(nodes, nodes[1:])]
         columns = [max(min(width, COLUMNS[1]), COLUMNS[0]) for width in wanted]
@@ -283,20 +295,23 @@ def is_crossed(arrow, places, node, row, side, reach):
 
 
 def badly_placed(things, places, sides, best):
-    """The texts at a side where an arrow runs through them while the other is free, and those at the other in vain."""
+    """The texts at a side where arrows run through them that are worse than those at the other side, and those at the
+    other in vain. An arrow between other nodes is worse than one from or to the node of the text."""
     arrows = [thing for thing in things if thing[0] == "arrow"]
-    for _, node, row, text in (thing for thing in things if thing[0] == "text"):
+    for kind, node, row, text in (thing for thing in things if thing[0] in NEAR):
         own, other = best[node, row], "left" if best[node, row] == "right" else "right"
 
-        def crossed(side, reach):
-            return any(is_crossed(arrow, places, node, row, side, reach) for arrow in arrows)
+        def worst(side, reach):
+            across = [arrow for arrow in arrows if is_crossed(arrow, places, node, row, side, reach)]
+            return max((1 if node in (arrow[2], arrow[4]) else 2 for arrow in across), default=0)
 
         # the program counts in whole points
-        surely, maybe = (18, 16 + width_of(text)), (16, 18 + room_of(text))
+        near = NEAR[kind]
+        surely, maybe = (near + 1, near - 1 + width_of(text)), (near - 1, near + 1 + room_of(text))
         if sides[node, row] == own:
-            is_well = not crossed(own, surely) or crossed(other, maybe)
+            is_well = worst(own, surely) <= worst(other, maybe)
         else:
-            is_well = crossed(own, maybe) and not crossed(other, surely)
+            is_well = worst(own, maybe) > worst(other, surely)
         if not is_well:
             yield node, row, sides[node, row], text
 
@@ -307,6 +322,16 @@ def row_of(y):
     return int(y) // ROW
 
 
+def top_of(y):
+    """The row in which a bar begins, and whether it is cut there."""
+    return (row_of(y), False) if y % ROW == 0 else (row_of(y - CUT), True)
+
+
+def foot_of(y):
+    """The row in which a bar ends, and whether it is cut there."""
+    return (row_of(y), False) if y % ROW == 0 else (row_of(y + CUT), True)
+
+
 def path_of(look, d, node_at):
     """The thing that a path draws."""
 
@@ -315,15 +340,16 @@ def path_of(look, d, node_at):
 
     if box := re.fullmatch(r"M(\d+) (\d+)m-12-6h24v(\d+)h-24z", d):
         x, y, high = map(int, box.groups())
-        return "inside", node(x), row_of(y), row_of(y + high - 12)
+        return "inside", node(x), top_of(y), foot_of(y + high - 12)
     if bar := re.fullmatch(r"M(\d+) (\d+)v(\d+)", d):
         x, y, down = map(int, bar.groups())
-        return "waits", node(x), row_of(y), row_of(y + down)
+        return "waits", node(x), top_of(y), foot_of(y + down)
     if line := re.fullmatch(r"M(\d+)-12V(\d+)", d):
         return "line", node(line[1]), row_of(line[2])
-    if lost := re.fullmatch(r"M(\d+) (\d+)l(-?)26 (\d+)m-3-3l6 6m0-6l-6 6", d):
-        x, y, side, down = lost.groups()
-        return "lost", node(x), row_of(y), "left" if side else "right", row_of(int(y) + int(down))
+    if mark := re.fullmatch(r"M(\d+) (\d+)l(-?)26 13(m-3-3l6 6m0-6l-6 6|m-3 0a3 3 0 1 0 6 0a3 3 0 1 0-6 0)", d):
+        x, y, side, end = mark.groups()
+        assert look == ("overtaken" if end.startswith("m-3-3") else "pending")
+        return look, node(x), row_of(y), "left" if side else "right"
     if tip := re.fullmatch(r"M(\d+) (\d+)m(-?)26-13l(-?)26 13", d):
         x, y, back, aside = tip.groups()
         assert back != aside
@@ -355,7 +381,7 @@ def read_back(picture, names):
     things, sections, boxes, box_titles, sides = [], {}, [], [], {}
     assert [part.tag for part in root[:2]] == [SVG + "title", SVG + "desc"] and root.get("role") == "img"
     things.append(("title", root[0].text))
-    things.append(("story", root[1].text.removeprefix("Time goes down, and each event is told beside its node. ")))
+    things.append(("story", root[1].text.removeprefix("Time runs downward; the text of each event is beside its node. ")))
     groups = root.findall(SVG + "g")
     assert groups[1][0].text == "event"
     places = places_in(root, names)
@@ -376,7 +402,7 @@ def read_back(picture, names):
         elif part.tag == SVG + "path":
             thing = path_of(look, part.get("d"), node_at)
             (boxes if thing[0] == "inside" else things).append(thing)
-            if thing[0] in ("arrow", "tip", "start", "lost"):
+            if thing[0] in ("arrow", "tip", "start", "overtaken", "pending"):
                 things.append(("title", part[0].text))
             if thing[0] == "inside":
                 box_titles.append(part[0].text)
@@ -396,15 +422,13 @@ def read_back(picture, names):
                 things.append(("named", node, row_of(y), part.text) if again else ("name", node, part.text))
                 continue
             if look == "section":
-                sections[node, row_of(y)] = part.text
+                sections[node, top_of(y)] = part.text
                 continue
             side = "left" if "left" in look else "right"
-            assert part.get("dx") == ("-" if side == "left" else "") + ("33" if "air" in look else "17")
-            if "air" in look:
-                things.append(("air", node, row_of(y), side, part.text))
-            else:
-                things.append(("text", node, row_of(y), part.text))
-                sides[node, row_of(y)] = side
+            kind = "air" if "air" in look else "text"
+            assert part.get("dx") == ("-" if side == "left" else "") + str(NEAR[kind])
+            things.append((kind, node, row_of(y), part.text))
+            sides[node, row_of(y)] = side
             reach = x - 33 - wide if side == "left" else x + 33 + wide
             assert left + EDGE <= reach <= left + width - EDGE, f"too wide: {part.text}"
             assert 0 <= y <= top + height

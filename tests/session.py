@@ -16,7 +16,7 @@ class Session:
     def __init__(self, plan):
         self.plan = plan
         self.names = plan["nodes"]
-        # of each line that was done, what happened: events, ["lost", k], ["cut", a, b], ["heal"]
+        # of each line that was done, what happened: events, ["lost", k], ["cut", a, b], ["cut", a], ["heal"]
         self.done = []
         self.undone = []  # what each undo took back, the last one last
         self.begin()
@@ -32,12 +32,17 @@ class Session:
     def happen(self, happening):
         if happening[0] == "lost":
             self.gone.add(happening[1])
+            self.put.append(f"lost {self.parcel_line(happening[1])}")
             return
         if happening[0] == "cut":
-            self.cut.add(frozenset(happening[1:]))
+            node, *others = happening[1:]
+            for other in others or range(len(self.names)):
+                self.cut.add(frozenset((node, other)))
+            self.put.append(" ".join(["cut", *(self.names[end] for end in happening[1:])]))
             return
         if happening[0] == "heal":
             self.cut.clear()
+            self.put.append("heal")
             return
         if happening[0] == "deliver":
             number = happening[1]
@@ -72,18 +77,13 @@ class Session:
             raise Fault("no such parcel under way")
         return found[0]
 
-    def links_of(self, names):
-        """The link between two nodes, or all links of one."""
-        one, *other = (self.names.index(name) for name in names)
-        return [(one, node) for node in other or range(len(self.names))]
-
     def happenings(self, words):
         """What the words of a line ask for, once; each is found when those before have happened."""
         word, *others = words
         if word in ("deliver", "lose") and others[0] == "all" and len(others) in (1, 3):
             yield from self.happenings_of_all(word, others[1:])
         elif word == "cut":
-            yield from (["cut", *link] for link in self.links_of(others))
+            yield ["cut", *(self.names.index(name) for name in others)]
         elif word == "heal":
             yield ["heal"]
         elif word == "deliver" and len(words) == 2:
@@ -128,18 +128,23 @@ class Session:
     def undo(self, count):
         if count > len(self.done):
             raise Fault(f"only {len(self.done)} to take back")
-        left = len(self.done) - count
+        left, events = len(self.done) - count, len(self.events)
         self.undone.append(self.done[left:])
         del self.done[left:]
         self.begin_again()
-        return []
+        return [f"undone: lines {count}, events {events - len(self.events)}"]
 
     def redo(self):
         if not self.undone:
             raise Fault("no undo to take back")
-        self.done += self.undone.pop()
+        lines, events = self.undone.pop(), len(self.events)
+        self.done += lines
         self.begin_again()
-        return []
+        return [f"redone: lines {len(lines)}, events {len(self.events) - events}"]
+
+    def parcel_line(self, number):
+        sender, addressee, letter = self.cluster.parcels[number]
+        return f"#{number} {self.names[sender]}>{self.names[addressee]} {oracle.text(letter, self.names)}"
 
     def standing(self, name):
         return self.cluster.members[self.names.index(name)].closing(name, self.plan["registers"])
@@ -154,10 +159,8 @@ class Session:
             if not named or named[0] in ends:
                 lines.append(f"cut {ends[0]} {ends[1]}")
         for number in self.under_way():
-            sender, addressee, letter = self.cluster.parcels[number]
-            if not named or self.names[addressee] in named:
-                way = f"{self.names[sender]}>{self.names[addressee]}"
-                lines.append(f"  #{number} {way} {oracle.text(letter, self.names)}")
+            if not named or self.names[self.cluster.parcels[number][1]] in named:
+                lines.append(f"  {self.parcel_line(number)}")
         return lines
 
     def listed(self):

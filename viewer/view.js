@@ -26,11 +26,12 @@ function fill(id, ...children) {
 }
 
 function drawNow() {
-  const { at, note } = view, { event, sent } = run.steps[at] ?? {}, { index, clause } = run.verdict;
+  const { at, note } = view, { event, sent } = run.steps[at] ?? {}, { index, clause, reason } = run.verdict;
   if (!event) return fill("now", html("b", {}, "Start"), ` before the first of ${last + 1} events. ${note}`);
   const sends = sent.length > 2 ? [`sends ${sent.length} parcels`] : sent.map(it => `sends ${fullText(it)}`);
   const more = parcelAt(at) ? [fullText(parcelAt(at)), ...sends] : sends;
-  const breaks = at === +index ? `This breaks the run: ${clause}, ${broken.join(" and ")}. ` : "";
+  const why = reason ? `: ${reason}` : "";
+  const breaks = at === +index ? `This breaks the run: ${clause}, ${broken.join(" and ")}${why}. ` : "";
   return fill("now", html("b", { class: event.outcome }, textAt(at)), ` ${more.join("; ")} ${breaks}${note}`);
 }
 

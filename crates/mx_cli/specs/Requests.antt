@@ -30,7 +30,7 @@ pub record Part : Type 0 where
   pub node : Option Text
   pub only_letters : Bool
 
--- the name of the plan, how many sections each node is to have, the seed, how many turns each may
+-- the name of the plan, how many sections each node enters, the seed, how many turns each may
 -- take, after how many of its sections it settles its journal (0 for never), and whether progress
 -- is to be reported
 pub record LiveRequest : Type 0 where
@@ -45,16 +45,16 @@ pub record LiveRequest : Type 0 where
 -- Flags stand in the order of their commands' help
 pub data Request : Type 0 where
   check : Text → Bool → Bool → Request
-  replay : Text × Text → View → Request
+  replay : Text × Text → View → Bool → Request
   explore : Text × (ℕ × ℕ) → Bool → Bool → Request
   explore_walk : Text × (ℕ × ℕ) → Conditions → Request
   live : LiveRequest → Request
   draw : Text × (ℕ × ℕ) → Option Conditions → Request
   script : Text × Text → Request
   play : Text → Option Text → Request
-  picture : Text × Text → Part → Request
-  count : Text × Text → Bool → Request
-  judge : Text × Text → Request
+  picture : Text × Text → Part → Bool → Request
+  count : Text × Text → Bool → Bool → Request
+  judge : Text × Text → Bool → Request
   explain : Text → Option Text → Bool → Request
   misfit : Misfit → Request
 
@@ -87,16 +87,16 @@ live_request_of run =
 
 abbrev pub request_of : Given → Request
 request_of (given.Check plan has_asks is_json) = check plan.now has_asks is_json
-request_of (given.Replay names view) = replay (names_of names) (view_of view)
+request_of (given.Replay names view is_script) = replay (names_of names) (view_of view) is_script
 request_of (given.Explore e has_counts is_json) = explore (explored e) has_counts is_json
 request_of (given.ExploreWalk e conditions) = explore_walk (explored e) conditions
 request_of (given.Live run) = live (live_request_of run)
 request_of (given.Draw e conditions) = draw (explored e) conditions
 request_of (given.Script names) = script (names_of names)
 request_of (given.Play plan first) = play plan.now (text_of first)
-request_of (given.Picture names options) = picture (names_of names) (part_of options)
-request_of (given.Count names is_json) = count (names_of names) is_json
-request_of (given.Judge names) = judge (names_of names)
+request_of (given.Picture names part is_script) = picture (names_of names) (part_of part) is_script
+request_of (given.Count names is_json is_script) = count (names_of names) is_json is_script
+request_of (given.Judge names is_json) = judge (names_of names) is_json
 request_of (given.Explain plan second is_script) = explain plan.now (text_of second) is_script
 request_of (given.Misfit reason) = misfit reason
 
@@ -129,7 +129,9 @@ view_in rows =
     }
 
 abbrev pub replay_in : List Row → Option Request
-replay_in rows = option_map (λ names. replay names (view_in rows)) (names_in (codes "EVENTS") rows)
+replay_in rows =
+    option_map (λ names. replay names (view_in rows) (is_given (codes "script") rows))
+    (names_in (codes "EVENTS") rows)
 
 -- an option of a walk was given
 abbrev pub has_conditions : List Row → Bool
@@ -209,13 +211,21 @@ part_in rows =
 
 abbrev pub picture_in : List Row → Option Request
 picture_in rows =
-    option_map (λ names. picture names (part_in rows)) (names_in (codes "EVENTS") rows)
+    option_map (λ names. picture names (part_in rows) (is_given (codes "script") rows))
+    (names_in (codes "EVENTS") rows)
 
 -- `count`
 abbrev pub count_in : List Row → Option Request
 count_in rows =
-    option_map (λ names. count names (is_given (codes "json") rows))
+    option_map
+    (λ names. count names (is_given (codes "json") rows) (is_given (codes "script") rows))
     (names_in (codes "EVENTS") rows)
+
+-- `judge`
+abbrev pub judge_in : List Row → Option Request
+judge_in rows =
+    option_map (λ names. judge names (is_given (codes "json") rows))
+    (names_in (codes "TRACE") rows)
 
 -- `explain`
 abbrev pub explain_in : List Row → Option Request
@@ -237,7 +247,7 @@ request_in (Some p) =
     else if bytes_eq p.0 (codes "play") then play_in p.1
     else if bytes_eq p.0 (codes "picture") then picture_in p.1
     else if bytes_eq p.0 (codes "count") then count_in p.1
-    else if bytes_eq p.0 (codes "judge") then option_map judge (names_in (codes "TRACE") p.1)
+    else if bytes_eq p.0 (codes "judge") then judge_in p.1
     else if bytes_eq p.0 (codes "explain") then explain_in p.1
     else None
 

@@ -91,12 +91,12 @@ check_app =
     app_with (codes "check")
     (plan_rule ∷ flag_rule (codes "asks") ∷ flag_rule (codes "json") ∷ [])
 
--- `replay PLAN EVENTS`, and perhaps `--quiet`, `--node NAME`, `--json` and `--state`
+-- `replay PLAN EVENTS`, and perhaps `--quiet`, `--node NAME`, `--json`, `--state` and `--script`
 abbrev pub replay_app : App
 replay_app =
     app_with (codes "replay")
     (plan_rule ∷ events_rule ∷ flag_rule (codes "quiet") ∷ text_rule (codes "node")
-    ∷ flag_rule (codes "json") ∷ flag_rule (codes "state") ∷ [])
+    ∷ flag_rule (codes "json") ∷ flag_rule (codes "state") ∷ flag_rule (codes "script") ∷ [])
 
 -- `explore PLAN --seed S --steps K`, and perhaps `--count` and `--json`, or `--walk`, which
 -- `--loss P`, `--repeat P` and `--in-order` need
@@ -128,20 +128,24 @@ script_app = app_with (codes "script") (plan_rule ∷ file_rule (codes "SCRIPT")
 abbrev pub play_app : App
 play_app = app_with (codes "play") (plan_rule ∷ new_rule (codes "SCRIPT") ∷ [])
 
--- `picture PLAN EVENTS`, and perhaps `--from K`, `--to K`, `--node NAME` and `--letters`
+-- `picture PLAN EVENTS`, and perhaps `--from K`, `--to K`, `--node NAME`, `--letters` and `--script`
 abbrev pub picture_app : App
 picture_app =
     app_with (codes "picture")
     (plan_rule ∷ events_rule ∷ wide_rule (codes "from") ∷ wide_rule (codes "to")
-    ∷ text_rule (codes "node") ∷ flag_rule (codes "letters") ∷ [])
+    ∷ text_rule (codes "node") ∷ flag_rule (codes "letters") ∷ flag_rule (codes "script") ∷ [])
 
--- `count PLAN EVENTS`, and perhaps `--json`
+-- `count PLAN EVENTS`, and perhaps `--json` and `--script`
 abbrev pub count_app : App
-count_app = app_with (codes "count") (plan_rule ∷ events_rule ∷ flag_rule (codes "json") ∷ [])
+count_app =
+    app_with (codes "count")
+    (plan_rule ∷ events_rule ∷ flag_rule (codes "json") ∷ flag_rule (codes "script") ∷ [])
 
--- `judge PLAN TRACE`
+-- `judge PLAN TRACE`, and perhaps `--json`
 abbrev pub judge_app : App
-judge_app = app_with (codes "judge") (plan_rule ∷ file_rule (codes "TRACE") ∷ [])
+judge_app =
+    app_with (codes "judge")
+    (plan_rule ∷ file_rule (codes "TRACE") ∷ flag_rule (codes "json") ∷ [])
 
 -- `explain PLAN`, and perhaps `EVENTS` and `--script`
 abbrev pub explain_app : App

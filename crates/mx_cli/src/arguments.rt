@@ -117,7 +117,7 @@ pub(crate) const STATE: Argument = Argument {
     name: "state",
     kind: ArgumentKind::Flag,
     is_required: false,
-    help: "Prints what each node knows at the end",
+    help: "Prints what nodes know, after each event and at the end",
 };
 
 pub(crate) const SEED: Argument = Argument {
@@ -146,35 +146,35 @@ pub(crate) const WALK: Argument = Argument {
     name: "walk",
     kind: ArgumentKind::Flag,
     is_required: false,
-    help: "Draws with purpose: parcels arrive, and nodes enter and leave",
+    help: "Draws by the state of the cluster: parcels arrive, nodes enter and leave",
 };
 
 pub(crate) const LOSS: Argument = Argument {
     name: "loss",
     kind: ArgumentKind::Number(MAX_SHARE),
     is_required: false,
-    help: "Of 256 parcels, how many are lost, 0 to 256; 4 if not given",
+    help: "With --walk: losses in 256 parcels, 0 to 256; 4 if not given",
 };
 
 pub(crate) const REPEAT: Argument = Argument {
     name: "repeat",
     kind: ArgumentKind::Number(MAX_SHARE),
     is_required: false,
-    help: "Of 256 steps, how many deliver a parcel again, 0 to 256; 8 if not given",
+    help: "With --walk: repeats in 256 steps, 0 to 256; 8 if not given",
 };
 
 pub(crate) const IN_ORDER: Argument = Argument {
     name: "in-order",
     kind: ArgumentKind::Flag,
     is_required: false,
-    help: "Delivers the oldest parcel of a link first",
+    help: "With --walk: delivers the oldest parcel of a link first",
 };
 
 pub(crate) const SECTIONS: Argument = Argument {
     name: "sections",
     kind: ArgumentKind::Number(MAX_SECTIONS),
     is_required: true,
-    help: "How many sections each node is to have, 0 to 1000000",
+    help: "How many sections each node enters, 0 to 1000000",
 };
 
 /// `--seed` of `live`, by which the links lose and repeat parcels.
@@ -189,21 +189,21 @@ pub(crate) const TURNS: Argument = Argument {
     name: "turns",
     kind: ArgumentKind::Number(u64::MAX),
     is_required: false,
-    help: "How many turns each node may take, a whole number of 64 bits; 10000000 if not given",
+    help: "How many turns each node may take; 10000000 if not given",
 };
 
 pub(crate) const SETTLE: Argument = Argument {
     name: "settle",
     kind: ArgumentKind::Number(MAX_SECTIONS),
     is_required: false,
-    help: "After how many of its sections each node settles its journal, 0 to 1000000; 0 for never",
+    help: "After how many of its sections a node settles, 0 to 1000000; 0: never",
 };
 
 pub(crate) const PROGRESS: Argument = Argument {
     name: "progress",
     kind: ArgumentKind::Flag,
     is_required: false,
-    help: "Tells on standard error, about once a second, how many sections stand so far",
+    help: "Prints on standard error, each second, how many sections are done",
 };
 
 pub(crate) const FROM: Argument = Argument {
@@ -225,10 +225,10 @@ pub(crate) const PICTURE_NODE: Argument = Argument {
     name: "node",
     kind: ArgumentKind::Text,
     is_required: false,
-    help: "Draws the events of the node of this name, and those that send it a parcel or deliver one of its own",
+    help: "Draws this node's events, and those that send it a parcel or deliver its own",
 };
 
-/// `--script` of `explain`.
+/// That a script comes in place of events.
 pub(crate) const IS_SCRIPT: Argument = Argument {
     name: "script",
     kind: ArgumentKind::Flag,

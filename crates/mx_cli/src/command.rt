@@ -1,6 +1,5 @@
 //! The interface of a command, and what a command of one text prints.
 
-ghost use Rattle.std.specs.Prelude.{IfSome};
 ghost use Rattle.mx_plan.specs.Text.{Text};
 ghost use Rattle.mx_plan.specs.Fields.{Fields};
 ghost use Rattle.mx_cli.specs.Printing.{IsWhole, Prints, Report, sight};
@@ -9,7 +8,6 @@ use crate::stop::Stop;
 use mx_io::Output;
 use mx_plan::Plan;
 use std::alloc::Global;
-use std::fmt::Display;
 
 /// A command, with its options: what it prints of a plan and of the text that comes with the plan.
 pub trait Command {
@@ -41,21 +39,5 @@ pub fn print<O: Output>(text: &[u8], status: u8, out: &mut O) -> Result<u8, Stop
     match out.put(text) {
         Ok(()) => Ok(status),
         Err(fault) => Err(Stop::from(fault)),
-    }
-}
-
-/// Prints a line, the only one of a command, and returns the status.
-pub fn print_line<O: Output, D: Display + Drop>(
-    alloc: Global,
-    line: D,
-    status: u8,
-    out: &mut O,
-) -> Result<u8, Stop>
-    ensures prints { IfSome (D.output line) (λ text. Prints (IsWhole text status)
-        (sight O.Output out.old) (sight O.Output out.new) result) }
-{
-    match line.to_string(alloc) {
-        Ok(text) => print(text.as_bytes(), status, out),
-        Err(_) => Err(Stop::Memory),
     }
 }

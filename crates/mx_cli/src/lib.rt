@@ -21,7 +21,7 @@ mod request;
 mod stop;
 mod table;
 
-pub use command::{Command, print, print_line};
+pub use command::{Command, print};
 pub use fault_lines::FaultLine;
 pub use faults::{Fault, Named};
 pub use files::Files;

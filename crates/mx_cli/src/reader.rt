@@ -64,7 +64,7 @@ fn request_in<'a>(name: &str, matches: &ArgMatches<'a>) -> Option<Request<'a>>
         "play" => play_in(matches),
         "picture" => picture_in(matches),
         "count" => count_in(matches),
-        "judge" => names_in(matches, "TRACE").map(Request::Judge),
+        "judge" => judge_in(matches),
         "explain" => explain_in(matches),
         _ => None,
     }
@@ -91,7 +91,11 @@ fn replay_in<'a>(matches: &ArgMatches<'a>) -> Option<Request<'a>>
         is_json: is_given(matches, "json"),
         has_state: is_given(matches, "state"),
     };
-    Some(Request::Replay(names, view))
+    Some(Request::Replay {
+        names,
+        view,
+        is_script: is_given(matches, "script"),
+    })
 }
 
 fn explore_in<'a>(matches: &ArgMatches<'a>) -> Option<Request<'a>>
@@ -186,13 +190,17 @@ fn picture_in<'a>(matches: &ArgMatches<'a>) -> Option<Request<'a>>
     ensures { option_map spec.request_of result ≡ spec.picture_in (rows_of (found_of matches.now)) }
 {
     let names = names_in(matches, "EVENTS")?;
-    let options = PictureOptions {
+    let part = PictureOptions {
         from: number_or(matches, "from", 0),
         to: number_or(matches, "to", u64::MAX),
         node: text_at(matches, "node"),
         only_letters: is_given(matches, "letters"),
     };
-    Some(Request::Picture(names, options))
+    Some(Request::Picture {
+        names,
+        part,
+        is_script: is_given(matches, "script"),
+    })
 }
 
 fn count_in<'a>(matches: &ArgMatches<'a>) -> Option<Request<'a>>
@@ -200,6 +208,17 @@ fn count_in<'a>(matches: &ArgMatches<'a>) -> Option<Request<'a>>
 {
     let names = names_in(matches, "EVENTS")?;
     Some(Request::Count {
+        names,
+        is_json: is_given(matches, "json"),
+        is_script: is_given(matches, "script"),
+    })
+}
+
+fn judge_in<'a>(matches: &ArgMatches<'a>) -> Option<Request<'a>>
+    ensures { option_map spec.request_of result ≡ spec.judge_in (rows_of (found_of matches.now)) }
+{
+    let names = names_in(matches, "TRACE")?;
+    Some(Request::Judge {
         names,
         is_json: is_given(matches, "json"),
     })

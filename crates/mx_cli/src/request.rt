@@ -35,7 +35,7 @@ pub struct ViewOptions<'a> {
     /// The only node that is shown, if one is named.
     pub node: Option<&'a str>,
     pub is_json: bool,
-    /// Whether what each node knows at the end is shown.
+    /// Whether what nodes know is shown, after each event and at the end.
     pub has_state: bool,
 }
 
@@ -49,7 +49,7 @@ pub struct PictureOptions<'a> {
     pub only_letters: bool,
 }
 
-/// What `live` is to run: the name of a plan, how many sections each node is to have, the seed of
+/// What `live` is to run: the name of a plan, how many sections each node enters, the seed of
 /// the first node's links, how many turns each node may take, after how many of its sections each
 /// node settles its journal (0 for never), and whether progress is reported on standard error.
 #[derive(Clone, Copy)]
@@ -103,7 +103,12 @@ pub enum Request<'a> {
         has_asks: bool,
         is_json: bool,
     },
-    Replay(Names<'a>, ViewOptions<'a>),
+    Replay {
+        names: Names<'a>,
+        view: ViewOptions<'a>,
+        /// Whether a script comes in place of events.
+        is_script: bool,
+    },
     Explore {
         exploration: Exploration<'a>,
         has_counts: bool,
@@ -120,13 +125,21 @@ pub enum Request<'a> {
         plan: &'a str,
         script: Option<&'a str>,
     },
-    Picture(Names<'a>, PictureOptions<'a>),
+    Picture {
+        names: Names<'a>,
+        part: PictureOptions<'a>,
+        is_script: bool,
+    },
     Count {
         names: Names<'a>,
         is_json: bool,
+        is_script: bool,
     },
-    /// The second name is that of the trace.
-    Judge(Names<'a>),
+    Judge {
+        /// The second name is that of the trace.
+        names: Names<'a>,
+        is_json: bool,
+    },
     Explain {
         plan: &'a str,
         /// The name of the events, or of the script.

@@ -60,8 +60,8 @@ static CHECK: CommandRow = CommandRow {
 
 static REPLAY: CommandRow = CommandRow {
     name: "replay",
-    about: "Runs the events of a file and prints each outcome, each parcel sent, and the nodes at the end",
-    arguments: &[PLAN, EVENTS, QUIET, NODE, JSON, STATE],
+    about: "Runs the events of a file; prints outcomes, parcels sent, and the nodes at the end",
+    arguments: &[PLAN, EVENTS, QUIET, NODE, JSON, STATE, IS_SCRIPT],
     example: help::REPLAY_EXAMPLE,
     is_explained: true,
 };
@@ -97,7 +97,7 @@ static SCRIPTED: CommandRow = CommandRow {
     about: "Prints the events of a script as a file for `replay`",
     arguments: &[PLAN, SCRIPT],
     example: examples::SCRIPT,
-    is_explained: false,
+    is_explained: true,
 };
 
 static PLAY: CommandRow = CommandRow {
@@ -110,24 +110,24 @@ static PLAY: CommandRow = CommandRow {
 
 static PICTURE: CommandRow = CommandRow {
     name: "picture",
-    about: "Draws a run as an SVG in which time goes down",
-    arguments: &[PLAN, EVENTS, FROM, TO, PICTURE_NODE, LETTERS],
+    about: "Draws a run as an SVG, in which time runs downward",
+    arguments: &[PLAN, EVENTS, FROM, TO, PICTURE_NODE, LETTERS, IS_SCRIPT],
     example: examples::PICTURE,
-    is_explained: false,
+    is_explained: true,
 };
 
 static COUNT: CommandRow = CommandRow {
     name: "count",
     about: "Counts the letters, refusals and waits of a run",
-    arguments: &[PLAN, EVENTS, JSON],
+    arguments: &[PLAN, EVENTS, JSON, IS_SCRIPT],
     example: examples::COUNT,
-    is_explained: false,
+    is_explained: true,
 };
 
 static JUDGE: CommandRow = CommandRow {
     name: "judge",
     about: "Judges the trace of a run, whichever program wrote it",
-    arguments: &[PLAN, TRACE],
+    arguments: &[PLAN, TRACE, JSON],
     example: examples::JUDGE,
     is_explained: false,
 };

@@ -36,8 +36,8 @@ fn gate_of_a_live_run_holds(rt: HostRuntime) -> Result<(), Fail> {
     for worked in &ended {
         assert_eq!(rt; *worked, Worked::Done);
     }
-    // workers in one thread: this refuses the mutant `workers_run_in_turn`, by a gate that
-    // stays shut
+    // for workers in one thread the gate stays shut, so a run that works its stations in turn does
+    // not pass the test above; each look lets other threads run, so the looks are fewer here
     let shut = StartGate::new(5, 1000);
     for station in stations_of(rt.alloc(), 5)? {
         assert_eq!(rt; work_at(station, &shut), Worked::GateShut);

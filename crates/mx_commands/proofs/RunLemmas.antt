@@ -3,7 +3,7 @@ use Rattle.std.proofs.Common.{◌≡◌, ◌∙◌, ℕ, zero, suc, ◌+◌, ◌
 use Rattle.std.specs.Bool.{⊤}
 use Rattle.std.specs.Io.KnownBytes.{Appends, Keeps}
 use Rattle.std.specs.List.{concat}
-use Rattle.std.proofs.lemmas.List.{at_drop_all, at_drop_more, drop_at, take_at, length-append}
+use Rattle.std.proofs.lemmas.List.{at_drop_all, at_drop_more, drop_all, drop_at, drop_more, take_at, length-append}
 use Rattle.mx_stamps.proofs.Lists.{append_nil, length_set, length_each_below}
 use Rattle.mx_nodelaws.specs.World.{sent_by}
 use Rattle.mx_nodelaws.specs.Core.{Core}
@@ -25,6 +25,7 @@ use Rattle.mx_io.specs.declared.output.OutputFault.{OutputFault}
 use Rattle.mx_io.specs.declared.output.OutputFault.TheVariants as output_fault
 use Rattle.mx_cli.proofs.OutputLemmas.{some_keeps}
 use Rattle.mx_commands.specs.Runs.{AllNameNodes, NamesNodes, StopsAt, Texts, after_texts, at_rest, report_from, stepped}
+use Rattle.mx_commands.specs.Sinks.{IsTold, Tells}
 use Rattle.mx_io.specs.Outputs.{Held, refused_by}
 use Rattle.mx_cli.specs.Printing.{AppendsSome, Course, End, IsReport, Prints, Report, ShowsOne, Sight, comes_to, course_of, ends, has_fault, refused_on, stop_of, whole}
 
@@ -59,18 +60,10 @@ module _ {H S M : Type 0} (core : Core H S M) (g new : ClusterState S M) (e : Ev
 
 -- an event of nodes of the plan
 pub has_nodes : {S M : Type 0} (g : ClusterState S M) (e : Event) → NamesNodes (length g.members) e → NamesNoNode g e → ⊥
-has_nodes g (event.Ask i) lt le = absurd (omega (arith, lt, le))
-has_nodes g (event.Enter i) lt le = absurd (omega (arith, lt, le))
-has_nodes g (event.Read i register) lt le = absurd (omega (arith, lt, le))
-has_nodes g (event.Write i register value) lt le = absurd (omega (arith, lt, le))
-has_nodes g (event.Leave i) lt le = absurd (omega (arith, lt, le))
-has_nodes g (event.Cancel i) lt le = absurd (omega (arith, lt, le))
-has_nodes g (event.Tick i) lt le = absurd (omega (arith, lt, le))
 has_nodes g (event.Want i j) lt (inl le) = let h = lt.0 in absurd (omega (arith, h, le))
 has_nodes g (event.Want i j) lt (inr le) = let h = lt.1 in absurd (omega (arith, h, le))
-has_nodes g (event.Settle i upto) lt le = absurd (omega (arith, lt, le))
-has_nodes g (event.Restart i) lt le = absurd (omega (arith, lt, le))
 has_nodes g (event.Deliver k) lt le = le
+has_nodes g _ lt le = absurd (omega (arith, lt, le))
 
 -- an event that stops a run delivers a parcel that was not sent
 pub stops_without : {G : Type 0} (k : ℕ) (wanted : Result G StepFault) → IsFaultOf wanted step_fault.NoParcel → StopsAt k wanted (stop.Fault (NoParcel k))
@@ -169,3 +162,14 @@ module _ (o m : Sight) (r : Report) (done : List Text) (printed : Appends o.held
 pub members_at_rest : {H S M : Type 0} (core : Core H S M) (p : Fields) (shape : H) (n : ℕ) (g : ClusterState S M) → g ≡ at_rest core p shape → core.count shape ≡ n → length g.members ≡ n
 members_at_rest {H} {S} {M} core p shape n g e count =
     ap (λ (q : ClusterState S M). length q.members) e ∙ length_each_below (λ i. start_of core shape i p.origin p.sections (length p.registers)) (core.count shape) ∙ count
+
+-- ---- what a sink was told
+
+module _ {K H S M : Type 0} (core : Core H S M) (tells : Tells K S M) (es : List Event) (k : ℕ) (g : ClusterState S M) (sink last : K) where
+  -- an event, and then the rest
+  pub told_more : (d : Event) → k < length es → IsTold core tells k g (get_or es k d ∷ drop (k + 1) es) sink last → IsTold core tells k g (drop k es) sink last
+  told_more d lt told = subst (λ (l : List Event). IsTold core tells k g l sink last) (sym (drop_more es k d lt)) told
+
+  -- the end
+  pub told_end : length es ≤ k → tells.closed sink g last → IsTold core tells k g (drop k es) sink last
+  told_end le told = subst (λ (l : List Event). IsTold core tells k g l sink last) (sym (drop_all k es le)) told

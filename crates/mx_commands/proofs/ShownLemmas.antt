@@ -22,14 +22,14 @@ use Rattle.mx_plan.specs.Text.{Text}
 use Rattle.mx_plan.specs.Fields.{Fields}
 use Rattle.mx_plan.specs.declared.shape.Shape.{Shape}
 use Rattle.mx_plan.specs.declared.shape.Shape.TheVariants.{Ricart, Maekawa, Raymond}
-use Rattle.mx_format.specs.Lines.{texts_from}
+use Rattle.mx_format.specs.Lines.{each_text, texts_from}
 use Rattle.mx_format.specs.Parts.{Parts, maekawa_parts, raymond_parts, ricart_parts}
 use Rattle.mx_cli.specs.declared.faults.Fault.{Fault}
 use Rattle.mx_cli.specs.declared.faults.Fault.TheVariants.{NoParcel}
 use Rattle.mx_cli.specs.Printing.{End, Report, has_fault, has_status}
 use Rattle.mx_commands.specs.VerdictLines.{verdict_text}
 use Rattle.mx_commands.specs.Runs.{at_rest, report_from, stepped}
-use Rattle.mx_commands.specs.Shown.{ShowsRunBy, shown_closing, shown_entry, shown_from, shown_parcel, shown_step, shown_text, step_text, view_by, view_from, view_texts}
+use Rattle.mx_commands.specs.Shown.{ShowsRunBy, new_lines, shown_closing, shown_entry, shown_from, shown_owner, shown_parcel, shown_step, shown_text, step_text, view_by, view_from, view_texts, where_shown}
 use Rattle.mx_commands.specs.declared.view.View.{View}
 
 -- a text, and then a verdict that is sound
@@ -37,24 +37,34 @@ pub with_verdict : (is_json : Bool) (t t1 t2 a : Text) (v : Verdict) → v ≡ S
 with_verdict is_json t t1 t2 a v sound first second =
     second ∙ ap₂ (λ (x : Text) (y : Verdict). x ++ verdict_text is_json y) first sound ∙ append_assoc t a (verdict_text is_json Sound)
 
--- one text after another
-pub both_written : {T E : Type 0} (t t1 t2 a b : Text) (r : Result T E) → t1 ≡ t ++ a → OnOk r (t2 ≡ t1 ++ b) → OnOk r (t2 ≡ t ++ (a ++ b))
-both_written t t1 t2 a b (Ok u) first second = second ∙ ap (λ (x : Text). x ++ b) first ∙ append_assoc t a b
-both_written t t1 t2 a b (Err e) first second = tt
+-- three texts, one after another
+pub three_written : {T E : Type 0} (t t1 t2 t3 a b c : Text) (r : Result T E) → t1 ≡ t ++ a → t2 ≡ t1 ++ b → OnOk r (t3 ≡ t2 ++ c) → OnOk r (t3 ≡ t ++ (a ++ b ++ c))
+three_written t t1 t2 t3 a b c (Ok u) first second third =
+    third ∙ ap (λ (x : Text). x ++ c) (second ∙ ap (λ (x : Text). x ++ b) first ∙ append_assoc t a b) ∙ append_assoc t (a ++ b) c
+three_written t t1 t2 t3 a b c (Err e) first second third = tt
+
+perhaps_below : (b : Bool) (x y : Text) → x ++ where_shown b y ≡ (if b then x ++ y else x)
+perhaps_below true x y = refl
+perhaps_below false x y = append_nil x
 
 -- what is shown of one event, by the newest item of the trace
-pub newest_shown : {T E S M : Type 0} (parts : M → Parts) (p : Fields) (view : View) (k n : ℕ) (old new : ClusterState S M) (entry : Entry) (r : Result T E) (t t' : Text)
+pub newest_shown : {T E H S M : Type 0} (core : Core H S M) (parts : M → Parts) (p : Fields) (view : View) (knows : S → List Known) (k n : ℕ) (old new : ClusterState S M) (entry : Entry) (r : Result T E) (t t' : Text)
     → view.is_quiet ≡ false → new.trace ≡ old.trace ++ entry ∷ [] → n ≡ length old.sent
-    → OnOk r (t' ≡ t ++ (shown_entry p view new.sent k entry ++ texts_from (shown_parcel p view parts) n (drop n new.sent)))
-    → OnOk r (t' ≡ t ++ step_text parts p view k old new)
-newest_shown parts p view k n old new entry (Err e) t t' loud trace count is = tt
-newest_shown parts p view k n old new entry (Ok x) t t' loud trace count is =
+    → OnOk r (t' ≡ t ++ (shown_entry p view new.sent k entry ++ texts_from (shown_parcel p view parts) n (drop n new.sent) ++ where_shown view.has_state (shown_owner p view core knows new entry)))
+    → OnOk r (t' ≡ t ++ step_text core parts p view knows k old new)
+newest_shown core parts p view knows k n old new entry (Err e) t t' loud trace count is = tt
+newest_shown core parts p view knows k n old new entry (Ok x) t t' loud trace count is =
     let line = shown_entry p view new.sent k entry in
-    let lines : texts_from (shown_entry p view new.sent) k (drop (length old.trace) new.trace) ≡ line =
-    ap (texts_from (shown_entry p view new.sent) k) (ap (drop (length old.trace)) trace ∙ drop_at old.trace _ (length old.trace) refl) ∙ append_nil line in
+    let owner = shown_owner p view core knows new in
+    let parcels : ℕ → Text = λ m. texts_from (shown_parcel p view parts) m (drop m new.sent) in
+    let newest : drop (length old.trace) new.trace ≡ entry ∷ [] = ap (drop (length old.trace)) trace ∙ drop_at old.trace _ (length old.trace) refl in
+    let lines : texts_from (shown_entry p view new.sent) k (drop (length old.trace) new.trace) ≡ line = ap (texts_from (shown_entry p view new.sent) k) newest ∙ append_nil line in
+    let below : each_text owner (drop (length old.trace) new.trace) ≡ owner entry = ap (each_text owner) newest ∙ append_nil (owner entry) in
     is
-    ∙ ap₂ (λ (l : Text) (m : ℕ). t ++ (l ++ texts_from (shown_parcel p view parts) m (drop m new.sent))) (sym lines) count
-    ∙ ap (λ (b : Bool). t ++ (if b then [] else shown_text parts p view k old new)) (sym loud)
+    ∙ ap₂ (λ (l : Text) (m : ℕ). t ++ (l ++ parcels m ++ where_shown view.has_state (owner entry))) (sym lines) count
+    ∙ ap (λ (l : Text). t ++ (new_lines core parts p view knows k old new ++ where_shown view.has_state l)) (sym below)
+    ∙ ap (λ (l : Text). t ++ l) (perhaps_below view.has_state (new_lines core parts p view knows k old new) (each_text owner (drop (length old.trace) new.trace)))
+    ∙ ap (λ (b : Bool). t ++ (if b then [] else shown_text core parts p view knows k old new)) (sym loud)
 
 -- ---- a report without a fault
 
@@ -77,25 +87,25 @@ module _ {H S M : Type 0} (core : Core H S M) (parts : M → Parts) (p : Fields)
 
   step_leads : (e : Event) (es : List Event) (k : ℕ) (g : ClusterState S M) (r : Result (ClusterState S M) StepFault) → step_of core g e ≡ r
       → ((new : ClusterState S M) → (view_from core parts p view knows (k + 1) new es).end ≡ has_status 0
-      → Leads new es (view_from core parts p view knows (k + 1) new es) (shown_from core parts p view (k + 1) new es))
+      → Leads new es (view_from core parts p view knows (k + 1) new es) (shown_from core parts p view knows (k + 1) new es))
       → (stepped (view_texts core parts p view knows) k g r (λ new. view_from core parts p view knows (k + 1) new es)).end ≡ has_status 0
       → Leads g (e ∷ es) (stepped (view_texts core parts p view knows) k g r (λ new. view_from core parts p view knows (k + 1) new es))
-      (shown_step parts p view k g r (λ new. shown_from core parts p view (k + 1) new es))
+      (shown_step core parts p view knows k g r (λ new. shown_from core parts p view knows (k + 1) new es))
   step_leads e es k g (Err fault) is more end = absurd (fault_is_status (NoParcel k) end)
   step_leads e es k g (Ok mid) is more end =
       let h = more mid end in
-      let text : Text = step_text parts p view k g mid in
-      let lines : Text = if view.is_quiet then [] else shown_from core parts p view (k + 1) mid es in
+      let text : Text = step_text core parts p view knows k g mid in
+      let lines : Text = if view.is_quiet then [] else shown_from core parts p view knows (k + 1) mid es in
       let closing : Text = shown_closing p view core knows h.0 in (
         h.0,
         (mid, is, h.1),
         ap (λ (l : Text). text ++ l) h.2 ∙ sym (append_assoc text lines closing)
-            ∙ ap (λ (l : Text). l ++ closing) (both_before view.is_quiet (shown_text parts p view k g mid) (shown_from core parts p view (k + 1) mid es)),
+            ∙ ap (λ (l : Text). l ++ closing) (both_before view.is_quiet (shown_text core parts p view knows k g mid) (shown_from core parts p view knows (k + 1) mid es)),
       )
 
   -- the texts show the run, if it has no fault
   leads : (es : List Event) (k : ℕ) (g : ClusterState S M) → (view_from core parts p view knows k g es).end ≡ has_status 0
-      → Leads g es (view_from core parts p view knows k g es) (shown_from core parts p view k g es)
+      → Leads g es (view_from core parts p view knows k g es) (shown_from core parts p view knows k g es)
   unfolding report_from shown_from
   leads [] k g end = (g, refl, nothing_before view.is_quiet (shown_closing p view core knows g))
   leads (e ∷ es) k g end = step_leads e es k g (step_of core g e) refl (λ new. leads es (k + 1) new) end

@@ -1,11 +1,12 @@
 -- What is printed of a run of events, for any algorithm.
-use Rattle.std.specs.Prelude.{ℕ, ◌≡◌, ◌⊎◌, ◌+◌, ◌<◌, ⊤, List, [], ◌∷◌, ◌++◌, Result, Ok, Err, length, drop}
+use Rattle.std.specs.Prelude.{ℕ, ◌≡◌, ◌⊎◌, ◌+◌, ◌<◌, ⊤, IfSome, List, [], ◌∷◌, ◌++◌, Result, Ok, Err, length, drop}
 use Rattle.mx_stamps.specs.Lists.{each_below}
 use Rattle.mx_nodelaws.specs.Core.{Core}
 use Rattle.mx_member.specs.Steps.{start_of}
 use Rattle.mx_network.specs.Step.{ClusterState, step_of}
+use Rattle.mx_events.specs.Events.{node_of}
 use Rattle.mx_events.specs.declared.event.Event.{Event}
-use Rattle.mx_events.specs.declared.event.Event.TheVariants.{Ask, Enter, Read, Write, Leave, Cancel, Tick, Want, Settle, Restart, Deliver}
+use Rattle.mx_events.specs.declared.event.Event.TheVariants.{Want}
 use Rattle.mx_network.specs.declared.faults.StepFault.{StepFault}
 use Rattle.mx_network.specs.declared.faults.StepFault.TheVariants as step_fault
 use Rattle.mx_trace.specs.declared.outcome.Entry.{Entry}
@@ -28,17 +29,8 @@ after_texts texts r = record { texts = texts ++ r.texts; end = r.end }
 
 -- the event names only nodes below n
 abbrev pub NamesNodes : ℕ → Event → Type 0
-NamesNodes n (Ask node) = node < n
-NamesNodes n (Enter node) = node < n
-NamesNodes n (Read node register) = node < n
-NamesNodes n (Write node register value) = node < n
-NamesNodes n (Leave node) = node < n
-NamesNodes n (Cancel node) = node < n
-NamesNodes n (Tick node) = node < n
 NamesNodes n (Want node other) = (node < n) × (other < n)
-NamesNodes n (Settle node upto) = node < n
-NamesNodes n (Restart node) = node < n
-NamesNodes n (Deliver k) = ⊤
+NamesNodes n e = IfSome (node_of e) (λ node. node < n)
 
 abbrev pub AllNameNodes : ℕ → List Event → Type 0
 AllNameNodes n [] = ⊤

@@ -1,6 +1,6 @@
 -- What is shown of a run: all lines or only the closing ones, of one node or of all, as text or as
--- JSON, with or without what each node knows at the end. Without options, these are the lines of a
--- replay (Runs).
+-- JSON, with or without what nodes know, after each event and at the end. Without options, these are
+-- the lines of a replay (Runs).
 use Rattle.std.specs.Prelude.{◌≡◌, ◌||◌, ℕ, ◌+◌, Bool, true, false, List, [], ◌∷◌, ◌++◌, Option, Some, None, Result, Ok, Err, drop, if◌then◌else◌, length, nat_eq, option_map, slice_get}
 use Rattle.std.specs.Option.{option_map_or}
 use Rattle.mx_knowledge.specs.Facts.{Known}
@@ -27,7 +27,7 @@ use Rattle.mx_plan.specs.declared.shape.Shape.TheVariants.{Ricart, Maekawa, Raym
 use Rattle.mx_format.specs.EventTexts.{event_line}
 use Rattle.mx_format.specs.FactTexts.{facts_line}
 use Rattle.mx_format.specs.LetterTexts.{letter_text}
-use Rattle.mx_format.specs.Lines.{texts_from}
+use Rattle.mx_format.specs.Lines.{each_text, texts_from}
 use Rattle.mx_format.specs.NodeTexts.{member_json, member_line}
 use Rattle.mx_format.specs.ParcelTexts.{parcel_json, parcel_line}
 use Rattle.mx_format.specs.Parts.{Parts, maekawa_parts, raymond_parts, ricart_parts}
@@ -99,17 +99,33 @@ module _ {H S M : Type 0} (p : Fields) (view : View) (core : Core H S M) (knows 
     abbrev pub shown_member : ℕ → MemberState S → Text
     shown_member i m = where_shown (shows view.node i) (member_text i m)
 
+    -- the lines of node i of these, if there is one and it is shown
+    abbrev pub shown_node : List (MemberState S) → ℕ → Text
+    shown_node members i = option_map_or (shown_member i) (slice_get members i) []
+
+    -- in the cluster after an event, the lines of the event's node, if the node is shown
+    abbrev pub shown_owner : ClusterState S M → Entry → Text
+    shown_owner g entry = option_map_or (shown_node g.members) (owner_of g.sent entry.event) []
+
     -- the lines of the nodes that are shown, and the verdict, which is sound
     abbrev pub shown_closing : ClusterState S M → Text
     shown_closing g = texts_from shown_member 0 g.members ++ verdict_text view.is_json Sound
 
-module _ {S M : Type 0} (parts : M → Parts) (p : Fields) (view : View) where
-  -- what is shown of the k-th event, by the clusters before and after it: the event's line, and the
-  -- lines of the new parcels
-  abbrev pub shown_text : ℕ → ClusterState S M → ClusterState S M → Text
-  shown_text k old new =
+module _ {H S M : Type 0} (core : Core H S M) (parts : M → Parts) (p : Fields) (view : View)
+    (knows : S → List Known) where
+  -- the line of the k-th event and those of the new parcels, by the clusters before and after it
+  abbrev pub new_lines : ℕ → ClusterState S M → ClusterState S M → Text
+  new_lines k old new =
       texts_from (shown_entry p view new.sent) k (drop (length old.trace) new.trace)
       ++ texts_from (shown_parcel p view parts) (length old.sent) (drop (length old.sent) new.sent)
+
+  -- what is shown of the k-th event: these lines and, if the view has states, those of its node
+  abbrev pub shown_text : ℕ → ClusterState S M → ClusterState S M → Text
+  shown_text k old new =
+      if view.has_state
+      then new_lines k old new
+      ++ each_text (shown_owner p view core knows new) (drop (length old.trace) new.trace)
+      else new_lines k old new
 
   -- the same, but nothing if the view is quiet
   abbrev pub step_text : ℕ → ClusterState S M → ClusterState S M → Text
@@ -121,19 +137,15 @@ module _ {S M : Type 0} (parts : M → Parts) (p : Fields) (view : View) where
   shown_step k old (Ok new) rest = shown_text k old new ++ rest new
   shown_step k old (Err fault) rest = []
 
-module _ {H S M : Type 0} (core : Core H S M) (parts : M → Parts) (p : Fields) (view : View)
-  where
-    -- what is shown of these events from a state on. The first event has index k
-    unfoldable pub shown_from : ℕ → ClusterState S M → List Event → Text
-    shown_from k g [] = []
-    shown_from k g (e ∷ es) =
-        shown_step parts p view k g (step_of core g e) (λ new. shown_from (k + 1) new es)
+  -- what is shown of these events from a state on. The first event has index k
+  unfoldable pub shown_from : ℕ → ClusterState S M → List Event → Text
+  shown_from k g [] = []
+  shown_from k g (e ∷ es) =
+      shown_step k g (step_of core g e) (λ new. shown_from (k + 1) new es)
 
-module _ {H S M : Type 0} (core : Core H S M) (parts : M → Parts) (p : Fields) (view : View)
-    (knows : S → List Known) where
   -- what is shown of each event, and the closing lines
   abbrev pub view_texts : Texts S M
-  view_texts = record { event = step_text parts p view; closing = shown_closing p view core knows }
+  view_texts = record { event = step_text; closing = shown_closing p view core knows }
 
   -- the report of these events from a state on, the first with index k: their texts, and then the
   -- closing lines. At an event that cannot happen the report ends, with the fault of a replay
@@ -145,7 +157,7 @@ module _ {H S M : Type 0} (core : Core H S M) (parts : M → Parts) (p : Fields)
   abbrev pub ShowsRun : List Event → ClusterState S M → Text → Type 0
   ShowsRun es start text =
       (g : ClusterState S M) × RunsTo core start es g
-      × (text ≡ (if view.is_quiet then [] else shown_from core parts p view 0 start es)
+      × (text ≡ (if view.is_quiet then [] else shown_from 0 start es)
       ++ shown_closing p view core knows g)
 
 -- what is shown of a run of each algorithm

@@ -1,8 +1,8 @@
-//! The closing lines of a run: those of its nodes, and that of the verdict.
+//! The lines of a node, and the closing lines of a run: those of all nodes, and of the verdict.
 
 ghost use Rattle.std.specs.Prelude.{◌≡◌, ◌<◌, ◌++◌, length, string_bytes, IfOk, OnOk};
 ghost use Rattle.mx_format.specs.Lines.{texts_from};
-ghost use Rattle.mx_commands.specs.Shown.{shown_closing, shown_member};
+ghost use Rattle.mx_commands.specs.Shown.{shown_closing, shown_member, shown_node};
 
 use crate::verdicts::add_verdict;
 use crate::view::View;
@@ -51,6 +51,24 @@ impl View {
             self.add_member(alloc, plan, node_at(plan, index), member, text)?;
         }
         Ok(())
+    }
+
+    /// Appends what is shown of one node.
+    pub(crate) fn add_node<C: Exclusion + Knowledge>(
+        &self,
+        alloc: Global,
+        plan: &Plan,
+        node: NodeId,
+        cluster: &Cluster<C>,
+        text: &mut String,
+    ) -> Result<(), AllocError>
+        ensures { OnOk result (string_bytes text.new ≡ string_bytes text.old
+            ++ shown_node plan.now self.now C.core C.knows cluster.now.members node) }
+    {
+        match cluster.member(node) {
+            Some(member) => self.add_member(alloc, plan, node, member, text),
+            None => Ok(()),
+        }
     }
 
     fn add_member<C: Exclusion + Knowledge>(

@@ -4,7 +4,7 @@ ghost use Rattle.std.specs.Prelude.{◌≡◌, [], length, string_bytes, OnOk, I
 ghost use Rattle.mx_network.specs.Step.{step_of};
 ghost use Rattle.mx_cli.specs.Printing.{IsReport, Prints, sight};
 ghost use Rattle.mx_commands.specs.Runs.{AllNameNodes, NamesNodes, StopsAt, report_from};
-ghost use Rattle.mx_commands.specs.Sinks.{report_by};
+ghost use Rattle.mx_commands.specs.Sinks.{IsTold, IsToldBy, report_by};
 
 use crate::by_shape;
 use crate::runs::apply;
@@ -42,6 +42,20 @@ where
       raymond = ⟦<K as Sink<Cluster<Raymond>>>⟧.texts sink.old plan.now;
     }) plan.now plan.now.shape events.now))
         (sight O.Output out.old) (sight O.Output out.new) result }
+    ensures told { OnOk result (IsToldBy (record {
+      ricart = record {
+        heard = λ s. ⟦<K as Sink<Cluster<Ricart>>>⟧.heard s plan.now;
+        closed = λ s. ⟦<K as Sink<Cluster<Ricart>>>⟧.closed s plan.now;
+      };
+      maekawa = record {
+        heard = λ s. ⟦<K as Sink<Cluster<Maekawa>>>⟧.heard s plan.now;
+        closed = λ s. ⟦<K as Sink<Cluster<Maekawa>>>⟧.closed s plan.now;
+      };
+      raymond = record {
+        heard = λ s. ⟦<K as Sink<Cluster<Raymond>>>⟧.heard s plan.now;
+        closed = λ s. ⟦<K as Sink<Cluster<Raymond>>>⟧.closed s plan.now;
+      };
+    }) plan.now plan.now.shape events.now sink.old sink.new) }
 {
     by_shape!(
         alloc,
@@ -63,11 +77,23 @@ fn drive_events<C: Exclusion, K: Sink<Cluster<C>>, O: Output>(
     ensures prints { Prints (IsReport
         (report_from C.core (K.texts sink.old plan.now) 0 cluster events.now))
         (sight O.Output out.old) (sight O.Output out.new) result }
+    ensures told { OnOk result (IsTold C.core (record {
+      heard = λ s. K.heard s plan.now;
+      closed = λ s. K.closed s plan.now;
+    }) 0 cluster events.now sink.old sink.new) }
 {
     let mut text = String::new(alloc);
     for (index, event) in events.iter().enumerate() {
         text.clear();
-        drive_event(plan, index as u64, event, &mut cluster, sink, &mut text)?;
+        drive_event(
+            alloc,
+            plan,
+            index as u64,
+            event,
+            &mut cluster,
+            sink,
+            &mut text,
+        )?;
         out.put(text.as_bytes())?;
     }
     text.clear();
@@ -77,6 +103,7 @@ fn drive_events<C: Exclusion, K: Sink<Cluster<C>>, O: Output>(
 }
 
 fn drive_event<C: Exclusion, K: Sink<Cluster<C>>>(
+    alloc: Global,
     plan: &Plan,
     index: u64,
     event: &Event,
@@ -91,9 +118,11 @@ fn drive_event<C: Exclusion, K: Sink<Cluster<C>>>(
         ≡ (K.texts sink.old plan.now).event index cluster.old cluster.new) }
     ensures err { IfErr result (StopsAt index (step_of C.core cluster.old event.now)) }
     ensures stays { OnOk result (K.texts sink.new ≡ K.texts sink.old) }
+    ensures heard { OnOk result
+        (K.heard sink.old plan.now index cluster.old cluster.new sink.new) }
 {
     let before = cluster.sent();
     apply(index, event, cluster)?;
-    sink.event(plan, index, before, cluster, text)?;
+    sink.event(alloc, plan, index, before, cluster, text)?;
     Ok(())
 }

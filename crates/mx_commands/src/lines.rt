@@ -4,12 +4,12 @@ ghost use Rattle.std.specs.Prelude.{◌≡◌, ◌<◌, ◌≤◌, List, [], ◌
 ghost use Rattle.mx_network.specs.Step.{ClusterState};
 ghost use Rattle.mx_trace.specs.declared.outcome.Entry.{Entry};
 ghost use Rattle.mx_format.specs.Lines.{texts_from};
-ghost use Rattle.mx_commands.specs.Shown.{shown_closing, shown_entry, shown_parcel, step_text, view_texts};
+ghost use Rattle.mx_commands.specs.Shown.{shown_closing, shown_entry, shown_owner, shown_parcel, step_text, view_texts, where_shown};
 
 use crate::runs::newest;
 use crate::sink::Sink;
 use crate::verdicts::verdict_status;
-use crate::view::View;
+use crate::view::{View, owner_of};
 use mx_format::{EventLine, Letter, add_event_json, add_parcel_json, add_parcel_line};
 use mx_knowledge::Knowledge;
 use mx_member::SentParcel;
@@ -24,8 +24,13 @@ where
 {
     ghost texts = { λ view p. view_texts C.core C.Msg.parts p view C.knows };
 
+    ghost heard = { λ view p k old new told. told ≡ view };
+
+    ghost closed = { λ view p cluster told. told ≡ view };
+
     fn event(
         &mut self,
+        alloc: Global,
         plan: &Plan,
         index: u64,
         before: u64,
@@ -37,13 +42,16 @@ where
         ensures text { (old : ClusterState C C.Msg) (entry : Entry)
             → cluster.now.trace ≡ old.trace ++ entry ∷ [] → before ≡ length old.sent
             → OnOk result (string_bytes text.new ≡ string_bytes text.old
-            ++ step_text C.Msg.parts plan.now self.old index old cluster.now) }
+            ++ step_text C.core C.Msg.parts plan.now self.old C.knows index old cluster.now) }
         ensures stays { self.new ≡ self.old }
+        ensures heard { (old : ClusterState C C.Msg) (entry : Entry)
+            → cluster.now.trace ≡ old.trace ++ entry ∷ [] → before ≡ length old.sent
+            → OnOk result (self.new ≡ self.old) }
     {
         if self.is_quiet {
             return Ok(());
         }
-        self.add_newest(plan, index, before, cluster, text)
+        self.add_newest(alloc, plan, index, before, cluster, text)
     }
 
     fn end(
@@ -57,6 +65,7 @@ where
         ensures text { OnOk result (string_bytes text.new ≡ string_bytes text.old
             ++ shown_closing plan.now self.old C.core C.knows cluster.now) }
         ensures zero { IfOk result (λ status. status ≡ 0) }
+        ensures closed { OnOk result (self.new ≡ self.old) }
     {
         let verdict = self.add_closing(alloc, plan, cluster, text)?;
         Ok(verdict_status(verdict))
@@ -64,8 +73,9 @@ where
 }
 
 impl View {
-    fn add_newest<C: Exclusion>(
+    fn add_newest<C: Exclusion + Knowledge>(
         &self,
+        alloc: Global,
         plan: &Plan,
         index: u64,
         before: u64,
@@ -80,10 +90,14 @@ impl View {
             → OnOk result (string_bytes text.new ≡ string_bytes text.old
             ++ (shown_entry plan.now self.now cluster.now.sent index entry
             ++ texts_from (shown_parcel plan.now self.now C.Msg.parts) before
-            (drop before cluster.now.sent))) }
+            (drop before cluster.now.sent)
+            ++ where_shown self.now.has_state
+            (shown_owner plan.now self.now C.core C.knows cluster.now entry))) }
     {
-        self.add_event(plan, index, cluster, newest(cluster.trace()), text)?;
-        self.add_parcels(plan, cluster, before, text)
+        let entry = newest(cluster.trace());
+        self.add_event(plan, index, cluster, entry, text)?;
+        self.add_parcels(plan, cluster, before, text)?;
+        self.add_owner(alloc, plan, cluster, entry, text)
     }
 
     fn add_event<C: Exclusion>(
@@ -149,5 +163,27 @@ impl View {
             return add_parcel_json(plan, number, sent, text);
         }
         add_parcel_line(plan, number, sent, text)
+    }
+
+    /// Appends the lines of the node of an event, if the view has states.
+    fn add_owner<C: Exclusion + Knowledge>(
+        &self,
+        alloc: Global,
+        plan: &Plan,
+        cluster: &Cluster<C>,
+        entry: &Entry,
+        text: &mut String,
+    ) -> Result<(), AllocError>
+        ensures { OnOk result (string_bytes text.new ≡ string_bytes text.old
+            ++ where_shown self.now.has_state
+            (shown_owner plan.now self.now C.core C.knows cluster.now entry.now)) }
+    {
+        if !self.has_state {
+            return Ok(());
+        }
+        match owner_of(cluster, &entry.event) {
+            Some(owner) => self.add_node(alloc, plan, owner, cluster, text),
+            None => Ok(()),
+        }
     }
 }

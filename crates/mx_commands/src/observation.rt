@@ -1,9 +1,10 @@
 //! A run that prints nothing: a sink sees its events, and its end.
 
-ghost use Rattle.std.specs.Prelude.{length, true, false};
+ghost use Rattle.std.specs.Prelude.{length, true, false, OnOk};
 ghost use Rattle.mx_cli.specs.Printing.{IsReport, Prints, null_output};
 ghost use Rattle.mx_commands.specs.Jobs.{run_by};
 ghost use Rattle.mx_commands.specs.Runs.{AllNameNodes};
+ghost use Rattle.mx_commands.specs.Sinks.{IsToldBy};
 
 use crate::driver::drive;
 use crate::sink::Sink;
@@ -50,6 +51,20 @@ where
     requires { AllNameNodes (length plan.now.nodes) events.now }
     ensures prints { Prints (IsReport (run_by plan.now plan.now.shape events.now))
         null_output null_output result }
+    ensures told { OnOk result (IsToldBy (record {
+      ricart = record {
+        heard = λ s. ⟦<K as Sink<Cluster<Ricart>>>⟧.heard s plan.now;
+        closed = λ s. ⟦<K as Sink<Cluster<Ricart>>>⟧.closed s plan.now;
+      };
+      maekawa = record {
+        heard = λ s. ⟦<K as Sink<Cluster<Maekawa>>>⟧.heard s plan.now;
+        closed = λ s. ⟦<K as Sink<Cluster<Maekawa>>>⟧.closed s plan.now;
+      };
+      raymond = record {
+        heard = λ s. ⟦<K as Sink<Cluster<Raymond>>>⟧.heard s plan.now;
+        closed = λ s. ⟦<K as Sink<Cluster<Raymond>>>⟧.closed s plan.now;
+      };
+    }) plan.now plan.now.shape events.now sink.old sink.new) }
 {
     drive(alloc, plan, events, sink, &mut NullOutput)
 }

@@ -1,6 +1,6 @@
 //! The interface of what prints the events of a run.
 
-ghost use Rattle.std.specs.Prelude.{◌≡◌, ◌<◌, ◌≤◌, [], ◌∷◌, ◌++◌, length, string_bytes, IfOk, OnOk};
+ghost use Rattle.std.specs.Prelude.{ℕ, ◌≡◌, ◌<◌, ◌≤◌, [], ◌∷◌, ◌++◌, length, string_bytes, IfOk, OnOk};
 ghost use Rattle.mx_network.specs.Step.{ClusterState};
 ghost use Rattle.mx_trace.specs.declared.outcome.Entry.{Entry};
 ghost use Rattle.mx_plan.specs.Fields.{Fields};
@@ -31,6 +31,14 @@ pub trait Sink<R: Running> {
     // what the sink prints of a run of a plan; this does not change during the run
     ghost texts: { Self → Fields → Texts R.Core R.Core.Msg };
 
+    // the second sink is what the first becomes by the event of this index, which leads from the
+    // first cluster to the second
+    ghost heard: { Self → Fields → ℕ → ClusterState R.Core R.Core.Msg
+        → ClusterState R.Core R.Core.Msg → Self → Type 0 } = { λ sink p k old new told. Unit {0} };
+
+    // the second sink is what the first becomes at the end of a run
+    ghost closed: { Self → Fields → ClusterState R.Core R.Core.Msg → Self → Type 0 } = { λ sink p cluster told. Unit {0} };
+
     /// Appends the text of the newest event of a run. The event has this index, and sent the
     /// parcels from the number `before` on.
     ///
@@ -39,6 +47,7 @@ pub trait Sink<R: Running> {
     /// Returns `AllocError` if memory runs out.
     fn event(
         &mut self,
+        alloc: Global,
         plan: &Plan,
         index: u64,
         before: u64,
@@ -51,7 +60,10 @@ pub trait Sink<R: Running> {
             → (R.state cluster.now).trace ≡ old.trace ++ entry ∷ [] → before ≡ length old.sent
             → OnOk result (string_bytes text.new ≡ string_bytes text.old
             ++ (texts self.old plan.now).event index old (R.state cluster.now)) }
-        ensures stays { texts self.new ≡ texts self.old };
+        ensures stays { texts self.new ≡ texts self.old }
+        ensures heard { (old : ClusterState R.Core R.Core.Msg) (entry : Entry)
+            → (R.state cluster.now).trace ≡ old.trace ++ entry ∷ [] → before ≡ length old.sent
+            → OnOk result (heard self.old plan.now index old (R.state cluster.now) self.new) };
 
     /// Appends the closing text of a run, and returns the status.
     ///
@@ -68,5 +80,6 @@ pub trait Sink<R: Running> {
         requires members { length (R.state cluster.now).members ≡ length plan.now.nodes }
         ensures text { OnOk result (string_bytes text.new ≡ string_bytes text.old
             ++ (texts self.old plan.now).closing (R.state cluster.now)) }
-        ensures zero { IfOk result (λ status. status ≡ 0) };
+        ensures zero { IfOk result (λ status. status ≡ 0) }
+        ensures closed { OnOk result (closed self.old plan.now (R.state cluster.now) self.new) };
 }

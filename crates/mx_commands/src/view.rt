@@ -18,7 +18,8 @@ pub struct View {
     pub is_quiet: bool,
     /// Whether JSON is printed, in place of lines.
     pub is_json: bool,
-    /// Whether what each node knows is shown too. JSON always shows it.
+    /// Whether the lines of its node follow each event, and what a node knows is shown below each
+    /// line of a node. The JSON of a node always has what it knows.
     pub has_state: bool,
 }
 
@@ -67,7 +68,7 @@ fn is_owner<C: Exclusion>(node: NodeId, cluster: &Cluster<C>, event: &Event) -> 
 }
 
 /// Returns the node of an event; of a delivery, the addressee of the parcel.
-fn owner_of<C: Exclusion>(cluster: &Cluster<C>, event: &Event) -> Option<NodeId>
+pub(crate) fn owner_of<C: Exclusion>(cluster: &Cluster<C>, event: &Event) -> Option<NodeId>
     ensures { result ≡ owner_of cluster.now.sent event.now }
 {
     match event {

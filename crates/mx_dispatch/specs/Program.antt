@@ -14,10 +14,10 @@ use Rattle.mx_count.specs.Printed.{IsCount}
 use Rattle.mx_explain.specs.Explained.{Explains}
 use Rattle.mx_explore.specs.Drawn.{IsDraw}
 use Rattle.mx_explore.specs.Explored.{IsExplored}
-use Rattle.mx_explore.specs.declared.runs.RandomRun.{RandomRun}
+use Rattle.mx_explore.specs.declared.random_run.RandomRun.{RandomRun}
 use Rattle.mx_judge.specs.Judged.{IsJudgement}
 use Rattle.mx_picture.specs.Pictures.{IsPictured}
-use Rattle.mx_scripts.specs.Printed.{IsScript}
+use Rattle.mx_scripts.specs.Printed.{IsOnText, IsScript}
 
 -- the reports that a command may print of a plan and of the text that comes with it
 abbrev pub Reports : Type 1
@@ -44,8 +44,9 @@ IsDrawing seed steps conditions p text = IsDraw (run_of seed steps conditions) p
 abbrev pub Does : (Text → Option Telling) → Request → Bool → Bool → Seen → Seen → ℕ → Type 0
 Does told (check plan has_asks is_json) t u old new status =
     Runs (IsCheck has_asks is_json) told (alone plan) t u old new status
-Does told (replay names options) t u old new status =
-    Runs (IsReplayed options) told (both names (has_options options)) t u old new status
+Does told (replay names view is_script) t u old new status =
+    Runs (IsOnText is_script (IsReplayed view)) told (both names (has_options view)) t u old new
+    status
 Does told (explore e has_counts is_json) t u old new status =
     Runs (IsExploration e.1.0 e.1.1 None has_counts is_json) told (alone e.0) t u old new status
 Does told (explore_walk e conditions) t u old new status =
@@ -55,12 +56,12 @@ Does told (draw e conditions) t u old new status =
     Runs (IsDrawing e.1.0 e.1.1 conditions) told (alone e.0) t u old new status
 Does told (script names) t u old new status =
     Runs IsScript told (both names true) t u old new status
-Does told (picture names part) t u old new status =
-    Runs (IsPictured part) told (both names false) t u old new status
-Does told (count names is_json) t u old new status =
-    Runs (IsCount is_json) told (both names true) t u old new status
-Does told (judge names) t u old new status =
-    Runs IsJudgement told (both names true) t u old new status
+Does told (picture names part is_script) t u old new status =
+    Runs (IsOnText is_script (IsPictured part)) told (both names true) t u old new status
+Does told (count names is_json is_script) t u old new status =
+    Runs (IsOnText is_script (IsCount is_json)) told (both names true) t u old new status
+Does told (judge names is_json) t u old new status =
+    Runs (IsJudgement is_json) told (both names true) t u old new status
 Does told (explain plan second is_script) t u old new status =
     Explains told plan second is_script t u old new status
 Does told (misfit reason) t u old new status = ReportsUsage old new status

@@ -7,7 +7,7 @@ ghost use Rattle.mx_cli.specs.Requests.{AskNothing, request_asked, request_of};
 ghost use Rattle.mx_cli.specs.Reports.{Answers, Declines, seen};
 ghost use Rattle.mx_dispatch.specs.Program.{Does};
 
-use crate::forms::{run_both, run_check, run_draw, run_explore};
+use crate::forms::{run_both, run_check, run_draw, run_explore, run_text};
 use mx_cli::{Request, parse, refuse, report_misfit};
 use mx_commands::Replay;
 use mx_count::Count;
@@ -62,13 +62,19 @@ fn carry_out<S: Source, O: Output, E: Output>(
             has_asks,
             is_json,
         } => run_check(alloc, plan, *has_asks, *is_json, source, out, err),
-        Request::Replay(names, options) => {
-            let replay = Replay(*options);
-            run_both(
+        Request::Replay {
+            names,
+            view,
+            is_script,
+        } => {
+            let replay = Replay(*view);
+            let names_texts = replay.has_options();
+            run_text(
                 alloc,
                 &replay,
                 names,
-                replay.has_options(),
+                names_texts,
+                *is_script,
                 source,
                 out,
                 err,
@@ -90,14 +96,26 @@ fn carry_out<S: Source, O: Output, E: Output>(
             run_draw(alloc, exploration, *conditions, source, out, err)
         }
         Request::Script(names) => run_both(alloc, &Script, names, true, source, out, err),
-        Request::Picture(names, options) => {
-            run_both(alloc, &Picture(*options), names, false, source, out, err)
+        Request::Picture {
+            names,
+            part,
+            is_script,
+        } => {
+            let picture = Picture(*part);
+            run_text(alloc, &picture, names, true, *is_script, source, out, err)
         }
-        Request::Count { names, is_json } => {
+        Request::Count {
+            names,
+            is_json,
+            is_script,
+        } => {
             let count = Count { is_json: *is_json };
-            run_both(alloc, &count, names, true, source, out, err)
+            run_text(alloc, &count, names, true, *is_script, source, out, err)
         }
-        Request::Judge(names) => run_both(alloc, &Judge, names, true, source, out, err),
+        Request::Judge { names, is_json } => {
+            let judge = Judge { is_json: *is_json };
+            run_both(alloc, &judge, names, true, source, out, err)
+        }
         Request::Explain {
             plan,
             second,

@@ -14,7 +14,7 @@ const STRING: &str =
 #[derive(Clone, Copy)]
 enum Cause {
     Expected(&'static str),
-    Stands(&'static str),
+    Is(&'static str),
     /// The text ends before what opens at this byte is closed.
     Cut(usize),
 }
@@ -30,21 +30,18 @@ pub(crate) fn report_bad_token(report: &mut Report, part: &Part<'_>) -> Result<b
     let (offset, cause) = match first_bad_token(alloc, text)? {
         Some((offset, cause)) if end == part.text.len() || offset < end => (offset, cause),
         None if end == part.text.len() => return Ok(false),
-        _ => (
-            text.len(),
-            Cause::Stands("bytes that are not UTF-8 stand here"),
-        ),
+        _ => (text.len(), Cause::Is("found bytes that are not UTF-8")),
     };
     let mut message = String::from_str(alloc, " not JSON: ")?;
     match cause {
         Cause::Expected(expected) => {
-            write!(message, "expected {expected} where this stands: ")?;
+            write!(message, "expected {expected}, found: ")?;
             let line = rest_of(text, offset).lines().next().unwrap_or("");
             for character in line.chars().take(24) {
                 message.push(character)?;
             }
         }
-        Cause::Stands(words) => message.push_str(words)?,
+        Cause::Is(words) => message.push_str(words)?,
         Cause::Cut(opened) => {
             let opened = part.location(opened);
             write!(
@@ -83,7 +80,7 @@ struct Scanner {
 /// the loop.
 fn first_bad_token(alloc: Global, text: &str) -> Result<Option<(usize, Cause)>, AllocError> {
     if text.starts_with("\u{feff}") {
-        return Ok(Some((0, Cause::Stands("a byte order mark stands here"))));
+        return Ok(Some((0, Cause::Is("found a byte order mark"))));
     }
     let mut scratch = Scratch::new(alloc);
     let mut scanner = Scanner {
@@ -171,14 +168,14 @@ impl Scanner {
         match (self.open.as_slice().last(), self.next) {
             (Some((_, opened)), _) => Err(Cause::Cut(*opened)),
             (None, Next::AfterValue) => Ok(Next::AfterValue),
-            _ => Err(Cause::Stands("the text ends here, expected a value")),
+            _ => Err(Cause::Is("the text ends here, expected a value")),
         }
     }
 
     fn open(&mut self, bracket: u8, offset: usize, next: Next) -> Result<Next, Cause> {
         match self.open.try_push((bracket, offset)) {
             Ok(()) => Ok(next),
-            Err(_) => Err(Cause::Stands("brackets nest deeper than 127 here")),
+            Err(_) => Err(Cause::Is("brackets nest deeper than 127 here")),
         }
     }
 
@@ -223,7 +220,7 @@ fn bad_string(token: &str, offset: usize) -> Cause {
 fn after_value(token: &str) -> Result<Next, Cause> {
     let number: Value<'_, Global> = Value::Number(token);
     match number.as_f64() {
-        Some(value) if value.is_infinite() => Err(Cause::Stands("too large a number stands here")),
+        Some(value) if value.is_infinite() => Err(Cause::Is("found a number that is too large")),
         _ => Ok(Next::AfterValue),
     }
 }

@@ -6,7 +6,7 @@ use mx_io::{Refusal, Source, SourceFault};
 use std::alloc::{AllocError, Global};
 
 #[derive(Drop)]
-pub(crate) struct Entry {
+pub(crate) struct CachedFile {
     name: String,
     bytes: Vec<u8>,
 }
@@ -14,7 +14,7 @@ pub(crate) struct Entry {
 #[derive(Drop)]
 pub(crate) struct CachedSource<'s, S: Source> {
     pub(crate) source: &'s mut S,
-    pub(crate) entries: Vec<Entry>,
+    pub(crate) files: Vec<CachedFile>,
 }
 
 impl<'s, S: Source> Source for CachedSource<'s, S> {
@@ -27,15 +27,15 @@ impl<'s, S: Source> Source for CachedSource<'s, S> {
             Ok(bytes) => bytes,
             Err(fault) => return Err(fault),
         };
-        match keep(alloc, &mut self.entries, name, bytes.as_slice()) {
+        match keep(alloc, &mut self.files, name, bytes.as_slice()) {
             Ok(()) => Ok(bytes),
             Err(_) => Err(SourceFault::Memory),
         }
     }
 
     fn fetched(&mut self, alloc: Global, name: &str) -> Result<Vec<u8>, Refusal> {
-        match index_of(self.entries.as_slice(), name) {
-            Some(index) => Ok(self.entries.swap_remove(index).bytes),
+        match index_of(self.files.as_slice(), name) {
+            Some(index) => Ok(self.files.swap_remove(index).bytes),
             None => self.source.fetched(alloc, name),
         }
     }
@@ -43,18 +43,18 @@ impl<'s, S: Source> Source for CachedSource<'s, S> {
 
 fn keep(
     alloc: Global,
-    entries: &mut Vec<Entry>,
+    files: &mut Vec<CachedFile>,
     name: &str,
     bytes: &[u8],
 ) -> Result<(), AllocError> {
     let name = String::from_str(alloc, name)?;
     let bytes = Vec::from_slice(alloc, bytes)?;
-    entries.push(Entry { name, bytes })?;
+    files.push(CachedFile { name, bytes })?;
     Ok(())
 }
 
-fn index_of(entries: &[Entry], name: &str) -> Option<usize>
-    ensures within { IfSome result (λ index. index < length entries.now) }
+fn index_of(files: &[CachedFile], name: &str) -> Option<usize>
+    ensures within { IfSome result (λ index. index < length files.now) }
 {
-    entries.iter().position(|entry| entry.name.as_str() == name)
+    files.iter().position(|file| file.name.as_str() == name)
 }

@@ -7,11 +7,14 @@ use crate::plan_fault::{NODE, NUMBER, wrong_word};
 use crate::report::{Report, ReportResult};
 use crate::script_lines::add_meant;
 use crate::spot::Spot;
-use json::{Scratch, Value};
-use mx_cli::Fault;
+use json::{Error, Scratch, Value};
+use mx_cli::{Fault, split_line};
 use mx_events::{ArgumentKind, EventKind};
 use mx_lines::{FirstWords, Listed, Names};
 use mx_plan::{Place, Plan, PlanFault};
+use std::alloc::{AllocError, Global};
+
+const EVENTS: &str = "an array of events, as [[\"ask\",NODE],[\"deliver\",0]]";
 
 /// Reports the refused events of a list, and its fault, if it has one.
 pub(crate) fn explain_events(
@@ -24,6 +27,9 @@ pub(crate) fn explain_events(
     let Some(fault) = notes.fault else {
         return Ok(());
     };
+    if is_trace(report.alloc(), part.text)? {
+        return add_trace(report, &part);
+    }
     let mut scratch = Scratch::new(report.alloc());
     let Some(events) = read_value(report, &part, &mut scratch)? else {
         return Ok(());
@@ -40,11 +46,43 @@ pub(crate) fn explain_events(
         Fault::BadText(
             PlanFault::NotPlan(Place::Event(k)) | PlanFault::UnknownName(Place::Event(k)),
         ) => add_event(&mut report, events.item(k as usize), plan),
-        _ => {
-            let expected = "an array of events, as [[\"ask\",NODE],[\"deliver\",0]]";
-            report.add_wrong(&Wrong::of(events, expected))
-        }
+        _ => report.add_wrong(&Wrong::of(events, EVENTS)),
     }
+}
+
+/// Whether a text is a trace: its first line is an event with its outcome, or it is an array that
+/// begins with one.
+fn is_trace(alloc: Global, text: &[u8]) -> Result<bool, AllocError> {
+    let (line, _) = split_line(text);
+    let part = if text.starts_with(b"[") { text } else { line };
+    let mut scratch = Scratch::new(alloc);
+    match Value::from_slice(alloc, part, &mut scratch) {
+        Ok(value) => Ok(has_outcome(&value) || first_has_outcome(&value)),
+        Err(Error::OutOfMemory) => Err(AllocError),
+        Err(_) => Ok(false),
+    }
+}
+
+fn first_has_outcome(value: &Value<'_>) -> bool {
+    match value {
+        Value::Array(items) => items.first().is_some_and(|first| has_outcome(first)),
+        _ => false,
+    }
+}
+
+fn has_outcome(value: &Value<'_>) -> bool {
+    match value {
+        Value::Object(members) => members.iter().any(|(name, _)| *name == "outcome"),
+        _ => false,
+    }
+}
+
+fn add_trace(report: &mut Report, part: &Part<'_>) -> ReportResult {
+    let alloc = report.alloc();
+    let text = format!(in alloc;
+        " events: a trace stands here, which `mx judge` reads, expected {EVENTS}"
+    )?;
+    report.add_at(part, 0, text.as_str())
 }
 
 fn add_unsent(report: &mut JsonReport<'_>, parcel: Spot<'_, '_>, sent: u64) -> ReportResult {

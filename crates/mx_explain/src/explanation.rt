@@ -8,9 +8,9 @@ ghost use Rattle.mx_cli.specs.Words.{names_of};
 ghost use Rattle.mx_explain.specs.Explained.{Explains, IsAsked, IsExplanation, names_in};
 
 use crate::cached_source::CachedSource;
+use crate::explained_run::run;
 use crate::files::print_files;
 use crate::notes::Notes;
-use crate::runs::run;
 use mx_cli::{Names, Stop, close};
 use mx_io::{Output, Source};
 use std::alloc::Global;
@@ -71,8 +71,8 @@ fn run_and_explain<S: Source, O: Output>(
     ensures prints { Prints (IsExplanation (IsAsked (S.told source.old) asked.now))
         (sight O.Output out.old) (sight O.Output out.new) result }
 {
-    let entries = Vec::new(alloc);
-    let mut cached = CachedSource { source, entries };
+    let files = Vec::new(alloc);
+    let mut cached = CachedSource { source, files };
     let mut notes = Notes::new(alloc);
     let ended = run(alloc, asked, &mut cached, &mut notes);
     if let Err(Stop::Fault(fault)) = &ended {

@@ -62,9 +62,7 @@ impl JsonReport<'_> {
         let (spot, expected) = (wrong.spot, wrong.expected);
         let nearest = Nearest(nearest(alloc, spot.text(), wrong.known)?);
         let text = match spot.value.map(Actual) {
-            Some(actual) => {
-                format!(in alloc; "{actual} stands here, expected {expected}{nearest}")?
-            }
+            Some(actual) => { format!(in alloc; "found {actual}, expected {expected}{nearest}")? }
             None => format!(in alloc; "missing; expected {expected}{nearest}")?,
         };
         self.add(spot, text.as_str())

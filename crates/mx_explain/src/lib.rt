@@ -4,6 +4,7 @@
 mod bad_token;
 mod cached_source;
 mod event_fault;
+mod explained_run;
 mod explanation;
 mod files;
 mod json_report;
@@ -11,7 +12,6 @@ mod location;
 mod notes;
 mod plan_fault;
 mod report;
-mod runs;
 mod script_lines;
 mod shape_fault;
 mod spot;

@@ -39,6 +39,7 @@ impl<C: Exclusion + Knowledge> Sink<Cluster<C>> for Notes {
 
     fn event(
         &mut self,
+        _alloc: Global,
         plan: &Plan,
         index: u64,
         _before: u64,

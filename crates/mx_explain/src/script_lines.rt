@@ -13,7 +13,7 @@ pub(crate) fn explain_lines(report: &mut Report, part: &Part<'_>, plan: &Plan) -
         return report.add_at(
             part,
             offset,
-            " JSON stands here, expected the lines of a script; events are explained without --script",
+            " found JSON, expected the lines of a script; events are explained without --script",
         );
     }
     let mut begin = 0usize;
@@ -52,7 +52,7 @@ fn report_line(
         Err(e) => {
             if is_shown {
                 let offset = begin.saturating_add(e.valid_up_to());
-                report.add_at(part, offset, " bytes that are not UTF-8 stand here")?;
+                report.add_at(part, offset, " found bytes that are not UTF-8")?;
             }
             return Ok(true);
         }

@@ -73,7 +73,7 @@ impl Display for ShapeText<'_> {
             }
             ShapeFault::Tree(TreeFault::WrongCount) => {
                 let wanted = nodes.len().saturating_sub(1);
-                write!(f, "{} edges stand here, expected {wanted}", self.count)?;
+                write!(f, "found {} edges, expected {wanted}", self.count)?;
                 f.write_str(", one fewer than nodes")
             }
             ShapeFault::Tree(TreeFault::NotJoined(i)) => {

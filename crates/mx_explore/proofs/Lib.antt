@@ -1,4 +1,5 @@
 pub mod ParcelLemmas
 pub mod StepLemmas
 pub mod RunLemmas
+pub mod ReadLemmas
 pub mod DrawnLemmas

@@ -8,7 +8,7 @@ use Rattle.mx_raymond.specs.Step.{raymond_core}
 use Rattle.mx_network.specs.Step.{ClusterState, step_of}
 use Rattle.mx_network.specs.declared.faults.StepFault.{StepFault}
 use Rattle.mx_events.specs.declared.event.Event.{Event}
-use Rattle.mx_events.specs.declared.event.Event.TheVariants.{Ask, Enter, Read, Write, Leave, Cancel, Tick, Want, Settle, Restart, Deliver}
+use Rattle.mx_events.specs.declared.event.Event.TheVariants.{Deliver}
 use Rattle.mx_plan.specs.Fields.{Fields}
 use Rattle.mx_plan.specs.declared.shape.Shape.{Shape}
 use Rattle.mx_plan.specs.declared.shape.Shape.TheVariants.{Ricart, Maekawa, Raymond}
@@ -22,7 +22,7 @@ use Rattle.mx_scripts.proofs.PlayedLemmas.{played_at_rest, plays_step}
 use Rattle.mx_explore.specs.Walk.{StepperState, at_first, looked}
 use Rattle.mx_explore.specs.Runs.{after_placed, after_run, next_of, or_stay, ran}
 use Rattle.mx_explore.specs.Drawn.{LeadsAs, drawn_events}
-use Rattle.mx_explore.specs.declared.runs.RandomRun.{RandomRun}
+use Rattle.mx_explore.specs.declared.random_run.RandomRun.{RandomRun}
 use Rattle.mx_explore.proofs.StepLemmas.{next_named}
 
 -- ---- the event of a step
@@ -34,17 +34,8 @@ module _ (P : Event → Type 0) (sent : ℕ) (each : (k : ℕ) → P (Deliver (s
   delivered false e h = h
 
   pub placed : (e : Event) → P e → IfSome (place_of e sent) P
-  placed (Ask node) h = h
-  placed (Enter node) h = h
-  placed (Read node register) h = h
-  placed (Write node register value) h = h
-  placed (Leave node) h = h
-  placed (Cancel node) h = h
-  placed (Tick node) h = h
-  placed (Want node other) h = h
-  placed (Settle node upto) h = h
-  placed (Restart node) h = h
   placed (Deliver k) h = delivered (nat_eq sent 0) (Deliver (sent - 1 - k % min sent 64)) (each (k % min sent 64))
+  placed _ h = h
 
 module _ {H S M : Type 0} (core : Core H S M) (nodes registers : ℕ) where
   -- the event of a step names nodes and registers that are there

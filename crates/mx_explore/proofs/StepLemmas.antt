@@ -1,5 +1,5 @@
 -- The steps of a walk: whom they name, and the next one.
-use Rattle.std.proofs.Common.{◌≡◌, ◌∙◌, ◌<◌, ◌+◌, ◌-◌, ◌%◌, ◌||◌, ◌≤◌, ◌≢◌, min, ℕ, zero, suc, Bool, true, false, nat_lt, nat_eq, Option, Some, None, IfSome, List, ap, arith, length, refl, slice_get, sym}
+use Rattle.std.proofs.Common.{◌≡◌, ◌∙◌, ◌<◌, ◌+◌, ◌-◌, ◌%◌, ◌||◌, ◌≤◌, ◌≢◌, max, min, ℕ, zero, suc, Bool, true, false, nat_lt, nat_eq, Option, Some, None, IfSome, List, ap, arith, length, refl, slice_get, sym}
 use Rattle.std.proofs.Math.Nat.{mod-lt}
 use Rattle.std.specs.Option.{option_map_or}
 use Rattle.std.specs.Prelude.{if◌then◌else◌, slice_index_or}
@@ -17,21 +17,26 @@ use Rattle.mx_explorer.specs.Drawn.{IsDrawn, after_words, word}
 use Rattle.mx_cli.specs.declared.request.Conditions.{Conditions}
 use Rattle.mx_explore.specs.Walk.{Draw, Step, StepperState, act_by, acted, actor, byte_of, chosen, is_delivery, idle_by, is_empty, with_words, inside_by, is_ready_at, member_act, next_step, own_step, repeated, step_by, taken_up, without, ready_from, waiting_by}
 
-module _ (nodes registers : ℕ) where
-  abbrev Named : Option Event → Type 0
-  Named o = IfSome o (IsDrawn nodes registers)
-
-  either : (b : Bool) (x y : Draw) → Named x.0 → Named y.0 → Named (if b then x else y).0
+-- what holds of both holds of the one that is chosen
+module _ (P : Event → Type 0) where
+  pub either : (b : Bool) (x y : Draw) → IfSome x.0 P → IfSome y.0 P → IfSome (if b then x else y).0 P
   either true x y first second = first
   either false x y first second = second
 
-  either_event : (b : Bool) (x y : Option Event) → Named x → Named y → Named (if b then x else y)
+  pub either_event : (b : Bool) (x y : Option Event) → IfSome x P → IfSome y P → IfSome (if b then x else y) P
   either_event true x y first second = first
   either_event false x y first second = second
 
-  either_step : (b : Bool) (x y : Step) → Named x.event → Named y.event → Named (if b then x else y).event
+  pub either_step : (b : Bool) (x y : Step) → IfSome x.event P → IfSome y.event P → IfSome (if b then x else y).event P
   either_step true x y first second = first
   either_step false x y first second = second
+
+module _ (nodes registers : ℕ) where
+  abbrev Drawn : Event → Type 0
+  Drawn = IsDrawn nodes registers
+
+  abbrev Named : Option Event → Type 0
+  Named o = IfSome o Drawn
 
   either_node : (b : Bool) (i j : ℕ) → i < nodes → j < nodes → (if b then i else j) < nodes
   either_node true i j first second = first
@@ -40,22 +45,22 @@ module _ (nodes registers : ℕ) where
   module _ (n : 0 < nodes) (r : 0 < registers) where
     idle_named : (k i gapless : ℕ) (g : Lcg) → i < nodes → Named (idle_by k nodes i gapless g).0
     idle_named k i gapless g lt =
-        either (nat_lt k 2) _ _ lt (either (nat_eq k 2) _ _ (lt, mod-lt (word g) n) (either (nat_eq k 3) _ _ lt tt))
+        either Drawn (nat_lt k 2) _ _ lt (either Drawn (nat_eq k 2) _ _ (lt, mod-lt (word g) n) (either Drawn (nat_eq k 3) _ _ lt tt))
 
     waiting_named : (k i : ℕ) (may_enter is_calm : Bool) → i < nodes → Named (waiting_by k i may_enter is_calm)
     waiting_named k i may_enter is_calm lt =
-        either_event (nat_eq k 0) _ _ lt (either_event may_enter _ _ lt (either_event (nat_lt k 4 || is_calm) _ _ lt tt))
+        either_event Drawn (nat_eq k 0) _ _ lt (either_event Drawn may_enter _ _ lt (either_event Drawn (nat_lt k 4 || is_calm) _ _ lt tt))
 
-    inside_named : (k i : ℕ) (g : Lcg) → i < nodes → Named (inside_by k nodes registers i g).0
-    inside_named k i g lt =
-        either (nat_lt k 5) _ _ (lt, mod-lt (word g) r)
-        (either (nat_lt k 9) _ _ (lt, mod-lt (word g) r)
-        (either (nat_eq k 9) _ _ (lt, mod-lt (word g) n) lt))
+    inside_named : (k i : ℕ) (has_gap : Bool) (g : Lcg) → i < nodes → Named (inside_by k nodes registers i has_gap g).0
+    inside_named k i has_gap g lt =
+        either Drawn has_gap _ _ (lt, mod-lt (i + 1 + word g % max (nodes - 1) 1) n)
+        (either Drawn (nat_lt k 5) _ _ (lt, mod-lt (word g) r)
+        (either Drawn (nat_lt k 10) _ _ (lt, mod-lt (word g) r) lt))
 
-    act_named : (phase : Phase) (i gapless : ℕ) (may_enter is_calm : Bool) (g : Lcg) → i < nodes → Named (act_by phase nodes registers i gapless may_enter is_calm g).0
-    act_named Idle i gapless may_enter is_calm g lt = idle_named (word g % 16) i gapless (after_words 1 g) lt
-    act_named Waiting i gapless may_enter is_calm g lt = waiting_named (word g % 64) i may_enter is_calm lt
-    act_named (Inside k) i gapless may_enter is_calm g lt = inside_named (word g % 16) i (after_words 1 g) lt
+    act_named : (phase : Phase) (i gap : ℕ) (may_enter is_calm : Bool) (g : Lcg) → i < nodes → Named (act_by phase nodes registers i gap may_enter is_calm g).0
+    act_named Idle i gap may_enter is_calm g lt = idle_named (word g % 16) i (gap - 1) (after_words 1 g) lt
+    act_named Waiting i gap may_enter is_calm g lt = waiting_named (word g % 64) i may_enter is_calm lt
+    act_named (Inside k) i gap may_enter is_calm g lt = inside_named (word g % 16) i (nat_lt gap k) (after_words 1 g) lt
 
     module _ {H S M : Type 0} (core : Core H S M) where
       node_named : (o : Option (MemberState S)) (is_calm : Bool) (i : ℕ) (g : Lcg) → i < nodes
@@ -80,10 +85,10 @@ module _ (nodes registers : ℕ) where
       next_named conditions g w =
           let after = with_words (after_words 1 w.words) w in
           let k = word w.words in
-          either_step (nat_lt (byte_of k) conditions.repeat) _ _
-          (either_step (nat_eq w.seen 0) _ _ tt tt)
-          (either_step (is_delivery (k % 64) (is_empty w.flying)) _ _
-          (either_event (nat_lt (byte_of (word (after_words 1 after.words))) conditions.loss) _ _ tt tt)
+          either_step Drawn (nat_lt (byte_of k) conditions.repeat) _ _
+          (either_step Drawn (nat_eq w.seen 0) _ _ tt tt)
+          (either_step Drawn (is_delivery (k % 64) (is_empty w.flying)) _ _
+          (either_event Drawn (nat_lt (byte_of (word (after_words 1 after.words))) conditions.loss) _ _ tt tt)
           (acted_named g.members (is_empty w.flying) (k % 64) after.words))
 
 -- a choice that is known

@@ -14,7 +14,7 @@ use Rattle.mx_cli.specs.Printing.{IsWhole, Report}
 use Rattle.mx_scripts.specs.Files.{file_text}
 use Rattle.mx_scripts.specs.Played.{IsEventFile, events_of}
 use Rattle.mx_explore.specs.Runs.{after_run}
-use Rattle.mx_explore.specs.declared.runs.RandomRun.{RandomRun}
+use Rattle.mx_explore.specs.declared.random_run.RandomRun.{RandomRun}
 
 -- the events that happen in a run from the cluster of a plan, at rest
 abbrev pub drawn_events : Fields → RandomRun → Shape → List Event

@@ -1,5 +1,5 @@
 -- A walk: what happens next in a cluster, by the words (32-bit numbers) of a generator.
-use Rattle.std.specs.Prelude.{ℕ, zero, suc, ◌+◌, ◌-◌, ◌*◌, ◌/◌, ◌%◌, ◌&&◌, ◌||◌, Bool, false, not, List, [], ◌∷◌, ◌++◌, Option, Some, None, length, min, nat_eq, nat_lt, position, slice_get, slice_index_or, if◌then◌else◌}
+use Rattle.std.specs.Prelude.{ℕ, zero, suc, ◌+◌, ◌-◌, ◌*◌, ◌/◌, ◌%◌, ◌&&◌, ◌||◌, Bool, false, not, List, [], ◌∷◌, ◌++◌, Option, Some, None, length, max, min, nat_eq, nat_lt, position, slice_get, slice_index_or, if◌then◌else◌}
 use Rattle.std.specs.List.{range_with_len, swap_remove}
 use Rattle.std.specs.Option.{option_map_or}
 use Rattle.rand_pcg.specs.Lcg.{Lcg}
@@ -41,23 +41,29 @@ waiting_by n i may_enter is_calm =
     else if nat_lt n 4 || is_calm then Some (Tick i)
     else None
 
--- what a node inside does, by the number n: it reads, writes, wants a node's records, or leaves
-abbrev pub inside_by : ℕ → ℕ → ℕ → ℕ → Lcg → Draw
-inside_by n nodes registers i g =
-    if nat_lt n 5 then (Some (Read i (word g % registers)), after_words 1 g)
-    else if nat_lt n 9 then
+-- a node other than node i, by the number n; node i itself, if it is alone
+abbrev pub other_by : ℕ → ℕ → ℕ → ℕ
+other_by n nodes i = (i + 1 + n % max (nodes - 1) 1) % nodes
+
+-- what a node inside does, by the number n: while its journal lacks an earlier section, it wants
+-- another node's records; or else it reads, writes or leaves
+abbrev pub inside_by : ℕ → ℕ → ℕ → ℕ → Bool → Lcg → Draw
+inside_by n nodes registers i has_gap g =
+    if has_gap then (Some (Want i (other_by (word g) nodes i)), after_words 1 g)
+    else if nat_lt n 5 then (Some (Read i (word g % registers)), after_words 1 g)
+    else if nat_lt n 10 then
     (Some (Write i (word g % registers) (word (after_words 1 g) % 1000)), after_words 2 g)
-    else if nat_eq n 9 then (Some (Want i (word g % nodes)), after_words 1 g)
     else (Some (Leave i), g)
 
--- what a node does, by its phase and by a word of the generator
+-- what a node does, by its phase, by the first section that its journal lacks, and by a word of the
+-- generator
 abbrev pub act_by : Phase → ℕ → ℕ → ℕ → ℕ → Bool → Bool → Lcg → Draw
-act_by Idle nodes registers i gapless may_enter is_calm g =
-    idle_by (word g % 16) nodes i gapless (after_words 1 g)
-act_by Waiting nodes registers i gapless may_enter is_calm g =
+act_by Idle nodes registers i gap may_enter is_calm g =
+    idle_by (word g % 16) nodes i (gap - 1) (after_words 1 g)
+act_by Waiting nodes registers i gap may_enter is_calm g =
     (waiting_by (word g % 64) i may_enter is_calm, after_words 1 g)
-act_by (Inside n) nodes registers i gapless may_enter is_calm g =
-    inside_by (word g % 16) nodes registers i (after_words 1 g)
+act_by (Inside n) nodes registers i gap may_enter is_calm g =
+    inside_by (word g % 16) nodes registers i (nat_lt gap n) (after_words 1 g)
 
 -- ---- parcels
 
@@ -147,8 +153,8 @@ module _ {H S M : Type 0} (core : Core H S M) where
 
   abbrev pub member_act : ℕ → ℕ → Bool → ℕ → Lcg → MemberState S → Draw
   member_act nodes registers is_calm i g m =
-      act_by (core.phase m.core) nodes registers i (first_gap m.journal - 1)
-      (core.can_enter m.core) is_calm g
+      act_by (core.phase m.core) nodes registers i (first_gap m.journal) (core.can_enter m.core)
+      is_calm g
 
   abbrev pub node_act : List (MemberState S) → ℕ → ℕ → Bool → ℕ → Lcg → Draw
   node_act members nodes registers is_calm i g =

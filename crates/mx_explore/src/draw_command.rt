@@ -8,7 +8,7 @@ ghost use Rattle.mx_scripts.specs.Played.{IsEventFile, IsFileOf, events_of};
 ghost use Rattle.mx_explore.specs.Runs.{after_run, schedule_of};
 ghost use Rattle.mx_explore.specs.Drawn.{IsDraw, LeadsAs, drawn_events, drawn_file, parcels_in};
 
-use crate::runs::{RandomRun, run};
+use crate::random_run::{RandomRun, run};
 use mx_cli::{Command, Stop, print};
 use mx_commands::by_shape;
 use mx_io::Output;

@@ -4,7 +4,7 @@ ghost use Rattle.mx_format.specs.Parts.{word_by};
 ghost use Rattle.mx_cli.specs.Printing.{Prints, sight};
 ghost use Rattle.mx_explore.specs.Explored.{IsExplored, IsExploredBy, IsExploredFrom};
 
-use crate::runs::{RandomRun, run};
+use crate::random_run::{RandomRun, run};
 use mx_cli::{Command, Stop};
 use mx_commands::by_shape;
 use mx_count::{EventSource, Options, print_counts};

@@ -6,10 +6,10 @@
 mod draw_command;
 mod explore_command;
 mod own_actions;
-mod parcels;
-mod runs;
+mod random_run;
 mod stepper;
+mod under_way;
 
 pub use draw_command::{Draw, replays_as_explored};
 pub use explore_command::Explore;
-pub use runs::{RandomRun, run};
+pub use random_run::{RandomRun, run};

@@ -1,9 +1,9 @@
 //! What a node does by itself in a walk.
 
-ghost use Rattle.std.specs.Prelude.{◌≡◌, ◌≤◌, ◌<◌, ◌-◌, ◌%◌};
+ghost use Rattle.std.specs.Prelude.{◌≡◌, ◌≤◌, ◌<◌, ◌-◌, ◌%◌, nat_lt};
 ghost use Rattle.mx_member.specs.Member.{first_gap};
 ghost use Rattle.mx_explorer.specs.Drawn.{after_words, word};
-ghost use Rattle.mx_explore.specs.Walk.{acted, actor, idle_by, inside_by, is_ready, is_ready_at, member_act, node_act, ready_from, waiting_by};
+ghost use Rattle.mx_explore.specs.Walk.{acted, actor, idle_by, inside_by, is_ready, is_ready_at, member_act, node_act, other_by, ready_from, waiting_by};
 
 use mx_explorer::{draw_below, draw_node};
 use mx_journal::Journal;
@@ -90,7 +90,10 @@ fn act_as<C: Exclusion>(
     match member.phase() {
         Phase::Idle => be_idle(words, nodes, node, gapless_to(member.journal())),
         Phase::Waiting => wait(words, node, member.can_enter(), is_calm),
-        Phase::Inside(_) => be_inside(words, nodes, registers, node),
+        Phase::Inside(number) => {
+            let has_gap = has_gap_below(member.journal(), number);
+            be_inside(words, nodes, registers, node, has_gap)
+        }
     }
 }
 
@@ -143,40 +146,68 @@ fn wait(words: &mut Pcg32, node: NodeId, may_enter: bool, is_calm: bool) -> Opti
     }
 }
 
-fn be_inside(words: &mut Pcg32, nodes: u8, registers: u8, node: NodeId) -> Option<Event>
-    requires nodes { (0 < nodes) × (nodes ≤ MAX_NODES) }
-    requires registers { 0 < registers }
-    ensures event { result
-        ≡ (inside_by (word words.old % 16) nodes registers node (after_words 1 words.old)).0 }
-    ensures next { words.new
-        ≡ (inside_by (word words.old % 16) nodes registers node (after_words 1 words.old)).1 }
+/// Returns whether the journal lacks a section before this one, so that a read would be refused.
+fn has_gap_below(journal: &Journal, section: u64) -> bool
+    requires { 0 < section }
+    ensures { result ≡ nat_lt (first_gap journal.now) section }
 {
-    let number = words.next_word() % 16;
-    inside_by(number, words, nodes, registers, node)
+    journal.gapless_to() < section - 1
 }
 
+fn be_inside(
+    words: &mut Pcg32,
+    nodes: u8,
+    registers: u8,
+    node: NodeId,
+    has_gap: bool,
+) -> Option<Event>
+    requires nodes { (0 < nodes) × (nodes ≤ MAX_NODES) }
+    requires registers { 0 < registers }
+    ensures event { result ≡ (inside_by (word words.old % 16) nodes
+        registers node has_gap (after_words 1 words.old)).0 }
+    ensures next { words.new ≡ (inside_by (word words.old % 16) nodes
+        registers node has_gap (after_words 1 words.old)).1 }
+{
+    let number = words.next_word() % 16;
+    inside_by(number, words, nodes, registers, node, has_gap)
+}
+
+/// Returns the event of a node inside. A node that lacks an earlier section wants it from another;
+/// else `number` (0 to 15) says what it does.
 fn inside_by(
     number: u32,
     words: &mut Pcg32,
     nodes: u8,
     registers: u8,
     node: NodeId,
+    has_gap: bool,
 ) -> Option<Event>
     requires nodes { (0 < nodes) × (nodes ≤ MAX_NODES) }
     requires registers { 0 < registers }
-    ensures event { result ≡ (inside_by number nodes registers node words.old).0 }
-    ensures next { words.new ≡ (inside_by number nodes registers node words.old).1 }
+    ensures event { result ≡ (inside_by number nodes registers node has_gap words.old).0 }
+    ensures next { words.new ≡ (inside_by number nodes registers node has_gap words.old).1 }
 {
-    if number < 5 {
+    if has_gap {
+        Some(Event::Want(node, draw_other(words, nodes, node)))
+    } else if number < 5 {
         Some(Event::Read(node, draw_below(words, registers)))
-    } else if number < 9 {
+    } else if number < 10 {
         let register = draw_below(words, registers);
         Some(Event::Write(node, register, u64::from(words.next_word() % 1000)))
-    } else if number == 9 {
-        Some(Event::Want(node, draw_node(words, nodes)))
     } else {
         Some(Event::Leave(node))
     }
+}
+
+/// Draws a node other than `node` by the next word. A node alone draws itself.
+fn draw_other(words: &mut Pcg32, nodes: u8, node: NodeId) -> NodeId
+    requires { (0 < nodes) × (nodes ≤ MAX_NODES) }
+    ensures value { result ≡ other_by (word words.old) nodes node }
+    ensures next { words.new ≡ after_words 1 words.old }
+{
+    let others = (nodes - 1).max(1);
+    let place = draw_below(words, others);
+    node_at((node.get() + 1 + place) % nodes)
 }
 
 fn ready_or<C: Exclusion>(nodes: u8, cluster: &Cluster<C>, any: NodeId) -> NodeId

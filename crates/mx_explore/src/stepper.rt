@@ -5,7 +5,7 @@ ghost use Rattle.mx_explore.specs.Runs.{next_of, walk_step};
 ghost use Rattle.mx_explore.specs.Walk.{at_first, byte_of, chosen, is_delivery, is_empty, looked, next_step, repeated, state_of, taken_up};
 
 use crate::own_actions::act;
-use crate::parcels::{drawn_of, is_empty, oldest_beside, put_new, take};
+use crate::under_way::{drawn_of, is_empty, oldest_beside, put_new, take};
 use mx_cli::Conditions;
 use mx_explorer::{draw, place};
 use mx_network::{Cluster, Event};

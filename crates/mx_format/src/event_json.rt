@@ -59,12 +59,7 @@ fn add_rest(plan: &Plan, event: &Event, text: &mut String) -> Result<(), AllocEr
         Event::Settle(_, upto) => add_number("upto", *upto, text),
         Event::Want(_, other) => add_node_name(plan, "from", *other, text),
         Event::Deliver(number) => add_number("parcel", *number, text),
-        Event::Ask(_)
-        | Event::Enter(_)
-        | Event::Leave(_)
-        | Event::Cancel(_)
-        | Event::Tick(_)
-        | Event::Restart(_) => Ok(()),
+        _ => Ok(()),
     }
 }
 

@@ -16,13 +16,9 @@ IsForJob n act.Ask = Unit {0}
 IsForJob n act.Enter = Unit {0}
 IsForJob n (act.Read register) = Unit {0}
 IsForJob n (act.Write register value) = Unit {0}
-IsForJob n act.Leave = ⊥
-IsForJob n act.Cancel = ⊥
-IsForJob n (act.Settle k) = ⊥
-IsForJob n act.Tick = ⊥
 IsForJob n (act.Want to) = to < n
-IsForJob n (act.Deliver from p) = ⊥
 IsForJob n act.Restart = Unit {0}
+IsForJob n _ = ⊥
 
 module _ {H S M : Type 0} (core : Core H S M) where
   -- some acts for a job, one after another, lead from s to t

@@ -8,6 +8,7 @@ use Rattle.mx_plan.specs.Text.{Text}
 use Rattle.mx_plan.specs.Fields.{Fields}
 use Rattle.mx_plan.specs.Values.{value_of}
 use Rattle.mx_judge.specs.Entries.{item_of}
+use Rattle.mx_judge.specs.Listed.{Listed}
 use Rattle.mx_judge.specs.Traces.{Answers, Gives, Refuses, entries_from, go_on, is_blank, line_item, with_item}
 use Rattle.mx_judge.specs.declared.faults.ItemFault.{ItemFault}
 use Rattle.mx_judge.specs.declared.faults.ItemFault.TheVariants as item
@@ -26,49 +27,49 @@ line_unread p line fault marked (inl memory) = inr (ap Err memory)
 line_unread p line fault marked (inr none) = inl (rw (marked, none.1) (ap Err none.0))
 
 module _ {X A : Type 0} (view : X → A) (item : A → Result (Option Entry) ItemFault) (name : ℕ → ItemFault → TraceFault) (xs : List X) where
-  -- these entries, and those of the items from the k-th on
-  abbrev pub rest : List Entry → ℕ → Result (List Entry) TraceFault
-  rest entries k = entries_from name entries (k + 1) (map item (map view (drop k xs)))
+  -- this trace, and the entries of the items from the k-th on
+  abbrev pub rest : Listed → ℕ → Result Listed TraceFault
+  rest t k = entries_from name t (k + 1) (map item (map view (drop k xs)))
 
-  rest_one : (entries : List Entry) (k : ℕ) (d : X) → k < length xs
-      → rest entries k ≡ go_on name (k + 1) (with_item entries (item (view (get_or xs k d)))) (λ more. rest more (k + 1))
+  rest_one : (t : Listed) (k : ℕ) (d : X) → k < length xs
+      → rest t k ≡ go_on name (k + 1) (with_item (k + 1) t (item (view (get_or xs k d)))) (λ more. rest more (k + 1))
   unfolding entries_from
-  rest_one entries k d h =
-      ap (λ l. entries_from name entries (k + 1) (map item (map view l))) (drop-cons xs k d h ∙ ap (λ n. get_or xs k d ∷ drop n xs) (sym (add-one k)))
+  rest_one t k d h =
+      ap (λ l. entries_from name t (k + 1) (map item (map view l))) (drop-cons xs k d h ∙ ap (λ n. get_or xs k d ∷ drop n xs) (sym (add-one k)))
 
-  pub rest_ok : (entries more : List Entry) (k : ℕ) (d : X) → k < length xs
-      → with_item entries (item (view (get_or xs k d))) ≡ Ok more → rest entries k ≡ rest more (k + 1)
-  rest_ok entries more k d h is =
-      rest_one entries k d h ∙ ap (λ r. go_on name (k + 1) r (λ l. rest l (k + 1))) is
+  pub rest_ok : (t more : Listed) (k : ℕ) (d : X) → k < length xs
+      → with_item (k + 1) t (item (view (get_or xs k d))) ≡ Ok more → rest t k ≡ rest more (k + 1)
+  rest_ok t more k d h is =
+      rest_one t k d h ∙ ap (λ r. go_on name (k + 1) r (λ l. rest l (k + 1))) is
 
-  pub rest_err : (entries : List Entry) (k : ℕ) (d : X) (fault : ItemFault) → k < length xs
-      → with_item entries (item (view (get_or xs k d))) ≡ Err fault → rest entries k ≡ Err (name (k + 1) fault)
-  rest_err entries k d fault h is =
-      rest_one entries k d h ∙ ap (λ r. go_on name (k + 1) r (λ l. rest l (k + 1))) is
+  pub rest_err : (t : Listed) (k : ℕ) (d : X) (fault : ItemFault) → k < length xs
+      → with_item (k + 1) t (item (view (get_or xs k d))) ≡ Err fault → rest t k ≡ Err (name (k + 1) fault)
+  rest_err t k d fault h is =
+      rest_one t k d h ∙ ap (λ r. go_on name (k + 1) r (λ l. rest l (k + 1))) is
 
-  pub rest_end : (entries : List Entry) (k : ℕ) → length xs ≤ k → rest entries k ≡ Ok entries
+  pub rest_end : (t : Listed) (k : ℕ) → length xs ≤ k → rest t k ≡ Ok t
   unfolding entries_from
-  rest_end entries k h = ap (λ l. entries_from name entries (k + 1) (map item (map view l))) (drop_all k xs h)
+  rest_end t k h = ap (λ l. entries_from name t (k + 1) (map item (map view l))) (drop_all k xs h)
 
 -- a fault of an item is that of the trace, unless memory ran out
-pub gives_refused : (name : ℕ → ItemFault → TraceFault) (k : ℕ) (wanted : Result (List Entry) TraceFault) (found : Result (List Entry) ItemFault) (fault : ItemFault)
+pub gives_refused : (name : ℕ → ItemFault → TraceFault) (k : ℕ) (wanted : Result Listed TraceFault) (found : Result Listed ItemFault) (fault : ItemFault)
     → name k item.Memory ≡ Memory → ((e : ItemFault) → found ≡ Err e → wanted ≡ Err (name k e)) → Refuses found fault → Gives wanted (Err (name k fault))
 gives_refused name k wanted found fault memory named (inl is) = inl (named fault is)
 gives_refused name k wanted found fault memory named (inr is) = inr (ap (name k) is ∙ memory)
 
 -- ---- an item that is read, unless memory runs out
 
-no_memory : (entries more : List Entry) (read : Result (Option Entry) ItemFault) → read ≡ Err item.Memory → with_item entries read ≡ Ok more → ⊥
-no_memory entries more read is added =
-    let refused : with_item entries read ≡ Err item.Memory = ap (with_item entries) is in cc
+no_memory : (k : ℕ) (t more : Listed) (read : Result (Option Entry) ItemFault) → read ≡ Err item.Memory → with_item k t read ≡ Ok more → ⊥
+no_memory k t more read is added =
+    let refused : with_item k t read ≡ Err item.Memory = ap (with_item k t) is in cc
 
-pub added : (entries more : List Entry) (read wanted : Result (Option Entry) ItemFault) → Answers wanted read → with_item entries read ≡ Ok more → with_item entries wanted ≡ Ok more
-added entries more read wanted (inl is) h = subst (λ (r : Result (Option Entry) ItemFault). with_item entries r ≡ Ok more) is h
-added entries more read wanted (inr is) h = absurd (no_memory entries more read is h)
+pub added : (k : ℕ) (t more : Listed) (read wanted : Result (Option Entry) ItemFault) → Answers wanted read → with_item k t read ≡ Ok more → with_item k t wanted ≡ Ok more
+added k t more read wanted (inl is) h = subst (λ (r : Result (Option Entry) ItemFault). with_item k t r ≡ Ok more) is h
+added k t more read wanted (inr is) h = absurd (no_memory k t more read is h)
 
-pub refused : (entries : List Entry) (read wanted : Result (Option Entry) ItemFault) (fault : ItemFault) → Answers wanted read → Refuses (with_item entries read) fault → Refuses (with_item entries wanted) fault
-refused entries read wanted fault (inl is) h = subst (λ (r : Result (Option Entry) ItemFault). Refuses (with_item entries r) fault) is h
-refused entries read wanted fault (inr is) (inr h) = inr h
-refused entries read wanted fault (inr is) (inl h) =
-    let out : with_item entries read ≡ Err item.Memory = ap (with_item entries) is in
+pub refused : (k : ℕ) (t : Listed) (read wanted : Result (Option Entry) ItemFault) (fault : ItemFault) → Answers wanted read → Refuses (with_item k t read) fault → Refuses (with_item k t wanted) fault
+refused k t read wanted fault (inl is) h = subst (λ (r : Result (Option Entry) ItemFault). Refuses (with_item k t r) fault) is h
+refused k t read wanted fault (inr is) (inr h) = inr h
+refused k t read wanted fault (inr is) (inl h) =
+    let out : with_item k t read ≡ Err item.Memory = ap (with_item k t) is in
     inr (let e = sym h ∙ out in cc)

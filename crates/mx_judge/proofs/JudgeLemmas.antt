@@ -1,32 +1,49 @@
 -- What `judge` prints, from what it reads.
-use Rattle.std.proofs.Common.{◌≡◌, ◌⊎◌, ℕ, List, Result, Ok, Err, ap, inl, inr, refl, subst, sym}
+use Rattle.std.proofs.Common.{◌≡◌, ◌⊎◌, ◌≤◌, ◌++◌, ℕ, Bool, List, [], OnOk, append_assoc, length, slice_get, take, Option, Some, Result, Ok, Err, ap, inl, inr, refl, subst, sym, ◌∙◌}
+use Rattle.std.specs.Option.{option_map_or}
+use Rattle.std.proofs.lemmas.Option.{slice_get_past}
 use Rattle.mx_plan.specs.Text.{Text}
 use Rattle.mx_plan.specs.Fields.{Fields}
 use Rattle.mx_trace.specs.declared.outcome.Entry.{Entry}
-use Rattle.mx_explorer.specs.declared.verdict.Verdict.{Verdict}
-use Rattle.mx_commands.specs.VerdictLines.{verdict_status}
-use Rattle.mx_commands.specs.VerdictLines.{verdict_line}
-use Rattle.mx_cli.specs.Printing.{IsStopWith, Prints, Sight, ends, has_line, whole}
+use Rattle.mx_explorer.specs.declared.verdict.Clause.{Clause}
+use Rattle.mx_cli.specs.Printing.{IsStopWith, Prints, Report, Sight, ends, has_line}
 use Rattle.mx_cli.specs.declared.stop.Stop.{Stop}
 use Rattle.mx_cli.specs.declared.stop.Stop.TheVariants as stop
 use Rattle.mx_cli.proofs.FrameLemmas.{line_prints, memory_prints}
 use Rattle.mx_judge.specs.Faults.{trace_line}
-use Rattle.mx_judge.specs.Judged.{IsJudged, IsJudgement, IsVerdictOf}
+use Rattle.mx_judge.specs.Judged.{IsJudged, IsJudgement, place_word}
+use Rattle.mx_judge.specs.Listed.{Listed}
+use Rattle.mx_judge.specs.Reasons.{reason_at, reason_of}
 use Rattle.mx_judge.specs.Traces.{trace_at}
 use Rattle.mx_judge.specs.declared.faults.TraceFault.{TraceFault}
 use Rattle.mx_judge.specs.declared.faults.TraceFault.TheVariants as fault
 
-module _ (p : Fields) (text : Text) where
-  -- the verdict on a trace that was read
-  pub is_judgement : (trace : List Entry) (verdict : Verdict) (status : ℕ) → trace_at p text ≡ Ok trace → IsVerdictOf trace verdict → status ≡ verdict_status verdict
-      → IsJudgement p text (whole (verdict_line verdict) status)
-  is_judgement trace verdict status read is same =
-      subst (λ (t : Result (List Entry) TraceFault). IsJudged t (whole (verdict_line verdict) status)) (sym read) (verdict, is, ap (whole (verdict_line verdict)) same)
+-- one text after another
+pub both_written : {T E : Type 0} (t t1 t2 a b : Text) (r : Result T E) → t1 ≡ t ++ a → OnOk r (t2 ≡ t1 ++ b) → OnOk r (t2 ≡ t ++ (a ++ b))
+both_written t t1 t2 a b (Ok u) first second = second ∙ ap (λ (x : Text). x ++ b) first ∙ append_assoc t a b
+both_written t t1 t2 a b (Err e) first second = tt
+
+-- the reason of an entry that is there, and of one past the end
+pub reason_here : (p : Fields) (trace before : List Entry) (k : ℕ) (e : Entry) (broken : Clause) → slice_get trace k ≡ Some e → before ≡ take k trace
+    → reason_of p before e broken ≡ reason_at p trace k broken
+reason_here p trace before k e broken here is =
+    ap (λ (b : List Entry). reason_of p b e broken) is
+    ∙ sym (ap (λ (o : Option Entry). option_map_or (λ (x : Entry). reason_of p (take k trace) x broken) o []) here)
+
+pub reason_past : (p : Fields) (trace : List Entry) (k : ℕ) (broken : Clause) → length trace ≤ k → reason_at p trace k broken ≡ []
+reason_past p trace k broken past =
+    ap (λ (o : Option Entry). option_map_or (λ (x : Entry). reason_of p (take k trace) x broken) o []) (slice_get_past trace k past)
+
+module _ (j : Bool) (p : Fields) (text : Text) where
+  -- a report on the trace that was read
+  pub judged_read : (word : Text) (t : Listed) → trace_at p text ≡ Ok t → word ≡ place_word text → (r : Report) → IsJudged j p word (Ok t) r → IsJudgement j p text r
+  judged_read word t read same r h =
+      subst (λ (x : Result Listed TraceFault). IsJudged j p (place_word text) x r) (sym read) (subst (λ (w : Text). IsJudged j p w (Ok t) r) same h)
 
   -- a text that lists no trace
   pub stops : (bad : TraceFault) (o : Sight) (s : Stop) → (trace_at p text ≡ Err bad) ⊎ (bad ≡ fault.Memory) → IsStopWith (trace_line bad) s → (bad ≡ fault.Memory → s ≡ stop.Memory)
-      → Prints (IsJudgement p text) o o (Err s)
+      → Prints (IsJudgement j p text) o o (Err s)
   stops bad o s (inl read) line memory =
-      line_prints (IsJudgement p text) (trace_line bad) o s
-      (subst (λ (t : Result (List Entry) TraceFault). IsJudged t (ends (has_line (trace_line bad)))) (sym read) refl) line
-  stops bad o s (inr out) line memory = rw (memory out) (memory_prints (IsJudgement p text) o)
+      line_prints (IsJudgement j p text) (trace_line bad) o s
+      (subst (λ (t : Result Listed TraceFault). IsJudged j p (place_word text) t (ends (has_line (trace_line bad)))) (sym read) refl) line
+  stops bad o s (inr out) line memory = rw (memory out) (memory_prints (IsJudgement j p text) o)

@@ -1,3 +1,5 @@
 mod ItemLemmas
 mod LineLemmas
+mod SceneLemmas
+mod ReachLemmas
 mod JudgeLemmas

@@ -8,8 +8,8 @@ use Rattle.std.proofs.lemmas.List.Sums.{prefix_len-le-length}
 use Rattle.std.proofs.lemmas.List.Splits.{slice_split-cons_no, slice_split_first}
 use Rattle.mx_plan.specs.Text.{Text}
 use Rattle.mx_plan.specs.Fields.{Fields}
-use Rattle.mx_trace.specs.declared.outcome.Entry.{Entry}
 use Rattle.mx_judge.specs.Faults.{line_fault}
+use Rattle.mx_judge.specs.Listed.{Listed}
 use Rattle.mx_judge.specs.Traces.{entries_from, go_on, line_item, lines_of, with_item}
 use Rattle.mx_judge.specs.declared.faults.ItemFault.{ItemFault}
 use Rattle.mx_judge.specs.declared.faults.TraceFault.{TraceFault}
@@ -59,34 +59,34 @@ first_line text =
 pub less_after : (text : Text) → length (before_first is_feed text) < length text → length (after_first is_feed text) < length text
 less_after text h = omega (arith, h, length-drop (position_or_len is_feed text + 1) text)
 
-module _ (p : Fields) (entries : List Entry) (k : ℕ) (rest : Text) where
-  -- these entries, and those of the lines of the rest
-  abbrev pub from_lines : Result (List Entry) TraceFault
-  from_lines = entries_from line_fault entries k (map (line_item p) (lines_of rest))
+module _ (p : Fields) (t : Listed) (k : ℕ) (rest : Text) where
+  -- this trace, and the entries of the lines of the rest
+  abbrev pub from_lines : Result Listed TraceFault
+  from_lines = entries_from line_fault t k (map (line_item p) (lines_of rest))
 
   of_lines : (line : Text) (others : List Text) → lines_of rest ≡ line ∷ others
-      → from_lines ≡ go_on line_fault k (with_item entries (line_item p line)) (λ more. entries_from line_fault more (k + 1) (map (line_item p) others))
+      → from_lines ≡ go_on line_fault k (with_item k t (line_item p line)) (λ more. entries_from line_fault more (k + 1) (map (line_item p) others))
   unfolding entries_from
-  of_lines line others are = ap (λ ls. entries_from line_fault entries k (map (line_item p) ls)) are
+  of_lines line others are = ap (λ ls. entries_from line_fault t k (map (line_item p) ls)) are
 
   -- a line that is a fault ends it
-  pub line_refused : (fault : ItemFault) → with_item entries (line_item p (before_first is_feed rest)) ≡ Err fault → from_lines ≡ Err (line_fault k fault)
+  pub line_refused : (fault : ItemFault) → with_item k t (line_item p (before_first is_feed rest)) ≡ Err fault → from_lines ≡ Err (line_fault k fault)
   line_refused fault is =
       let first = first_line rest in
       of_lines (before_first is_feed rest) first.0 first.1
       ∙ ap (λ r. go_on line_fault k r (λ more. entries_from line_fault more (k + 1) (map (line_item p) first.0))) is
 
   -- the last line
-  pub lines_end : (more : List Entry) → length (before_first is_feed rest) ≡ length rest
-      → with_item entries (line_item p (before_first is_feed rest)) ≡ Ok more → from_lines ≡ Ok more
+  pub lines_end : (more : Listed) → length (before_first is_feed rest) ≡ length rest
+      → with_item k t (line_item p (before_first is_feed rest)) ≡ Ok more → from_lines ≡ Ok more
   unfolding entries_from
   lines_end more same is =
       of_lines (before_first is_feed rest) [] (last_line rest same)
       ∙ ap (λ r. go_on line_fault k r (λ l. entries_from line_fault l (k + 1) [])) is
 
 -- a line that is followed by others
-pub lines_go_on : (p : Fields) (entries more : List Entry) (k : ℕ) (rest : Text) → length (before_first is_feed rest) < length rest
-    → with_item entries (line_item p (before_first is_feed rest)) ≡ Ok more → from_lines p entries k rest ≡ from_lines p more (k + 1) (after_first is_feed rest)
-lines_go_on p entries more k rest less is =
-    of_lines p entries k rest (before_first is_feed rest) (lines_of (after_first is_feed rest)) (more_lines rest less)
+pub lines_go_on : (p : Fields) (t more : Listed) (k : ℕ) (rest : Text) → length (before_first is_feed rest) < length rest
+    → with_item k t (line_item p (before_first is_feed rest)) ≡ Ok more → from_lines p t k rest ≡ from_lines p more (k + 1) (after_first is_feed rest)
+lines_go_on p t more k rest less is =
+    of_lines p t k rest (before_first is_feed rest) (lines_of (after_first is_feed rest)) (more_lines rest less)
     ∙ ap (λ r. go_on line_fault k r (λ l. entries_from line_fault l (k + 1) (map (line_item p) (lines_of (after_first is_feed rest))))) is

@@ -1,8 +1,10 @@
 -- The entry in an object: an event with its outcome.
-use Rattle.std.specs.Prelude.{◌||◌, List, [], ◌∷◌, Bool, Option, Some, None, Result, Ok, Err, codes, if◌then◌else◌}
+use Rattle.std.specs.Prelude.{◌||◌, List, [], ◌∷◌, Bool, Option, Some, None, Result, Ok, Err, codes, is_some, if◌then◌else◌}
 use Rattle.std.specs.Option.{ok_or, option_map_or}
 use Rattle.serde_json.specs.Data.{Data}
 use Rattle.mx_plan.specs.Fields.{Fields, node_of, register_of}
+use Rattle.mx_plan.specs.Text.{Text}
+use Rattle.mx_plan.specs.Values.{list_in, text_of}
 use Rattle.mx_events.specs.Arguments.{arguments_of, event_of}
 use Rattle.mx_events.specs.Words.{kind_named}
 use Rattle.mx_events.specs.declared.argument.Argument.{Argument}
@@ -17,12 +19,21 @@ use Rattle.mx_judge.specs.Outcomes.{outcome_of}
 use Rattle.mx_judge.specs.declared.members.Member.{Member}
 use Rattle.mx_judge.specs.declared.members.Member.TheVariants as member
 use Rattle.mx_judge.specs.declared.faults.ItemFault.{ItemFault}
-use Rattle.mx_judge.specs.declared.faults.ItemFault.TheVariants.{NotEvent, Wrong}
+use Rattle.mx_judge.specs.declared.faults.ItemFault.TheVariants.{NoOutcome, NotEvent, Wrong}
 
 -- the object is that of a parcel, a node or a verdict; it is passed over if it has no `act`
 abbrev pub is_passed_over : Data → Bool
 is_passed_over d =
     has_member (codes "kind") d || has_member (codes "phase") d || has_member (codes "verdict") d
+
+-- the text of the first item; empty, if there is none or it is not a text
+abbrev pub first_text : List Data → Text
+first_text [] = []
+first_text (d ∷ ds) = text_of d
+
+-- the value is an array that begins with the word of an event, as an item of a file of events
+abbrev pub is_bare_event : Data → Bool
+is_bare_event d = is_some (kind_named (first_text (list_in d)))
 
 abbrev pub event_by : EventKind → List Argument → Result Event ItemFault
 event_by kind arguments = ok_or (event_of kind arguments) (Wrong member.Act)
@@ -66,4 +77,5 @@ module _ (p : Fields) (d : Data) where
   item_of =
       if has_member (codes "act") d then and_then entry_of (λ entry. Ok (Some entry))
       else if is_passed_over d then Ok None
+      else if is_bare_event d then Err NoOutcome
       else Err NotEvent

@@ -1,9 +1,15 @@
 -- Members: the members of an event's object. Faults: the faults of a trace, and the line for each.
--- Outcomes, Entries: the outcome and the entry in an object. Traces: the trace in a text.
--- Judged: what is printed.
+-- Outcomes, Entries: the outcome and the entry in an object. Listed: a trace with the places of its
+-- entries. Traces: the trace in a text. Scenes: what the sections before an event say of it.
+-- Reasons: why an event breaks a rule, in words. EntryJson: entries as JSON. Judged: what is
+-- printed.
 pub mod Members
 pub mod Faults
 pub mod Outcomes
 pub mod Entries
+pub mod Listed
 pub mod Traces
+pub mod Scenes
+pub mod Reasons
+pub mod EntryJson
 pub mod Judged

@@ -13,10 +13,10 @@ use Rattle.mx_trace.specs.declared.outcome.Cause.{Cause}
 use Rattle.mx_trace.specs.declared.outcome.Cause.TheVariants.{NotIdle, StampsSpent, NotWaiting, NotGranted, NumbersSpent, NotInside, NoRegister, Gap, Full, Below}
 use Rattle.mx_trace.specs.declared.outcome.Outcome.{Outcome}
 use Rattle.mx_trace.specs.declared.outcome.Outcome.TheVariants.{Asked, Entered, Value, Written, Left, Cancelled, Settled, Sent, Delivered, Woken, Refused}
-use Rattle.mx_judge.specs.Members.{and_then, number_at, text_at}
+use Rattle.mx_judge.specs.Members.{and_then, has_member, number_at, text_at}
 use Rattle.mx_judge.specs.declared.members.Member.TheVariants as member
 use Rattle.mx_judge.specs.declared.faults.ItemFault.{ItemFault}
-use Rattle.mx_judge.specs.declared.faults.ItemFault.TheVariants.{Wrong}
+use Rattle.mx_judge.specs.declared.faults.ItemFault.TheVariants.{NoOutcome, Wrong}
 
 -- the first word of the outcome of an event that was not refused
 abbrev pub word_of_done : EventKind → Text
@@ -76,9 +76,11 @@ cause_in d = cause_named d (text_at member.Cause d)
 abbrev pub refusal : Data → Result Outcome ItemFault
 refusal d = and_then (cause_in d) (λ cause. Ok (Refused cause))
 
--- the outcome of an event: a refusal, or an outcome that its act can have
+-- the outcome of an event: a refusal, or an outcome that its act can have; a fault, if it has none or
+-- another
 abbrev pub outcome_of : Event → Data → Result Outcome ItemFault
 outcome_of event d =
     if bytes_eq (text_at member.Outcome d) (codes "refused") then refusal d
     else if bytes_eq (text_at member.Outcome d) (word_of_done (kind_of event)) then done event d
-    else Err (Wrong member.Outcome)
+    else if has_member (codes "outcome") d then Err (Wrong member.Outcome)
+    else Err NoOutcome

@@ -1,19 +1,22 @@
 -- The trace in a text.
-use Rattle.std.specs.Prelude.{◌≡◌, ◌⊎◌, ◌||◌, ◌==◌, ◌+◌, ◌++◌, ℕ, List, [], ◌∷◌, Bool, false, not, length, map, nat_lt, if◌then◌else◌, Option, Some, None, Result, Ok, Err, Vec}
+use Rattle.std.specs.Prelude.{◌≡◌, ◌⊎◌, ◌||◌, ◌&&◌, ◌==◌, ◌+◌, ◌++◌, ℕ, List, [], ◌∷◌, Bool, false, not, length, map, nat_lt, codes, if◌then◌else◌, Option, Some, None, Result, Ok, Err}
 use Rattle.std.specs.List.{find, list_all, slice_split}
 use Rattle.std.specs.Option.{option_map_or}
-use Rattle.std.specs.declared.alloc.Global.{Global}
+use Rattle.serde_json.specs.Data.{Data}
 use Rattle.mx_plan.specs.Text.{Text}
 use Rattle.mx_plan.specs.Fields.{Fields}
 use Rattle.mx_plan.specs.Values.{list_in, value_of}
 use Rattle.mx_stamps.specs.declared.limits.TheConstants.{MAX_EVENTS}
 use Rattle.mx_trace.specs.declared.outcome.Entry.{Entry}
-use Rattle.mx_judge.specs.Entries.{item_of}
+use Rattle.mx_judge.specs.Entries.{is_passed_over, item_of}
 use Rattle.mx_judge.specs.Faults.{line_fault, list_fault}
+use Rattle.mx_judge.specs.Listed.{Listed, listed, nothing}
+use Rattle.mx_judge.specs.Members.{has_member}
 use Rattle.mx_judge.specs.declared.faults.ItemFault.{ItemFault}
 use Rattle.mx_judge.specs.declared.faults.ItemFault.TheVariants as item
 use Rattle.mx_judge.specs.declared.faults.TraceFault.{TraceFault}
-use Rattle.mx_judge.specs.declared.faults.TraceFault.TheVariants.{NotJson, Memory}
+use Rattle.mx_judge.specs.declared.faults.TraceFault.TheVariants.{NotJson, Plan, Memory}
+use Rattle.mx_judge.specs.declared.trace.Trace.{Trace}
 
 -- the result is `wanted`, or memory ran out
 abbrev pub Answers : {T : Type 0} → Result T ItemFault → Result T ItemFault → Type 0
@@ -23,9 +26,9 @@ Answers wanted r = (r ≡ wanted) ⊎ (r ≡ Err item.Memory)
 abbrev pub Refuses : {T : Type 0} → Result T ItemFault → ItemFault → Type 0
 Refuses wanted fault = (wanted ≡ Err fault) ⊎ (fault ≡ item.Memory)
 
--- the result has the entries or the fault that are wanted, or memory ran out
-abbrev pub Gives : Result (List Entry) TraceFault → Result (Vec Entry Global) TraceFault → Type 0
-Gives wanted (Ok entries) = wanted ≡ Ok entries.items
+-- the result has the trace or the fault that is wanted, or memory ran out
+abbrev pub Gives : Result Listed TraceFault → Result Trace TraceFault → Type 0
+Gives wanted (Ok trace) = wanted ≡ Ok (listed trace)
 Gives wanted (Err fault) = (wanted ≡ Err fault) ⊎ (fault ≡ Memory)
 
 -- a space, a tab, a line feed or a carriage return
@@ -38,40 +41,46 @@ line_item p line =
     if list_all is_blank line then Ok None
     else option_map_or (item_of p) (value_of line) (Err item.NotJson)
 
--- these entries, and then the entry of an item, if it has one; a fault, if there are too many
-abbrev pub with_entry : List Entry → Option Entry → Result (List Entry) ItemFault
-with_entry entries None = Ok entries
-with_entry entries (Some entry) =
-    if nat_lt (length entries) MAX_EVENTS then Ok (entries ++ entry ∷ []) else Err item.TooMany
+-- this trace, with the entry of the k-th line or item after it
+abbrev pub with_one : ℕ → Listed → Entry → Listed
+with_one k t entry =
+    record { entries = t.entries ++ entry ∷ []; places = t.places ++ k ∷ [] }
 
-abbrev pub with_item : List Entry → Result (Option Entry) ItemFault → Result (List Entry) ItemFault
-with_item entries (Ok entry) = with_entry entries entry
-with_item entries (Err fault) = Err fault
+-- this trace, and then the entry of the k-th line or item, if it has one; a fault, if there are too
+-- many
+abbrev pub with_entry : ℕ → Listed → Option Entry → Result Listed ItemFault
+with_entry k t None = Ok t
+with_entry k t (Some entry) =
+    if nat_lt (length t.entries) MAX_EVENTS then Ok (with_one k t entry) else Err item.TooMany
+
+abbrev pub with_item : ℕ → Listed → Result (Option Entry) ItemFault → Result Listed ItemFault
+with_item k t (Ok entry) = with_entry k t entry
+with_item k t (Err fault) = Err fault
 
 -- continues if the k-th item had no fault; otherwise returns the fault with this number
-abbrev pub go_on : (ℕ → ItemFault → TraceFault) → ℕ → Result (List Entry) ItemFault
-    → (List Entry → Result (List Entry) TraceFault) → Result (List Entry) TraceFault
-go_on name k (Ok entries) f = f entries
+abbrev pub go_on : (ℕ → ItemFault → TraceFault) → ℕ → Result Listed ItemFault
+    → (Listed → Result Listed TraceFault) → Result Listed TraceFault
+go_on name k (Ok t) f = f t
 go_on name k (Err fault) f = Err (name k fault)
 
--- these entries, and then those of these items, the first with the number k; or the first fault
-unfoldable pub entries_from : (ℕ → ItemFault → TraceFault) → List Entry → ℕ
-    → List (Result (Option Entry) ItemFault) → Result (List Entry) TraceFault
-entries_from name entries k [] = Ok entries
-entries_from name entries k (i ∷ items) =
-    go_on name k (with_item entries i) (λ more. entries_from name more (k + 1) items)
+-- this trace, and then the entries of these items, the first with the number k; or the first fault
+unfoldable pub entries_from : (ℕ → ItemFault → TraceFault) → Listed → ℕ
+    → List (Result (Option Entry) ItemFault) → Result Listed TraceFault
+entries_from name t k [] = Ok t
+entries_from name t k (i ∷ items) =
+    go_on name k (with_item k t i) (λ more. entries_from name more (k + 1) items)
 
 -- the lines of a text, between its line feeds
 abbrev pub lines_of : Text → List Text
 lines_of text = slice_split (λ b. b == 10) text
 
-abbrev pub lines_at : Fields → Text → Result (List Entry) TraceFault
-lines_at p text = entries_from line_fault [] 1 (map (line_item p) (lines_of text))
+abbrev pub lines_at : Fields → Text → Result Listed TraceFault
+lines_at p text = entries_from line_fault nothing 1 (map (line_item p) (lines_of text))
 
 -- the trace in a text that is an array of JSON
-abbrev pub array_at : Fields → Text → Result (List Entry) TraceFault
+abbrev pub array_at : Fields → Text → Result Listed TraceFault
 array_at p text =
-    option_map_or (λ d. entries_from list_fault [] 1 (map (item_of p) (list_in d)))
+    option_map_or (λ d. entries_from list_fault nothing 1 (map (item_of p) (list_in d)))
     (value_of text) (Err NotJson)
 
 -- the first byte that is not blank
@@ -82,6 +91,19 @@ first_mark text = find (λ b. not (is_blank b)) text
 abbrev pub begins_array : Text → Bool
 begins_array text = option_map_or (λ b. b == 91) (first_mark text) false
 
--- the trace in a text: in an array, if the text starts with one, and otherwise in lines
-abbrev pub trace_at : Fields → Text → Result (List Entry) TraceFault
-trace_at p text = if begins_array text then array_at p text else lines_at p text
+-- the object is a plan: it has `algorithm`, and is neither an event nor passed over
+abbrev pub is_plan_object : Data → Bool
+is_plan_object d =
+    has_member (codes "algorithm") d && not (has_member (codes "act") d || is_passed_over d)
+
+-- the whole text is a plan
+abbrev pub is_plan : Text → Bool
+is_plan text = option_map_or is_plan_object (value_of text) false
+
+-- the trace in a text: in an array, if the text starts with one, and otherwise in lines; a fault, if
+-- the text is a plan
+abbrev pub trace_at : Fields → Text → Result Listed TraceFault
+trace_at p text =
+    if begins_array text then array_at p text
+    else if is_plan text then Err Plan
+    else lines_at p text

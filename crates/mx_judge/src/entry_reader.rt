@@ -1,7 +1,8 @@
 //! Reading an entry of a trace from a JSON object.
 
-ghost use Rattle.std.specs.Prelude.{◌≡◌};
+ghost use Rattle.std.specs.Prelude.{◌≡◌, map};
 ghost use Rattle.serde_json.specs.View.{view};
+ghost use Rattle.mx_plan.specs.Values.{list_in};
 ghost use Rattle.mx_judge.specs.Entries as spec;
 
 use crate::faults::ItemFault;
@@ -22,13 +23,41 @@ pub(crate) fn item_in(plan: &Plan, value: &Value) -> Result<Option<Entry>, ItemF
     if is_passed_over(value) {
         return Ok(None);
     }
+    if is_bare_event(value) {
+        return Err(ItemFault::NoOutcome);
+    }
     Err(ItemFault::NotEvent)
 }
 
-fn is_passed_over(value: &Value) -> bool
+pub(crate) fn is_passed_over(value: &Value) -> bool
     ensures { result ≡ spec.is_passed_over (view value.now) }
 {
     has_member(value, "kind") || has_member(value, "phase") || has_member(value, "verdict")
+}
+
+fn is_bare_event(value: &Value) -> bool
+    ensures { result ≡ spec.is_bare_event (view value.now) }
+{
+    EventKind::of_word(first_text(items_in(value))).is_some()
+}
+
+fn first_text(items: &[Value]) -> &str
+    ensures { result.now ≡ spec.first_text (map view items.now) }
+{
+    match items {
+        [] => "",
+        [first, ..] => first.as_str().unwrap_or(""),
+    }
+}
+
+/// Returns the items of an array, and none of any other value.
+pub(crate) fn items_in(value: &Value) -> &[Value]
+    ensures { map view result.now ≡ list_in (view value.now) }
+{
+    match value.as_array() {
+        Some(items) => items.as_slice(),
+        None => &[],
+    }
 }
 
 fn entry_in(plan: &Plan, value: &Value) -> Result<Entry, ItemFault>

@@ -13,6 +13,8 @@ pub(crate) enum ItemFault {
     NotJson,
     /// It is not an object of an event, a parcel, a node or a verdict.
     NotEvent,
+    /// It is an event without an outcome.
+    NoOutcome,
     Wrong(Member),
     /// There are 1,000,000 events before it.
     TooMany,
@@ -26,6 +28,9 @@ impl fmt::Display for ItemFault {
         match self {
             ItemFault::NotJson => f.write_str("not json"),
             ItemFault::NotEvent => f.write_str("no event"),
+            ItemFault::NoOutcome => {
+                f.write_str("an event without outcome, as in a file of events")
+            }
             ItemFault::Wrong(member) => write!(f, "{}: {}", member.key(), member.message()),
             ItemFault::TooMany => f.write_str("more than 1000000 events"),
             ItemFault::Memory => f.write_str("out of memory"),
@@ -37,6 +42,8 @@ impl fmt::Display for ItemFault {
 #[derive(Clone, Copy)]
 pub(crate) enum TraceFault {
     NotJson,
+    /// The text is a plan.
+    Plan,
     Line(u64, ItemFault),
     Item(u64, ItemFault),
     Memory,
@@ -68,6 +75,7 @@ impl fmt::Display for TraceFault {
     fn fmt<W: fmt::Write>(&self, f: &mut fmt::Formatter<W>) -> fmt::Result {
         match self {
             TraceFault::NotJson => f.write_str("mx: trace: not json\n"),
+            TraceFault::Plan => f.write_str("mx: trace: a plan, not a trace\n"),
             TraceFault::Line(number, fault) => writeln!(f, "mx: trace: line {number}: {fault}"),
             TraceFault::Item(number, fault) => writeln!(f, "mx: trace: item {number}: {fault}"),
             TraceFault::Memory => f.write_str("mx: trace: out of memory\n"),

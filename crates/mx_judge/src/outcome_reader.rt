@@ -5,7 +5,7 @@ ghost use Rattle.serde_json.specs.View.{view};
 ghost use Rattle.mx_judge.specs.Outcomes as spec;
 
 use crate::faults::ItemFault;
-use crate::members::{Member, number_at, text_at};
+use crate::members::{Member, has_member, number_at, text_at};
 use arrayvec::ArrayVec;
 use mx_events::{Event, EventKind};
 use mx_journal::Receipt;
@@ -23,7 +23,10 @@ pub(crate) fn outcome_in(event: &Event, value: &Value) -> Result<Outcome, ItemFa
     if word == word_of_done(event.kind()) {
         return done(event, value);
     }
-    Err(ItemFault::Wrong(Member::Outcome))
+    if has_member(value, "outcome") {
+        return Err(ItemFault::Wrong(Member::Outcome));
+    }
+    Err(ItemFault::NoOutcome)
 }
 
 fn word_of_done(kind: EventKind) -> &'static str

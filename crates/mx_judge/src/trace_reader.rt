@@ -1,35 +1,58 @@
 //! Reading a trace: an entry for each line, or for each item of an array.
 
-ghost use Rattle.std.specs.Prelude.{◌≡◌, ◌⊎◌, [], Some, None, Ok, IfOk, IfErr, OnOk, map, option_map};
+ghost use Rattle.std.specs.Prelude.{◌≡◌, ◌⊎◌, Some, None, Ok, IfOk, IfErr, OnOk, map, option_map};
 ghost use Rattle.std.specs.List.{list_all};
 ghost use Rattle.serde_json.specs.View.{view};
-ghost use Rattle.mx_plan.specs.Values.{list_in, value_of};
+ghost use Rattle.mx_plan.specs.Values.{value_of};
 ghost use Rattle.mx_judge.specs.Entries.{item_of};
 ghost use Rattle.mx_judge.specs.Faults.{line_fault, list_fault};
+ghost use Rattle.mx_judge.specs.Listed.{listed, nothing};
 ghost use Rattle.mx_judge.specs.Traces as spec;
 
-use crate::entry_reader::item_in;
+use crate::entry_reader::{is_passed_over, item_in, items_in};
 use crate::faults::{ItemFault, TraceFault};
+use crate::members::has_member;
+use crate::trace::Trace;
 use mx_cli::split_line;
 use mx_plan::Plan;
 use mx_stamps::MAX_EVENTS;
 use mx_trace::Entry;
 use serde_json::Value;
-use std::alloc::Global;
+use std::alloc::{AllocError, Global};
 
 /// Reads a trace of at most 1,000,000 events: a JSON array if the text begins with `[`, perhaps
 /// after blanks, and otherwise lines, each a JSON object or blank.
-pub(crate) fn read_trace(alloc: Global, text: &[u8], plan: &Plan) -> Result<Vec<Entry>, TraceFault>
+pub(crate) fn read_trace(alloc: Global, text: &[u8], plan: &Plan) -> Result<Trace, TraceFault>
     ensures { spec.Gives (spec.trace_at plan.now text.now) result }
 {
     if begins_array(text) {
-        read_array(alloc, text, plan)
-    } else {
-        read_lines(alloc, text, plan)
+        return read_array(alloc, text, plan);
+    }
+    match is_plan(alloc, text) {
+        Ok(true) => Err(TraceFault::Plan),
+        Ok(false) => read_lines(alloc, text, plan),
+        Err(_) => Err(TraceFault::Memory),
     }
 }
 
-fn begins_array(text: &[u8]) -> bool
+/// Whether the text is a plan. Of a text of several events, only the first is parsed.
+fn is_plan(alloc: Global, text: &[u8]) -> Result<bool, AllocError>
+    ensures { IfOk result (λ is. is ≡ spec.is_plan text.now) }
+{
+    match parse(alloc, text) {
+        Ok(value) => Ok(is_plan_object(&value)),
+        Err(ItemFault::Memory) => Err(AllocError),
+        Err(_) => Ok(false),
+    }
+}
+
+fn is_plan_object(value: &Value) -> bool
+    ensures { result ≡ spec.is_plan_object (view value.now) }
+{
+    has_member(value, "algorithm") && !(has_member(value, "act") || is_passed_over(value))
+}
+
+pub(crate) fn begins_array(text: &[u8]) -> bool
     ensures { result ≡ spec.begins_array text.now }
 {
     match first_mark(text) {
@@ -56,7 +79,7 @@ fn is_blank_line(line: &[u8]) -> bool
     line.iter().all(|byte| is_blank(*byte))
 }
 
-fn read_array(alloc: Global, text: &[u8], plan: &Plan) -> Result<Vec<Entry>, TraceFault>
+fn read_array(alloc: Global, text: &[u8], plan: &Plan) -> Result<Trace, TraceFault>
     ensures { spec.Gives (spec.array_at plan.now text.now) result }
 {
     match parse(alloc, text) {
@@ -66,41 +89,34 @@ fn read_array(alloc: Global, text: &[u8], plan: &Plan) -> Result<Vec<Entry>, Tra
     }
 }
 
-fn items_in(value: &Value) -> &[Value]
-    ensures { map view result.now ≡ list_in (view value.now) }
-{
-    match value.as_array() {
-        Some(items) => items.as_slice(),
-        None => &[],
-    }
-}
-
-fn read_items(alloc: Global, items: &[Value], plan: &Plan) -> Result<Vec<Entry>, TraceFault>
+fn read_items(alloc: Global, items: &[Value], plan: &Plan) -> Result<Trace, TraceFault>
     ensures { spec.Gives
-        (spec.entries_from list_fault [] 1 (map (item_of plan.now) (map view items.now))) result }
+        (spec.entries_from list_fault nothing 1 (map (item_of plan.now) (map view items.now)))
+        result }
 {
-    let mut entries = Vec::new(alloc);
+    let mut trace = Trace::new(alloc);
     for (index, value) in items.iter().enumerate() {
-        if let Err(fault) = add_item(&mut entries, item_in(plan, value)) {
-            return Err(TraceFault::of_item(index as u64 + 1, fault));
+        let number = index as u64 + 1;
+        if let Err(fault) = add_item(&mut trace, number, item_in(plan, value)) {
+            return Err(TraceFault::of_item(number, fault));
         }
     }
-    Ok(entries)
+    Ok(trace)
 }
 
-fn read_lines(alloc: Global, text: &[u8], plan: &Plan) -> Result<Vec<Entry>, TraceFault>
+fn read_lines(alloc: Global, text: &[u8], plan: &Plan) -> Result<Trace, TraceFault>
     ensures { spec.Gives (spec.lines_at plan.now text.now) result }
 {
-    let mut entries = Vec::new(alloc);
+    let mut trace = Trace::new(alloc);
     let mut rest = text;
     let mut number = 1u64;
     'lines: loop {
         let (line, after) = split_line(rest);
-        if let Err(fault) = add_item(&mut entries, line_in(alloc, plan, line)) {
+        if let Err(fault) = add_item(&mut trace, number, line_in(alloc, plan, line)) {
             return Err(TraceFault::of_line(number, fault));
         }
         if line.len() == rest.len() {
-            return Ok(entries);
+            return Ok(trace);
         }
         rest = after;
         number += 1;
@@ -133,19 +149,19 @@ fn parse(alloc: Global, text: &[u8]) -> Result<Value, ItemFault>
     }
 }
 
+/// Appends the entry of a line or an item, if it has one.
 fn add_item(
-    entries: &mut Vec<Entry>,
+    trace: &mut Trace,
+    number: u64,
     item: Result<Option<Entry>, ItemFault>,
 ) -> Result<(), ItemFault>
-    ensures ok { OnOk result (spec.with_item entries.old.items item ≡ Ok entries.new.items) }
-    ensures err { IfErr result (spec.Refuses (spec.with_item entries.old.items item)) }
+    ensures ok { OnOk result
+        (spec.with_item number (listed trace.old) item ≡ Ok (listed trace.new)) }
+    ensures err { IfErr result (spec.Refuses (spec.with_item number (listed trace.old) item)) }
 {
     match item? {
         None => Ok(()),
-        Some(_) if entries.len() >= MAX_EVENTS => Err(ItemFault::TooMany),
-        Some(entry) => match entries.push(entry) {
-            Ok(()) => Ok(()),
-            Err(_) => Err(ItemFault::Memory),
-        },
+        Some(_) if trace.entries.len() >= MAX_EVENTS => Err(ItemFault::TooMany),
+        Some(entry) => trace.push(number, entry),
     }
 }

@@ -14,7 +14,7 @@ use Rattle.mx_lines.specs.declared.errors.LineError.{LineError}
 use Rattle.mx_lines.specs.declared.errors.LineFault.TheVariants as fault
 use Rattle.mx_lines.specs.declared.errors.OwnWord.{OwnWord}
 use Rattle.mx_lines.specs.declared.errors.OwnWord.TheVariants.{Show, Undo, Redo, Events, Mark, Help, End}
-use Rattle.mx_lines.specs.declared.lines.Line.{Line}
+use Rattle.mx_lines.specs.declared.line.Line.{Line}
 
 abbrev pub is_end : Text → Bool
 is_end text =

@@ -10,7 +10,7 @@ use Rattle.mx_lines.specs.Orders.{and_then, order_at, refused}
 use Rattle.mx_lines.specs.declared.errors.Expected.TheVariants as expected
 use Rattle.mx_lines.specs.declared.errors.LineError.{LineError}
 use Rattle.mx_lines.specs.declared.errors.LineFault.TheVariants as fault
-use Rattle.mx_lines.specs.declared.lines.Line.{Line}
+use Rattle.mx_lines.specs.declared.line.Line.{Line}
 
 -- the number of times that a line is done, at most a million
 abbrev pub times_of : Text → Result ℕ LineError

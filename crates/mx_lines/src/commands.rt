@@ -3,7 +3,7 @@ ghost use Rattle.mx_lines.specs.Commands.{alone, command_of, is_end, own_command
 ghost use Rattle.mx_lines.specs.Names.{texts_of};
 
 use crate::errors::{Expected, LineError, LineFault, OwnWord, refuse};
-use crate::lines::{Line, read_line};
+use crate::line::{Line, read_line};
 use crate::names::Names;
 use crate::numbers::number_of;
 use mx_stamps::NodeId;

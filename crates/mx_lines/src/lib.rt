@@ -6,7 +6,7 @@ mod commands;
 mod edits;
 mod errors;
 mod escapes;
-mod lines;
+mod line;
 mod messages;
 mod names;
 mod numbers;
@@ -18,7 +18,7 @@ pub use commands::{SessionCommand, read_command};
 pub use edits::nearest;
 pub use errors::{Expected, LineError, LineFault, OwnWord};
 pub use escapes::add_escaped_text;
-pub use lines::{Line, first_error, read_line};
+pub use line::{Line, first_error, read_line};
 pub use messages::{
     FirstWords, Listed, Nearest, Quoted, message, message_of_line, message_of_unknown_node,
 };

@@ -9,7 +9,7 @@ use crate::escapes::add_escaped_text;
 use crate::names::Names;
 use crate::verbs::Verb;
 use crate::words::before_comment;
-use mx_events::{EVENT_KINDS, EventKind};
+use mx_events::{ArgumentKind, EVENT_KINDS, EventKind};
 use mx_plan::Plan;
 use std::alloc::{AllocError, Global};
 use std::fmt;
@@ -151,32 +151,29 @@ fn expected_text(expected: Expected) -> &'static str {
         Expected::Number => "a whole number of 64 bits without a sign",
         Expected::Parcel => "all, or the number of a parcel",
         Expected::Times => "a whole number, 0 to 1000000",
-        Expected::Repetition => "a number and a line behind the word",
+        Expected::Repetition => "a number and a line after the word",
         Expected::Arguments(Verb::Event(kind)) => arguments_text(kind),
-        Expected::Arguments(Verb::Lose) => "all, or two nodes behind the word",
-        Expected::Arguments(Verb::CutNode) => "a node or two behind the word",
-        Expected::Arguments(Verb::Heal) => "nothing behind the word",
-        Expected::Arguments(_) => "two nodes behind the word",
-        Expected::OwnArguments(OwnWord::Show) => "a node or nothing behind the word",
-        Expected::OwnArguments(OwnWord::Undo) => "a number or nothing behind the word",
-        Expected::OwnArguments(OwnWord::Mark) => "a word behind the word",
-        Expected::OwnArguments(_) => "nothing behind the word",
+        Expected::Arguments(Verb::Lose) => "all, or two nodes after the word",
+        Expected::Arguments(Verb::CutNode) => "a node or two after the word",
+        Expected::Arguments(Verb::Heal) => "nothing after the word",
+        Expected::Arguments(_) => "two nodes after the word",
+        Expected::OwnArguments(OwnWord::Show) => "a node or nothing after the word",
+        Expected::OwnArguments(OwnWord::Undo) => "a number or nothing after the word",
+        Expected::OwnArguments(OwnWord::Mark) => "a word after the word",
+        Expected::OwnArguments(_) => "nothing after the word",
     }
 }
 
 fn arguments_text(kind: EventKind) -> &'static str {
-    match kind {
-        EventKind::Ask
-        | EventKind::Enter
-        | EventKind::Leave
-        | EventKind::Cancel
-        | EventKind::Tick
-        | EventKind::Restart => "a node behind the word, and no more",
-        EventKind::Read => "a node and a register behind the word",
-        EventKind::Write => "a node, a register and a number behind the word",
-        EventKind::Want => "two nodes behind the word",
-        EventKind::Settle => "a node and the number of a section behind the word",
-        EventKind::Deliver => "all, the number of a parcel, or two nodes behind the word",
+    match kind.arguments() {
+        [ArgumentKind::Node] => "a node after the word, and no more",
+        [ArgumentKind::Node, ArgumentKind::Node] => "two nodes after the word",
+        [ArgumentKind::Node, ArgumentKind::Register] => "a node and a register after the word",
+        [ArgumentKind::Node, ArgumentKind::Section] => {
+            "a node and the number of a section after the word"
+        }
+        [ArgumentKind::Parcel] => "all, the number of a parcel, or two nodes after the word",
+        _ => "a node, a register and a number after the word",
     }
 }
 
@@ -195,8 +192,8 @@ struct Wrong<'a> {
 
 impl Display for Wrong<'_> {
     fn fmt<W: fmt::Write>(&self, f: &mut fmt::Formatter<W>) -> fmt::Result {
-        write!(f, " {}", Quoted(self.word))?;
-        write!(f, "{} stands here, expected ", WordsAfter(self.after))?;
+        write!(f, " found {}", Quoted(self.word))?;
+        write!(f, "{}, expected ", WordsAfter(self.after))?;
         if self.is_list {
             write!(f, "{}", Listed(self.known))?;
         } else {
@@ -213,9 +210,9 @@ struct WordsAfter(Option<usize>);
 impl Display for WordsAfter {
     fn fmt<W: fmt::Write>(&self, f: &mut fmt::Formatter<W>) -> fmt::Result {
         match self.0 {
-            Some(0) => f.write_str(" without words behind it"),
-            Some(1) => f.write_str(" with 1 word behind it"),
-            Some(count) => write!(f, " with {count} words behind it"),
+            Some(0) => f.write_str(" without words after it"),
+            Some(1) => f.write_str(" with 1 word after it"),
+            Some(count) => write!(f, " with {count} words after it"),
             None => Ok(()),
         }
     }

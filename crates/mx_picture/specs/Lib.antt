@@ -1,4 +1,7 @@
--- Drawn: the printed picture. LettersOnly: what `--letters` draws. Pictures: what `picture` prints.
+-- Crossings: which places of texts are worse. Drawn: the printed picture. LettersOnly: what
+-- `--letters` draws. Overtaken: which parcels are overtaken. Pictures: what `picture` prints.
+pub mod Crossings
 pub mod Drawn
 pub mod LettersOnly
+pub mod Overtaken
 pub mod Pictures

@@ -6,7 +6,7 @@ use crate::segment::{ROW, Segment};
 use std::alloc::AllocError;
 
 /// How far the piece of an arrow goes to the side, in pixels.
-const ASIDE: u64 = 26;
+pub(crate) const ASIDE: u64 = 26;
 
 /// What of a parcel's arrow is drawn. It is dashed if the parcel was delivered before.
 #[derive(Clone, Copy)]
@@ -17,8 +17,6 @@ pub(crate) enum End {
     Sending,
     /// The tip: the sending is not shown.
     Delivery { is_repeat: bool },
-    /// The start, and a cross this many pixels below: the parcel is never delivered.
-    Loss(u64),
 }
 
 /// The arrow of a parcel, or a piece of it. It begins at the height `y`, where the parcel is sent;
@@ -38,8 +36,7 @@ impl Arrow {
             End::Whole { down, .. } => down,
             _ => 0,
         };
-        let from = columns.x_of(self.route.from);
-        Segment::new(from, columns.x_of(self.route.to), self.y, down)
+        Segment::new(self.route, columns, self.y, down)
     }
 
     pub(crate) fn add_to(&self, columns: &Columns, text: &mut String) -> Result<(), AllocError> {
@@ -76,10 +73,6 @@ impl Arrow {
                     "<path class=\"{class}{again}\" d=\"M{to} {y}m{back}{ASIDE}-{ROW}l{aside}{ASIDE} {ROW}\" marker-end=\"url(#{class})\">"
                 )
             }
-            End::Loss(down) => write!(
-                text,
-                "<path class=\"lost\" d=\"M{from} {y}l{aside}{ASIDE} {down}m-3-3l6 6m0-6l-6 6\">"
-            ),
         }
     }
 }

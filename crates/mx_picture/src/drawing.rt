@@ -55,6 +55,7 @@ where
 
     fn event(
         &mut self,
+        _alloc: Global,
         plan: &Plan,
         index: u64,
         before: u64,
@@ -158,7 +159,7 @@ fn draw_act(
         let is_refused = matches!(entry.outcome, Outcome::Refused(_));
         drawing.sheet.dot(node, is_refused, label)?;
     }
-    change_phase(node, &entry.outcome, &mut drawing.sheet)
+    change_phase(node, &entry.outcome, true, &mut drawing.sheet)
 }
 
 /// Returns the left if the event sent parcels, from `before` on, and all go to the right, so that no

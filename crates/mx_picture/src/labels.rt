@@ -1,17 +1,16 @@
-//! Texts beside nodes, each on a side where no arrow runs through it, if there is such a side.
+//! Texts beside nodes, each on a side where no arrow runs through it, if there is such a side, or
+//! else none of other nodes.
 
 use crate::columns::Columns;
+use crate::crossing::Crossing;
+use crate::open_arrows::OpenArrows;
 use crate::segment::{Rect, SHIFT, Segment};
 use crate::side::Side;
 use mx_stamps::NodeId;
-use std::alloc::AllocError;
+use std::alloc::{AllocError, Global};
 
 /// Half the height of a text's characters, in pixels.
 const HALF_HIGH: u64 = 5;
-
-/// The greatest number of arrows that are checked for one text: the last that was added before it,
-/// and the first after it.
-const MAX_ARROWS: usize = 400;
 
 /// A text beside a node, at the height `y`, `width` pixels wide, with the side that it prefers.
 /// `arrows` is the number of arrows that were added before it: they end in its row or above.
@@ -44,22 +43,25 @@ impl Label {
             left,
             right,
             top: self.y.saturating_sub(HALF_HIGH),
-            bottom: self.y.saturating_add(HALF_HIGH),
+            bottom: self.bottom(),
         }
     }
 
-    fn is_crossed(&self, x: u64, segments: &[Segment], side: Side) -> bool {
-        let rect = self.rect(x, side);
-        let own = self.arrows.saturating_sub(1).min(segments.len());
-        segments[own..]
-            .iter()
-            .take(MAX_ARROWS)
-            .any(|segment| segment.crosses(&rect))
+    fn bottom(&self) -> u64 {
+        self.y.saturating_add(HALF_HIGH)
     }
 
-    fn free_side(&self, x: u64, segments: &[Segment]) -> Side {
+    fn crossing(&self, x: u64, arrows: &OpenArrows, side: Side) -> Crossing {
+        arrows.crossing(self.node, &self.rect(x, side))
+    }
+
+    fn better_side(&self, x: u64, arrows: &OpenArrows) -> Side {
+        let here = self.crossing(x, arrows, self.side);
+        if let Crossing::Clear = here {
+            return self.side;
+        }
         let other = self.side.other();
-        if self.is_crossed(x, segments, self.side) && !self.is_crossed(x, segments, other) {
+        if here.is_worse_than(self.crossing(x, arrows, other)) {
             other
         } else {
             self.side
@@ -87,16 +89,36 @@ impl Extent {
     }
 }
 
-pub(crate) fn add_labels(
+/// Returns the side of each text, the last first. The arrows are in the order of their ends.
+fn sides_of(
+    alloc: Global,
     labels: &[Label],
-    segments: &[Segment],
+    segments: Vec<Segment>,
+    columns: &Columns,
+) -> Result<Vec<Side>, AllocError> {
+    let mut sides = Vec::new(alloc);
+    let mut arrows = OpenArrows::new(alloc, segments);
+    for label in labels.iter().rev() {
+        // the last arrow before the text may end in its row
+        arrows.rise(label.arrows.saturating_sub(1), label.bottom())?;
+        sides.push(label.better_side(columns.x_of(label.node), &arrows))?;
+    }
+    Ok(sides)
+}
+
+/// Appends the texts, each on its side, as SVG. Returns how far they extend.
+pub(crate) fn add_labels(
+    alloc: Global,
+    labels: &[Label],
+    segments: Vec<Segment>,
     columns: &Columns,
     text: &mut String,
 ) -> Result<Extent, AllocError> {
+    let mut sides = sides_of(alloc, labels, segments, columns)?;
     let mut extent = Extent { left: 0, right: 0 };
     for label in labels {
         let x = columns.x_of(label.node);
-        let side = label.free_side(x, segments);
+        let side = sides.pop().unwrap_or(label.side);
         extent = extent.with(label, x, side);
         let attributes = side.attributes();
         let y = label.y;

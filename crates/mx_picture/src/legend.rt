@@ -11,7 +11,7 @@ path{fill:none;stroke-width:1.4px}
 .waits{stroke:#56b4e9;stroke-width:6px}.inside{fill:#f0e442;stroke:#000}
 .section{font-weight:bold;text-anchor:middle;stroke:none}
 .request{stroke:#0072b2}.grant{stroke:#009e73;stroke-width:2.4px}.other{stroke:#cc79a7}
-.again{stroke-dasharray:6 4}.lost{stroke:#d55e00;stroke-width:1.8px}
+.again{stroke-dasharray:6 4}.overtaken{stroke:#d55e00;stroke-width:1.8px}.pending{stroke:#555}
 .air{font-style:italic}.left{text-anchor:end}
 </style>
 <defs>
@@ -22,14 +22,15 @@ path{fill:none;stroke-width:1.4px}
 ";
 
 /// The width of the legend, in pixels.
-pub(crate) const LEGEND_WIDTH: u64 = 710;
+pub(crate) const LEGEND_WIDTH: u64 = 826;
 
 pub(crate) const LEGEND: &str =
     "<path class=\"request\" d=\"M16 18H46\" marker-end=\"url(#request)\"/><text x=\"52\" y=\"22\">request</text>
 <path class=\"grant\" d=\"M116 18H146\" marker-end=\"url(#grant)\"/><text x=\"152\" y=\"22\">grant</text>
 <path class=\"other\" d=\"M206 18H236\" marker-end=\"url(#other)\"/><text x=\"242\" y=\"22\">other</text>
 <path class=\"other again\" d=\"M294 18H324\" marker-end=\"url(#other)\"/><text x=\"330\" y=\"22\">delivered again</text>
-<path class=\"lost\" d=\"M432 14l20 4m-3-3l6 6m0-6l-6 6\"/><text x=\"462\" y=\"22\">never delivered</text>
-<path class=\"waits\" d=\"M568 11V25\"/><text x=\"578\" y=\"22\">waits</text>
-<path class=\"inside\" d=\"M626 11h24v14h-24z\"/><text class=\"section\" x=\"638\" y=\"22\">1</text><text x=\"656\" y=\"22\">inside</text>
+<path class=\"overtaken\" d=\"M432 14l20 4m-3-3l6 6m0-6l-6 6\"/><text x=\"462\" y=\"22\">overtaken</text>
+<path class=\"pending\" d=\"M532 14l20 4m-3 0a3 3 0 1 0 6 0a3 3 0 1 0-6 0\"/><text x=\"562\" y=\"22\">under way at the end</text>
+<path class=\"waits\" d=\"M692 11V25\"/><text x=\"702\" y=\"22\">waits</text>
+<path class=\"inside\" d=\"M746 11h24v14h-24z\"/><text class=\"section\" x=\"758\" y=\"22\">1</text><text x=\"776\" y=\"22\">inside</text>
 ";

@@ -4,12 +4,15 @@
 mod arrows;
 mod columns;
 mod command;
+mod crossing;
 mod drawing;
 mod labels;
 mod legend;
 mod letters;
+mod links;
 mod name_rows;
 mod omissions;
+mod open_arrows;
 mod opening;
 mod page;
 mod parcels;
@@ -21,5 +24,6 @@ mod shapes;
 mod sheet;
 mod side;
 mod text;
+mod undelivered;
 
 pub use command::Picture;

@@ -71,7 +71,7 @@ where
         Event::Deliver(number) => pass_delivery(plan, cluster, *number, drawing),
         event if index <= drawing.part.to => {
             let node = event.node().unwrap_or_default();
-            change_phase(node, &entry.outcome, &mut drawing.sheet)
+            change_phase(node, &entry.outcome, false, &mut drawing.sheet)
         }
         _ => Ok(()),
     }
@@ -99,16 +99,18 @@ where
         .arrive(number, Route::new(&sent), false, title)
 }
 
-/// Changes the phase of a node if the outcome of its event leads to another.
+/// Changes the phase of a node if the outcome of its event leads to another. `is_shown` says
+/// whether the picture shows the event.
 pub(crate) fn change_phase(
     node: NodeId,
     outcome: &Outcome,
+    is_shown: bool,
     sheet: &mut Sheet,
 ) -> Result<(), AllocError> {
     match outcome {
-        Outcome::Entered(number) => sheet.enter(node, *number),
-        Outcome::Left(_) | Outcome::Cancelled => sheet.change(node, Phase::Idle),
-        Outcome::Asked(_) => sheet.change(node, Phase::Waiting),
+        Outcome::Entered(number) => sheet.enter(node, *number, is_shown),
+        Outcome::Left(_) | Outcome::Cancelled => sheet.change(node, Phase::Idle, is_shown),
+        Outcome::Asked(_) => sheet.change(node, Phase::Waiting, is_shown),
         Outcome::Value(_)
         | Outcome::Written
         | Outcome::Sent(_)

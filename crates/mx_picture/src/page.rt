@@ -130,6 +130,7 @@ fn body_of(plan: &Plan, part: &Part, sheet: &Sheet) -> Result<Body, AllocError> 
         bottom,
     };
     let mut svg = String::new(shapes.alloc);
+    svg.reserve(shapes.room())?;
     add_page(&page, heading.as_str(), texts.svg.as_str(), &mut svg)?;
     Ok(Body { frame, svg })
 }
@@ -201,7 +202,7 @@ fn add_head(page: &Page<'_>, heading: &str, text: &mut String) -> Result<(), All
     let aside = left.saturating_sub(INDENT);
     write!(
         text,
-        "<desc>Time goes down, and each event is told beside its node. Sections:{story}</desc>\n{STYLES}"
+        "<desc>Time runs downward; the text of each event is beside its node. Sections:{story}</desc>\n{STYLES}"
     )?;
     write!(
         text,

@@ -1,4 +1,5 @@
-//! The drawing of parcels: as arrows to their delivery, or lost in the air.
+//! The drawing of parcels: as arrows to their delivery, or all that an event sent and none delivers
+//! in one row.
 
 use crate::drawing::Drawing;
 use crate::letters::is_original;
@@ -46,7 +47,7 @@ where
 }
 
 /// Notes the parcels that the newest event sent, from `before` on. Draws those of the drawn part
-/// that no event delivers, if the event is shown.
+/// that no event delivers in one row, if the event is shown.
 pub(crate) fn draw_sent<C: Exclusion>(
     plan: &Plan,
     cluster: &Cluster<C>,
@@ -58,30 +59,49 @@ pub(crate) fn draw_sent<C: Exclusion>(
 where
     C::Msg: Letter,
 {
+    let known = drawing.sheet.shapes.undelivered.len();
     for (number, sent) in cluster.parcels_from(before) {
         let is_shown = is_event_shown && concerns(&sent, &drawing.part);
         drawing
             .sheet
             .send(is_shown, is_original(event, sent.parcel))?;
         if is_shown && !drawing.arriving.contains(&number) {
-            draw_loss(plan, number, &sent, drawing)?;
+            write_route(plan, number, &sent, &mut drawing.label)?;
+            drawing
+                .sheet
+                .add_undelivered(number, Route::new(&sent), drawing.label.as_str())?;
         }
     }
-    Ok(())
+    draw_undelivered(plan, cluster, known, drawing)
 }
 
-/// Draws a parcel that no event delivers, in a new row.
-fn draw_loss<M: Letter>(
+/// Draws the row of the parcels that the newest event sent and no event delivers, if there are any:
+/// those of the sheet from this index on. Its text names the first.
+fn draw_undelivered<C: Exclusion>(
     plan: &Plan,
-    number: u64,
-    sent: &SentParcel<'_, M>,
+    cluster: &Cluster<C>,
+    known: usize,
     drawing: &mut Drawing,
-) -> Result<(), AllocError> {
-    let route = Route::new(sent);
-    write_route(plan, number, sent, &mut drawing.label)?;
-    drawing.sheet.lose(route, drawing.label.as_str())?;
+) -> Result<(), AllocError>
+where
+    C::Msg: Letter,
+{
+    let undelivered = drawing.sheet.shapes.undelivered.as_slice();
+    let Some(first) = undelivered.get(known) else {
+        return Ok(());
+    };
+    let number = first.number;
+    let route = first.route;
+    let more = undelivered.len().saturating_sub(known).saturating_sub(1);
+    let Some(sent) = cluster.sent_parcel(number) else {
+        return Ok(());
+    };
+    drawing.sheet.next_row()?;
     write_parcel(plan, number, sent.parcel, &mut drawing.label)?;
     write!(drawing.label, " to {}", name_of(plan, sent.to))?;
+    if more > 0 {
+        write!(drawing.label, ", and {more} more")?;
+    }
     let side = if route.is_left() {
         Side::LeftInAir
     } else {

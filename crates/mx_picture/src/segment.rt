@@ -2,6 +2,10 @@
 
 ghost use Rattle.std.specs.Prelude.{◌≡◌, ◌≤◌, ◌*◌};
 
+use crate::columns::Columns;
+use crate::route::Route;
+use mx_stamps::NodeId;
+
 /// The distance between two rows, in pixels.
 pub(crate) const ROW: u64 = 13;
 
@@ -27,6 +31,7 @@ const BOW: u64 = 20;
 /// `bottom`. Both positions are moved to the right by `SHIFT`.
 #[derive(Clone, Copy)]
 pub(crate) struct Segment {
+    route: Route,
     from: u64,
     top: u64,
     to: u64,
@@ -35,9 +40,12 @@ pub(crate) struct Segment {
 
 impl Segment {
     /// The bow of an arrow to its own node counts as a line at the left of the node.
-    pub(crate) fn new(from: u64, to: u64, y: u64, down: u64) -> Self {
+    pub(crate) fn new(route: Route, columns: &Columns, y: u64, down: u64) -> Self {
+        let from = columns.x_of(route.from);
+        let to = columns.x_of(route.to);
         let aside = if to == from { SHIFT - BOW } else { SHIFT };
         Segment {
+            route,
             from: from.saturating_add(aside),
             top: y,
             to: to.saturating_add(aside),
@@ -56,12 +64,30 @@ impl Segment {
         }
     }
 
+    pub(crate) fn is_of(&self, node: NodeId) -> bool {
+        self.route.from == node || self.route.to == node
+    }
+
+    /// Returns whether the arrow begins at the height `y` or above.
+    pub(crate) fn begins_by(&self, y: u64) -> bool {
+        self.top <= y
+    }
+
+    /// Returns whether the rectangle around the arrow meets this one.
+    fn is_near(&self, rect: &Rect) -> bool {
+        self.from.min(self.to) <= rect.right
+            && self.from.max(self.to) >= rect.left
+            && self.top <= rect.bottom
+            && self.bottom >= rect.top
+    }
+
     pub(crate) fn crosses(&self, rect: &Rect) -> bool {
+        self.is_near(rect) && self.runs_through(rect)
+    }
+
+    fn runs_through(&self, rect: &Rect) -> bool {
         let top = rect.top.max(self.top);
         let bottom = rect.bottom.min(self.bottom);
-        if bottom < top {
-            return false;
-        }
         let above = self.across(top);
         let below = self.across(bottom);
         above.min(below) <= rect.right && above.max(below) >= rect.left

@@ -3,13 +3,18 @@
 use crate::arrows::{Arrow, End};
 use crate::columns::{Columns, Lanes};
 use crate::labels::{Extent, Label, add_labels};
+use crate::links::Links;
 use crate::name_rows::NameRow;
 use crate::phases::Bar;
 use crate::route::Route;
 use crate::text::escaped;
+use crate::undelivered::{Undelivered, add_undelivered};
 use mx_plan::Plan;
 use mx_stamps::NodeId;
 use std::alloc::{AllocError, Global};
+
+/// The number of bytes that the SVG of a row takes, roughly.
+const ROW_BYTES: usize = 400;
 
 /// The dot of an event at its node. It is hollow if the event is refused.
 #[derive(Drop)]
@@ -34,6 +39,9 @@ pub(crate) struct Shapes {
     pub(crate) bars: Vec<Bar>,
     /// The arrows of which only an end is drawn.
     pieces: Vec<Arrow>,
+    /// The parcels that no event delivers.
+    pub(crate) undelivered: Vec<Undelivered>,
+    pub(crate) links: Links,
     /// The other arrows. None ends in a lower row than a later one.
     pub(crate) arrows: Vec<Arrow>,
     pub(crate) names: Vec<NameRow>,
@@ -55,6 +63,8 @@ impl Shapes {
             alloc,
             bars: Vec::new(alloc),
             pieces: Vec::new(alloc),
+            undelivered: Vec::new(alloc),
+            links: Links::new(),
             arrows: Vec::new(alloc),
             names: Vec::new(alloc),
             dots: Vec::new(alloc),
@@ -87,6 +97,12 @@ impl Shapes {
         Ok(())
     }
 
+    /// Returns how many bytes the SVG of the shapes takes, roughly, so that it need not grow step by
+    /// step.
+    pub(crate) fn room(&self) -> usize {
+        self.labels.len().saturating_mul(ROW_BYTES)
+    }
+
     /// Returns the texts beside nodes, each on its side, as SVG, and how far they extend.
     pub(crate) fn texts(&self, columns: &Columns) -> Result<Texts, AllocError> {
         let mut segments = Vec::new(self.alloc);
@@ -95,7 +111,7 @@ impl Shapes {
         }
         let mut svg = String::new(self.alloc);
         let labels = self.labels.as_slice();
-        let extent = add_labels(labels, segments.as_slice(), columns, &mut svg)?;
+        let extent = add_labels(self.alloc, labels, segments, columns, &mut svg)?;
         Ok(Texts { svg, extent })
     }
 
@@ -112,6 +128,7 @@ impl Shapes {
         for piece in &self.pieces {
             piece.add_to(columns, text)?;
         }
+        add_undelivered(self.undelivered.as_slice(), &self.links, columns, text)?;
         for arrow in &self.arrows {
             arrow.add_to(columns, text)?;
         }

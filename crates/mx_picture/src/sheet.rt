@@ -6,12 +6,13 @@ ghost use Rattle.std.specs.List.{list_all};
 use crate::arrows::End;
 use crate::labels::Label;
 use crate::name_rows::{NAMED_ROWS, NameRow};
-use crate::phases::{Bar, PhaseSpan};
+use crate::phases::PhaseSpan;
 use crate::route::Route;
 use crate::segment::{MAX_ROWS, y_of};
 use crate::shapes::{Dot, Shapes};
 use crate::side::Side;
 use crate::text::{add_escaped, escaped, width_of};
+use crate::undelivered::Undelivered;
 use mx_nodelaws::Phase;
 use mx_stamps::{MAX_NODES, NodeId};
 use std::alloc::{AllocError, Global};
@@ -60,6 +61,7 @@ impl Sheet {
         let idle = PhaseSpan {
             since: 0,
             phase: Phase::Idle,
+            is_shown: true,
         };
         Sheet {
             shapes: Shapes::new(alloc),
@@ -112,9 +114,14 @@ impl Sheet {
         self.next_row()
     }
 
-    pub(crate) fn enter(&mut self, node: NodeId, number: u64) -> Result<(), AllocError> {
+    pub(crate) fn enter(
+        &mut self,
+        node: NodeId,
+        number: u64,
+        is_shown: bool,
+    ) -> Result<(), AllocError> {
         self.entered = self.entered.saturating_add(1);
-        self.change(node, Phase::Inside(number))
+        self.change(node, Phase::Inside(number), is_shown)
     }
 
     pub(crate) fn dot(
@@ -165,11 +172,21 @@ impl Sheet {
         Ok(())
     }
 
-    pub(crate) fn lose(&mut self, route: Route, title: &str) -> Result<(), AllocError> {
-        self.next_row()?;
-        let y = y_of(self.event);
-        let end = End::Loss(y_of(self.row - self.event));
-        self.shapes.add_arrow(route, end, y, title)
+    /// Notes that no event delivers the parcel of this number, which the current event sent.
+    pub(crate) fn add_undelivered(
+        &mut self,
+        number: u64,
+        route: Route,
+        title: &str,
+    ) -> Result<(), AllocError> {
+        let title = escaped(self.shapes.alloc, title)?;
+        self.shapes.undelivered.push(Undelivered {
+            number,
+            route,
+            y: y_of(self.event),
+            title,
+        })?;
+        Ok(())
     }
 
     /// Notes that the parcel of this number is delivered now, and draws what is seen of its arrow.
@@ -185,6 +202,7 @@ impl Sheet {
         if index >= self.flights.len() {
             return Ok(());
         }
+        self.shapes.links.deliver(number, &route);
         let flight = self.deliver(index);
         let is_repeat = flight.is_delivered;
         let y = y_of(flight.row);
@@ -239,35 +257,39 @@ impl Sheet {
         flight
     }
 
-    pub(crate) fn change(&mut self, node: NodeId, phase: Phase) -> Result<(), AllocError> {
+    /// Changes the phase of a node. `is_shown` says whether the picture shows the event.
+    pub(crate) fn change(
+        &mut self,
+        node: NodeId,
+        phase: Phase,
+        is_shown: bool,
+    ) -> Result<(), AllocError> {
         let index = usize::from(node.get());
         let span = self.phases[index];
         self.phases[index] = PhaseSpan {
             since: self.row,
             phase,
+            is_shown,
         };
         if span.since == self.row {
             return Ok(());
         }
-        self.end(node, span)
+        self.end(node, span, is_shown)
     }
 
-    fn end(&mut self, node: NodeId, span: PhaseSpan) -> Result<(), AllocError>
+    fn end(&mut self, node: NodeId, span: PhaseSpan, is_shown: bool) -> Result<(), AllocError>
         requires { span.since ≤ self.old.row }
     {
-        self.shapes.bars.push(Bar {
-            node,
-            y: y_of(span.since),
-            down: y_of(self.row - span.since),
-            phase: span.phase,
-        })?;
+        let y = y_of(span.since);
+        let down = y_of(self.row - span.since);
+        self.shapes.bars.push(span.bar(node, y, down, is_shown))?;
         Ok(())
     }
 
     pub(crate) fn close(&mut self) -> Result<(), AllocError> {
         for index in 0..MAX_NODES {
             if let Some(node) = NodeId::of(index) {
-                self.change(node, Phase::Idle)?;
+                self.change(node, Phase::Idle, true)?;
             }
         }
         Ok(())

@@ -1,5 +1,5 @@
-/// The place of a text: to the left or right of its node, or on that side beside the end of a lost
-/// parcel's arrow (in the air).
+/// The place of a text: to the left or right of its node, or on that side beside the marks of
+/// parcels that no event delivers (in the air).
 #[derive(Clone, Copy)]
 pub(crate) enum Side {
     Left,
@@ -13,7 +13,8 @@ impl Side {
         match self {
             Side::Left => Side::Right,
             Side::Right => Side::Left,
-            Side::LeftInAir | Side::RightInAir => self,
+            Side::LeftInAir => Side::RightInAir,
+            Side::RightInAir => Side::LeftInAir,
         }
     }
 

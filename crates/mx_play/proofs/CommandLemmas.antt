@@ -14,7 +14,7 @@ use Rattle.mx_lines.specs.declared.commands.SessionCommand.{SessionCommand}
 use Rattle.mx_lines.specs.declared.errors.LineError.{LineError}
 use Rattle.mx_lines.specs.declared.errors.OwnWord.{OwnWord}
 use Rattle.mx_lines.specs.declared.errors.OwnWord.TheVariants.{Show, Undo, Redo, Events, Mark, Help, End}
-use Rattle.mx_lines.specs.declared.lines.Line.{Line}
+use Rattle.mx_lines.specs.declared.line.Line.{Line}
 use Rattle.mx_scripts.specs.Scripts.{IsOver}
 use Rattle.mx_scripts.proofs.OverLemmas.{any, line_is_over, line_over, LineOver, or_wrong, passed}
 use Rattle.mx_plan.specs.Fields.{Fields}

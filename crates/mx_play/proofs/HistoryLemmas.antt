@@ -1,6 +1,7 @@
 -- What happens, one event after another.
 use Rattle.std.proofs.Common.{◌≡◌, ◌≤◌, ◌<◌, ◌∙◌, ℕ, zero, suc, List, [], ◌∷◌, ◌++◌, Result, Ok, length, take, drop, get_or, drop-cons, add-one, ◌+◌, refl, sym, ap, subst, append_assoc}
 use Rattle.std.proofs.lemmas.List.{drop_all}
+use Rattle.std.specs.Prelude.{slice_get}
 use Rattle.mx_stamps.proofs.Lists.{append_nil}
 use Rattle.mx_nodelaws.specs.Core.{Core}
 use Rattle.mx_network.specs.Step.{ClusterState, RunsTo}
@@ -13,7 +14,8 @@ use Rattle.mx_scripts.specs.declared.state.SessionEvent.TheVariants.{Happens, Is
 use Rattle.mx_format.specs.ParcelTexts.{parcel_lines}
 use Rattle.mx_commands.specs.Runs.{event_lines}
 use Rattle.mx_commands.proofs.RunLemmas.{grows}
-use Rattle.mx_play.specs.Histories.{CanLead, Leads, Makes, events_in, new_text}
+use Rattle.mx_play.specs.Histories.{CanLead, Leads, Makes, events_in, made_text, new_text, text_from}
+use Rattle.mx_play.specs.Printed.{lost_text}
 
 same_Ok : {A E : Type 0} (x y : A) → ◌≡◌ {A = Result A E} (Ok x) (Ok y) → x ≡ y
 same_Ok x y e = cc
@@ -111,16 +113,24 @@ module _ {H S M : Type 0} (core : Core H S M) where
     makes_append (e ∷ es) fs old mid new t s x y =
         let next : RunState S M = x.0 in
         let rest : Text = x.1 in
-        let first : Text = new_text core letter_text p old next in
+        let first : Text = made_text core letter_text p e old next in
         (next, rest ++ s, x.2, x.3, ap (λ (l : Text). l ++ s) x.4 ∙ append_assoc first rest s, makes_append es fs next mid new rest s x.5 y)
 
-    pub makes_one : (e : SessionEvent) (old new : RunState S M) → IsAllowed old e → Brings core old e new → Makes core letter_text p old (e ∷ []) new (new_text core letter_text p old new)
-    makes_one e old new a b = (new, [], a, b, sym (append_nil (new_text core letter_text p old new)), (refl, refl))
+    pub makes_one : (e : SessionEvent) (old new : RunState S M) → IsAllowed old e → Brings core old e new → Makes core letter_text p old (e ∷ []) new (made_text core letter_text p e old new)
+    makes_one e old new a b = (new, [], a, b, sym (append_nil (made_text core letter_text p e old new)), (refl, refl))
 
     -- the text from these places on
-    pub text_is : (event parcel : ℕ) (old new : RunState S M) (g : ClusterState S M) (t t' : Text) → event ≡ length old.cluster.trace → parcel ≡ length old.cluster.sent → g ≡ new.cluster
+    text_is : (event parcel : ℕ) (old new : RunState S M) (g : ClusterState S M) (t t' : Text) → event ≡ length old.cluster.trace → parcel ≡ length old.cluster.sent → g ≡ new.cluster
         → t' ≡ t ++ (event_lines p event (drop event g.trace) ++ parcel_lines letter_text p parcel (drop parcel g.sent)) → t' ≡ t ++ new_text core letter_text p old new
     text_is event parcel old new g t t' is_event is_parcel is x =
         x ∙ ap (λ (h : ClusterState S M). t ++ (event_lines p event (drop event h.trace) ++ parcel_lines letter_text p parcel (drop parcel h.sent))) is
         ∙ ap (λ (k : ℕ). t ++ (event_lines p k (drop k new.cluster.trace) ++ parcel_lines letter_text p parcel (drop parcel new.cluster.sent))) is_event
         ∙ ap (λ (k : ℕ). t ++ (event_lines p (length old.cluster.trace) (drop (length old.cluster.trace) new.cluster.trace) ++ parcel_lines letter_text p k (drop k new.cluster.sent))) is_parcel
+
+    -- what is printed of an event
+    pub made_is : (e : SessionEvent) (events parcels : ℕ) (old new : RunState S M) (g : ClusterState S M) (t t' : Text) → events ≡ length old.cluster.trace → parcels ≡ length old.cluster.sent → g ≡ new.cluster
+        → t' ≡ t ++ text_from letter_text p e events parcels g → t' ≡ t ++ made_text core letter_text p e old new
+    made_is (Happens e) events parcels old new g t t' is_event is_parcel is x = text_is events parcels old new g t t' is_event is_parcel is x
+    made_is (IsLost k) events parcels old new g t t' is_event is_parcel is x =
+        x ∙ ap (λ (h : ClusterState S M). t ++ lost_text letter_text p k (slice_get h.sent k)) is
+    made_is (LinksChange change) events parcels old new g t t' is_event is_parcel is x = x

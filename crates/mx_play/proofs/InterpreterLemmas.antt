@@ -5,11 +5,12 @@ use Rattle.mx_nodelaws.specs.Core.{Core}
 use Rattle.mx_lines.specs.declared.orders.Order.{Order}
 use Rattle.mx_plan.specs.Text.{Text}
 use Rattle.mx_plan.specs.Fields.{Fields}
-use Rattle.mx_scripts.specs.Lines.{IsNext, Performs, Repeats}
+use Rattle.mx_scripts.specs.Lines.{IsNext, Performs, Repeats, StopsAfter, StopsWithin}
 use Rattle.mx_scripts.specs.States.{IsAllowed, RunState}
+use Rattle.mx_scripts.specs.declared.line_failure.LineFailure.{LineFailure}
 use Rattle.mx_scripts.specs.declared.state.SessionEvent.{SessionEvent}
-use Rattle.mx_scripts.proofs.LineLemmas.{performs_next, repeats_end, repeats_next}
-use Rattle.mx_play.specs.Histories.{new_text}
+use Rattle.mx_scripts.proofs.LineLemmas.{performs_next, repeats_end, repeats_next, stops_next, within_here, within_next}
+use Rattle.mx_play.specs.Histories.{made_text}
 use Rattle.mx_play.specs.Sessions.{Adds, AddsOne, Extends, SessionState}
 use Rattle.mx_play.proofs.HistoryLemmas.{makes_append, makes_one}
 
@@ -56,7 +57,7 @@ module _ {H S M : Type 0} (core : Core H S M) (letter_text : Fields → M → Te
 
   adds_one : (e : SessionEvent) (a b : SessionState S M) (t t' : Text) → IsAllowed a.state e → AddsOne core letter_text p e a b t t' → Adds core letter_text p (e ∷ []) a b t t'
   adds_one e a b t t' allowed x = record {
-    made = new_text core letter_text p a.state b.state;
+    made = made_text core letter_text p e a.state b.state;
     makes = makes_one core letter_text p e a.state b.state allowed x.brings;
     done = x.done;
     marks = x.marks;
@@ -74,9 +75,10 @@ module _ {H S M : Type 0} (core : Core H S M) (letter_text : Fields → M → Te
     pub before : List SessionEvent
     pub adds : Adds core letter_text p before first now t t'
     pub next : (last : RunState S M) → (es : List SessionEvent) → Performs core o count now.state es last → Performs core o 0 first.state (before ++ es) last
+    pub stops : (why : LineFailure) → (es : List SessionEvent) → StopsAfter core o count now.state es why → StopsAfter core o 0 first.state (before ++ es) why
 
   pub performing_first : (o : Order) (s : SessionState S M) (t : Text) → Performing o 0 s s t t
-  performing_first o s t = record { before = []; adds = adds_not s t; next = λ last es x. x }
+  performing_first o s t = record { before = []; adds = adds_not s t; next = λ last es x. x; stops = λ why es x. x }
 
   pub performing_next : (o : Order) (count : ℕ) (e : SessionEvent) (first now new : SessionState S M) (t t' t'' : Text) → Performing o count first now t t'
       → IsNext now.state.fates now.state.cluster.sent o count (Some e) → IsAllowed now.state e → AddsOne core letter_text p e now new t' t'' → Performing o (count + 1) first new t t''
@@ -85,6 +87,8 @@ module _ {H S M : Type 0} (core : Core H S M) (letter_text : Fields → M → Te
     adds = adds_more x.before (e ∷ []) first now new t t' t'' x.adds (adds_one e now new t' t'' allowed one);
     next = λ last es y. subst (λ (l : List SessionEvent). Performs core o 0 first.state l last) (sym (append_assoc x.before (e ∷ []) es))
         (x.next last (e ∷ es) (performs_next core o count e es now.state new.state last next allowed one.brings y));
+    stops = λ why es y. subst (λ (l : List SessionEvent). StopsAfter core o 0 first.state l why) (sym (append_assoc x.before (e ∷ []) es))
+        (x.stops why (e ∷ es) (stops_next core o count e es now.state new.state why next allowed one.brings y));
   }
 
   pub performing_end : (o : Order) (count : ℕ) (first now : SessionState S M) (t t' : Text) → Performing o count first now t t'
@@ -99,11 +103,17 @@ module _ {H S M : Type 0} (core : Core H S M) (letter_text : Fields → M → Te
     pub before : List SessionEvent
     pub adds : Adds core letter_text p before first now t t'
     pub next : (last : RunState S M) → (es : List SessionEvent) → Repeats core o (times - i) now.state es last → Repeats core o times first.state (before ++ es) last
+    pub stops : (why : LineFailure) → StopsWithin core o (times - i) now.state why → StopsWithin core o times first.state why
 
   pub repeating_first : (o : Order) (times : ℕ) (s : SessionState S M) (t : Text) → Repeating o times 0 s s t t
   repeating_first o times s t =
       let n : times - 0 ≡ times = omega arith in
-      record { before = []; adds = adds_not s t; next = λ last es x. subst (λ (k : ℕ). Repeats core o k s.state es last) n x }
+      record {
+        before = [];
+        adds = adds_not s t;
+        next = λ last es x. subst (λ (k : ℕ). Repeats core o k s.state es last) n x;
+        stops = λ why x. subst (λ (k : ℕ). StopsWithin core o k s.state why) n x;
+      }
 
   pub repeating_next : (o : Order) (times i : ℕ) (es : List SessionEvent) (first now new : SessionState S M) (t t' t'' : Text) → i < times → Repeating o times i first now t t'
       → Performs core o 0 now.state es new.state → Adds core letter_text p es now new t' t'' → Repeating o times (i + 1) first new t t''
@@ -112,7 +122,13 @@ module _ {H S M : Type 0} (core : Core H S M) (letter_text : Fields → M → Te
     adds = adds_more x.before es first now new t t' t'' x.adds adds;
     next = λ last fs y. subst (λ (l : List SessionEvent). Repeats core o times first.state l last) (sym (append_assoc x.before es fs))
         (x.next last (es ++ fs) (repeats_next core o times i es fs now.state new.state last lt performs y));
+    stops = λ why y. x.stops why (within_next core o times i now.state new.state why lt (es, performs) y);
   }
+
+  -- this repetition stops
+  pub repeating_stops : (o : Order) (times i : ℕ) (first now : SessionState S M) (t t' : Text) (why : LineFailure) → i < times → Repeating o times i first now t t'
+      → (es : List SessionEvent) × StopsAfter core o 0 now.state es why → StopsWithin core o times first.state why
+  repeating_stops o times i first now t t' why lt x y = x.stops why (within_here core o times i now.state why lt y)
 
   pub repeating_end : (o : Order) (times i : ℕ) (first now : SessionState S M) (t t' : Text) → times ≤ i → Repeating o times i first now t t'
       → (es : List SessionEvent) × Repeats core o times first.state es now.state × Adds core letter_text p es first now t t'

@@ -3,8 +3,10 @@ pub mod HistoryLemmas
 mod InterpreterLemmas
 pub mod SessionLemmas
 mod SessionLineLemmas
+mod TypedLemmas
 mod LineTurnLemmas
 mod LinePlanLemmas
+mod ReportLemmas
 pub mod TurnLemmas
 pub mod PlayedLemmas
 mod CommandLemmas

@@ -3,11 +3,10 @@ use Rattle.std.proofs.Common.{◌≡◌, ◌≤◌, ◌⊎◌, true, List, [], �
 use Rattle.std.specs.Str.{IsUtf8}
 use Rattle.mx_cli.specs.Reading.{IsRead, Reads}
 use Rattle.mx_cli.specs.declared.stop.Stop.{Stop}
-use Rattle.mx_lines.specs.declared.errors.LineError.{LineError}
 use Rattle.mx_plan.specs.Text.{Text}
 use Rattle.mx_plan.specs.Fields.{Fields}
 use Rattle.mx_play.specs.Lines.{AreLeft, ReadsNext, after_line, session_lines}
-use Rattle.mx_play.specs.LineTurns.{AsksFor, Comes, IsInputOf, Means, MeansText, ReadsInput}
+use Rattle.mx_play.specs.LineTurns.{AsksFor, Comes, HasFault, IsInputOf, Means, MeansText, ReadsInput}
 use Rattle.mx_play.specs.Played.{IsLinePlan}
 use Rattle.mx_play.specs.declared.input.Input.{Input}
 use Rattle.mx_play.specs.declared.input.Input.TheVariants as input
@@ -22,9 +21,7 @@ module _ (p : Fields) (rest : Option (List Text)) (buffer : Text) where
   input_of_line : (line : Text) (of : Input) → length line ≤ MAX_LINE → buffer ≡ line → Means p buffer of → IsInputOf p line of buffer
   input_of_line line (input.Command command) short is means =
       (is, subst (λ (l : Text). AsksFor p l command) is (subst (λ (l : Text). length l ≤ MAX_LINE) (sym is) short, means.0, means.1))
-  input_of_line line (input.Fault fault) short is (inl bytes) = inr (inl (subst (λ (l : Text). ¬ IsUtf8 l) is bytes))
-  input_of_line line (input.Fault fault) short is (inr words) =
-      inr (inr (subst (λ (l : Text). (error : LineError) × Comes p l (Err error)) is words))
+  input_of_line line (input.Fault fault) short is means = subst (λ (l : Text). HasFault p l fault) is means
   input_of_line line input.Eof short is means = absurd means
 
   -- a line was read
@@ -93,7 +90,7 @@ module _ (rest : Option (List Text)) (buffer : Text) (lines : Option (List Text)
 module _ (p : Fields) (text line : Text) (is : text ≡ line) (utf8 : IsUtf8 line) where
   means_line : (of : Input) → MeansText p text of → Means p line of
   means_line (input.Command command) x = (utf8, subst (λ (l : Text). Comes p l (Ok command)) is x)
-  means_line (input.Fault fault) x = inr (subst (λ (l : Text). (error : LineError) × Comes p l (Err error)) is x)
+  means_line (input.Fault fault) x = subst (λ (l : Text). HasFault p l fault) is x
   means_line input.Eof x = absurd x
 
   pub means_on_ok : {E : Type 0} (r : Result Input E) → IfOk r (MeansText p text) → IfOk r (Means p line)

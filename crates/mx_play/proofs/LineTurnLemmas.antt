@@ -9,9 +9,10 @@ use Rattle.mx_lines.specs.declared.commands.SessionCommand.TheVariants.{Does, Un
 use Rattle.mx_plan.specs.Text.{Text}
 use Rattle.mx_plan.specs.Fields.{Fields}
 use Rattle.mx_play.specs.Commands.{IsTurnOf, Turn, executes, refuses, rests}
-use Rattle.mx_play.specs.LineTurns.{AreTurnsOf, AsksFor, IsInputOf, IsTurnOfLine, ReadsInput, ends, has_ended, is_end}
+use Rattle.mx_play.specs.LineTurns.{AreTurnsOf, AsksFor, HasFault, IsInputOf, IsTurnOfLine, ReadsInput, ends, has_ended, is_end}
 use Rattle.mx_play.specs.Sessions.{SessionState}
 use Rattle.mx_play.specs.Turns.{CanRefuse, Takes}
+use Rattle.mx_play.specs.declared.faults.InputFault.{InputFault}
 use Rattle.mx_play.specs.declared.input.Input.{Input}
 use Rattle.mx_play.specs.declared.input.Input.TheVariants as input
 
@@ -35,15 +36,22 @@ ended_more (u ∷ turns) t e =
 
 -- ---- the turn of an input
 
+none_is_some : (fault : InputFault) → ◌≡◌ {A = Option InputFault} None (Some fault) → ⊥
+none_is_some fault e = cc
+
+same_fault : (fault why : InputFault) → ◌≡◌ {A = Option InputFault} (Some why) (Some fault) → fault ≡ why
+same_fault fault why e = let same : why ≡ fault = cc in sym same
+
 module _ (p : Fields) where
   pub turn_of_line : (line : Text) (of : Input) (buffer : Text) (t : Turn) → IsInputOf p line of buffer → IsTurnOf of buffer t → IsTurnOfLine p line t
   turn_of_line line (input.Command command) buffer (executes done from) x y =
       (y.1 ∙ x.0, subst (λ (c : SessionCommand). AsksFor p line c) (sym y.0) x.1)
-  turn_of_line line (input.Command command) buffer (refuses done) x y = subst (λ (c : SessionCommand). AsksFor p line c) (sym y) x.1
-  turn_of_line line (input.Command command) buffer rests x y = absurd y
+  turn_of_line line (input.Command command) buffer (refuses done fault) x y = subst (λ (c : SessionCommand). AsksFor p line c) (sym y) x.1
+  turn_of_line line (input.Command command) buffer (rests why) x y = absurd y
   turn_of_line line (input.Fault fault) buffer (executes done from) x y = absurd y
-  turn_of_line line (input.Fault fault) buffer (refuses done) x y = absurd y
-  turn_of_line line (input.Fault fault) buffer rests x y = x
+  turn_of_line line (input.Fault fault) buffer (refuses done why) x y = absurd y
+  turn_of_line line (input.Fault fault) buffer (rests None) x y = absurd (none_is_some fault y)
+  turn_of_line line (input.Fault fault) buffer (rests (Some why)) x y = subst (λ (f : InputFault). HasFault p line f) (same_fault fault why y) x
   turn_of_line line input.Eof buffer t x y = absurd x
 
 ends_command : (done : SessionCommand) (from : Text) → ends (executes done from) ≡ is_end (input.Command done)
@@ -57,30 +65,30 @@ ends_command Help from = refl
 ends_command End from = refl
 ends_command Nothing from = refl
 
-refused_command : {S M : Type 0} (done : SessionCommand) (s : SessionState S M) → CanRefuse done s → false ≡ is_end (input.Command done)
-refused_command (Does line) s h = refl
-refused_command (Undo count) s h = refl
-refused_command Redo s h = refl
-refused_command (Show to) s h = absurd h
-refused_command Events s h = absurd h
-refused_command Mark s h = absurd h
-refused_command Help s h = absurd h
-refused_command End s h = absurd h
-refused_command Nothing s h = absurd h
+refused_command : {H S M : Type 0} (core : Core H S M) (fault : InputFault) (done : SessionCommand) (s : SessionState S M) → CanRefuse core fault done s → false ≡ is_end (input.Command done)
+refused_command core fault (Does line) s h = refl
+refused_command core fault (Undo count) s h = refl
+refused_command core fault Redo s h = refl
+refused_command core fault (Show to) s h = absurd h
+refused_command core fault Events s h = absurd h
+refused_command core fault Mark s h = absurd h
+refused_command core fault Help s h = absurd h
+refused_command core fault End s h = absurd h
+refused_command core fault Nothing s h = absurd h
 
 module _ {H S M : Type 0} (core : Core H S M) (letter_text : Fields → M → Text) (knows : S → List Known) (p : Fields) (shape : H) where
   pub ends_as : (of : Input) (buffer : Text) (t : Turn) (old new : SessionState S M) (text : Text) → IsTurnOf of buffer t → Takes core letter_text knows p shape t old new text → ends t ≡ is_end of
   ends_as (input.Command command) buffer (executes done from) old new text y x =
       ends_command done from ∙ ap (λ (c : SessionCommand). is_end (input.Command c)) y.0
-  ends_as (input.Command command) buffer (refuses done) old new text y x =
-      refused_command done old x.0 ∙ ap (λ (c : SessionCommand). is_end (input.Command c)) y
-  ends_as (input.Command command) buffer rests old new text y x = absurd y
+  ends_as (input.Command command) buffer (refuses done fault) old new text y x =
+      refused_command core fault done old x.0 ∙ ap (λ (c : SessionCommand). is_end (input.Command c)) y
+  ends_as (input.Command command) buffer (rests why) old new text y x = absurd y
   ends_as (input.Fault fault) buffer (executes done from) old new text y x = absurd y
-  ends_as (input.Fault fault) buffer (refuses done) old new text y x = absurd y
-  ends_as (input.Fault fault) buffer rests old new text y x = refl
+  ends_as (input.Fault fault) buffer (refuses done why) old new text y x = absurd y
+  ends_as (input.Fault fault) buffer (rests why) old new text y x = refl
   ends_as input.Eof buffer (executes done from) old new text y x = absurd y
-  ends_as input.Eof buffer (refuses done) old new text y x = absurd y
-  ends_as input.Eof buffer rests old new text y x = refl
+  ends_as input.Eof buffer (refuses done why) old new text y x = absurd y
+  ends_as input.Eof buffer (rests why) old new text y x = refl
 
 -- ---- a loop over lines
 

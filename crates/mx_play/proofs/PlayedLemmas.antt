@@ -1,6 +1,6 @@
 -- Sessions that were played, of what was read.
-use Rattle.std.proofs.Common.{◌++◌, List, Option, Some, None, subst}
-use Rattle.std.specs.Io.KnownBytes.{Keeps}
+use Rattle.std.proofs.Common.{◌++◌, List, [], Option, Some, None, subst}
+use Rattle.std.specs.Io.KnownBytes.{Appends, Keeps}
 use Rattle.mx_nodelaws.specs.Core.{Core}
 use Rattle.mx_knowledge.specs.Facts.{Known}
 use Rattle.mx_ricart.specs.Step.{ricart_core}
@@ -14,18 +14,19 @@ use Rattle.mx_plan.specs.Fields.{Fields}
 use Rattle.mx_plan.specs.declared.shape.Shape.{Shape}
 use Rattle.mx_plan.specs.declared.shape.Shape.TheVariants.{Ricart, Maekawa, Raymond}
 use Rattle.mx_format.specs.LetterTexts.{ricart_text, maekawa_text, raymond_text}
-use Rattle.mx_cli.proofs.OutputLemmas.{Appends-keeps}
+use Rattle.mx_cli.specs.Reports.{Seen}
+use Rattle.mx_cli.proofs.OutputLemmas.{Appends-keeps, Appends-trans}
+use Rattle.mx_stamps.proofs.Lists.{append_nil}
 use Rattle.mx_commands.specs.Runs.{closing_text}
-use Rattle.mx_io.specs.Outputs.{Held}
 use Rattle.mx_play.specs.Commands.{Turn}
 use Rattle.mx_play.specs.Lines.{AreLeft}
 use Rattle.mx_play.specs.LineTurns.{AreTurns}
 use Rattle.mx_play.specs.Played.{IsPlayedBy}
 use Rattle.mx_play.specs.Turns.{IsPlayed}
 
-module _ {H S M : Type 0} (core : Core H S M) (letter_text : Fields → M → Text) (knows : S → List Known) (p : Fields) (shape : H) (script : Text) (a b c : Held) where
-  played_keeps : (lines : Option (List Text)) → IsPlayed core letter_text knows p shape script lines a b → Keeps b c → IsPlayed core letter_text knows p shape script lines a c
-  played_keeps lines x same = record {
+module _ {H S M : Type 0} (core : Core H S M) (letter_text : Fields → M → Text) (knows : S → List Known) (p : Fields) (shape : H) (script : Text) (a b c : Seen) where
+  played_keeps : (lines : Option (List Text)) → IsPlayed core letter_text knows p shape script lines a b → Keeps b.out c.out → Appends b.err c.err [] → IsPlayed core letter_text knows p shape script lines a c
+  played_keeps lines x same none = record {
     turns = x.turns;
     are = x.are;
     last = x.last;
@@ -33,7 +34,10 @@ module _ {H S M : Type 0} (core : Core H S M) (letter_text : Fields → M → Te
     takes = x.takes;
     replays = x.replays;
     over = x.over;
-    printed = Appends-keeps a b c (x.text ++ closing_text core letter_text p x.last.state.cluster) x.printed same;
+    printed = Appends-keeps a.out b.out c.out (x.text ++ closing_text core letter_text p x.last.state.cluster) x.printed same;
+    told = x.told;
+    reported = x.reported;
+    reports = subst (λ (l : Text). Appends a.err c.err l) (append_nil x.told) (Appends-trans a.err b.err c.err x.told [] x.reports none);
   }
 
   left_are : (lines rest : Option (List Text)) (turns : List Turn) → AreLeft lines rest → AreTurns p script rest turns → AreTurns p script lines turns
@@ -51,10 +55,13 @@ module _ {H S M : Type 0} (core : Core H S M) (letter_text : Fields → M → Te
     replays = x.replays;
     over = x.over;
     printed = x.printed;
+    told = x.told;
+    reported = x.reported;
+    reports = x.reports;
   }
 
-module _ (p : Fields) (script : Text) (a b c : Held) where
-  pub by_keeps : (lines : Option (List Text)) (shape : Shape) → IsPlayedBy p script lines a b shape → Keeps b c → IsPlayedBy p script lines a c shape
+module _ (p : Fields) (script : Text) (a b c : Seen) where
+  pub by_keeps : (lines : Option (List Text)) (shape : Shape) → IsPlayedBy p script lines a b shape → Keeps b.out c.out → Appends b.err c.err [] → IsPlayedBy p script lines a c shape
   by_keeps lines (Ricart count) = played_keeps ricart_core ricart_text ricart_known p count script a b c lines
   by_keeps lines (Maekawa family) = played_keeps maekawa_core maekawa_text maekawa_known p family script a b c lines
   by_keeps lines (Raymond tree) = played_keeps raymond_core raymond_text raymond_known p tree script a b c lines

@@ -1,5 +1,5 @@
 -- What a line of a session asks for.
-use Rattle.std.specs.Prelude.{◌≡◌, ⊤, List, [], ◌∷◌, length}
+use Rattle.std.specs.Prelude.{◌≡◌, ⊤, List, [], ◌∷◌, Option, Some, None, length}
 use Rattle.std.specs.Borrow.{Bor}
 use Rattle.mx_lines.specs.Names.{texts_of}
 use Rattle.mx_lines.specs.Words.{AreWords, before_comment}
@@ -8,6 +8,7 @@ use Rattle.mx_lines.specs.declared.commands.SessionCommand.TheVariants.{Does}
 use Rattle.mx_plan.specs.Text.{Text}
 use Rattle.mx_plan.specs.Fields.{Fields}
 use Rattle.mx_scripts.specs.Scripts.{IsOver}
+use Rattle.mx_play.specs.declared.faults.InputFault.{InputFault}
 use Rattle.mx_play.specs.declared.input.Input.{Input}
 use Rattle.mx_play.specs.declared.input.Input.TheVariants as input
 
@@ -34,16 +35,21 @@ IsSecondWord line word =
     × (word ≡ second_of (texts_of words))
 
 -- what a session does with a line: it executes or refuses the line's command; or it does nothing,
--- since the line is at fault
+-- since the line is at fault, or since there is no line
 pub data Turn : Type 0 where
   executes : SessionCommand → Text → Turn
-  refuses : SessionCommand → Turn
-  rests : Turn
+  refuses : SessionCommand → InputFault → Turn
+  rests : Option InputFault → Turn
+
+-- the fault of a turn, if it has one
+abbrev pub turn_fault : Turn → Option InputFault
+turn_fault (executes done from) = None
+turn_fault (refuses done fault) = Some fault
+turn_fault (rests fault) = fault
 
 abbrev pub IsTurnOf : Input → Text → Turn → Type 0
 IsTurnOf (input.Command command) line (executes done from) = (done ≡ command) × (from ≡ line)
-IsTurnOf (input.Command command) line (refuses done) = done ≡ command
-IsTurnOf (input.Command command) line rests = ⊥
-IsTurnOf _ line (executes done from) = ⊥
-IsTurnOf _ line (refuses done) = ⊥
-IsTurnOf _ line rests = ⊤
+IsTurnOf (input.Command command) line (refuses done fault) = done ≡ command
+IsTurnOf (input.Fault fault) line (rests why) = why ≡ Some fault
+IsTurnOf input.Eof line (rests why) = why ≡ None
+IsTurnOf _ line _ = ⊥

@@ -1,9 +1,11 @@
--- The lines that a session shows for cut links.
+-- The lines that a session prints for cut links.
 use Rattle.std.specs.Prelude.{ℕ, ◌&&◌, ◌||◌, ◌==◌, Bool, true, [], ◌++◌, Option, Some, None, codes, drop, if◌then◌else◌}
 use Rattle.mx_plan.specs.Text.{Text, line_feed}
 use Rattle.mx_plan.specs.Fields.{Fields}
 use Rattle.mx_format.specs.EventTexts.{name_of}
 use Rattle.mx_format.specs.Lines.{texts_from}
+use Rattle.mx_lines.specs.declared.orders.LinkChange.{LinkChange}
+use Rattle.mx_lines.specs.declared.orders.LinkChange.TheVariants.{Cut, CutAll, Heal}
 use Rattle.mx_scripts.specs.Links.{LinkState, is_cut}
 
 -- the node is the one that was named; any node, if none was
@@ -14,6 +16,12 @@ is_to (Some node) addressee = addressee == node
 abbrev pub cut_line : Fields → ℕ → ℕ → Text
 cut_line p one other =
     codes "cut " ++ name_of p one ++ codes " " ++ name_of p other ++ line_feed
+
+-- a change of links, as the line that asks for it
+abbrev pub change_line : Fields → LinkChange → Text
+change_line p (Cut one other) = cut_line p one other
+change_line p (CutAll node) = codes "cut " ++ name_of p node ++ line_feed
+change_line p Heal = codes "heal" ++ line_feed
 
 -- the link is cut, and the node that was named, if one was, is at one of its ends
 abbrev pub is_shown : Option ℕ → LinkState → ℕ → ℕ → Bool

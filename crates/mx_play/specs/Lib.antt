@@ -1,9 +1,11 @@
 pub mod Help
-pub mod Histories
+pub mod Printed
 pub mod Cuts
+pub mod Histories
 pub mod Views
 pub mod Commands
 pub mod Lines
+pub mod TypedLines
 pub mod SameLines
 pub mod LineTurns
 pub mod Sessions

@@ -1,5 +1,5 @@
 -- The turn of each line of a session.
-use Rattle.std.specs.Prelude.{◌≡◌, ◌≤◌, ◌<◌, ◌⊎◌, ◌||◌, Bool, true, false, List, [], ◌∷◌, ◌++◌, Option, Some, Result, Ok, Err, IfSome, length}
+use Rattle.std.specs.Prelude.{◌≡◌, ◌≤◌, ◌<◌, ◌||◌, Bool, true, false, List, [], ◌∷◌, ◌++◌, Option, Some, None, Result, Ok, Err, IfSome, length}
 use Rattle.std.specs.Str.{IsUtf8}
 use Rattle.std.specs.Borrow.{Bor}
 use Rattle.mx_lines.specs.Commands.{command_of}
@@ -8,10 +8,13 @@ use Rattle.mx_lines.specs.Words.{AreWords, before_comment}
 use Rattle.mx_lines.specs.declared.commands.SessionCommand.{SessionCommand}
 use Rattle.mx_lines.specs.declared.commands.SessionCommand.TheVariants.{End}
 use Rattle.mx_lines.specs.declared.errors.LineError.{LineError}
+use Rattle.mx_scripts.specs.declared.line_failure.LineFailure.TheVariants.{WrongWord}
 use Rattle.mx_plan.specs.Text.{Text}
 use Rattle.mx_plan.specs.Fields.{Fields}
 use Rattle.mx_play.specs.Lines.{lines_of}
 use Rattle.mx_play.specs.Commands.{Turn, executes, refuses, rests}
+use Rattle.mx_play.specs.declared.faults.InputFault.{InputFault}
+use Rattle.mx_play.specs.declared.faults.InputFault.TheVariants.{NotText, Line, TooLong, TooFew, NoUndo}
 use Rattle.mx_play.specs.declared.input.Input.{Input}
 use Rattle.mx_play.specs.declared.input.Input.TheVariants as input
 use Rattle.mx_play.specs.declared.lines.TheConstants.{MAX_LINE}
@@ -39,30 +42,32 @@ module _ (p : Fields) where
   abbrev pub AsksFor : Text → SessionCommand → Type 0
   AsksFor line command = (length line ≤ MAX_LINE) × IsUtf8 line × Comes line (Ok command)
 
-  -- a line is too long, not in UTF-8, or has a wrong word
-  abbrev pub IsAtFault : Text → Type 0
-  IsAtFault line =
-      (MAX_LINE < length line) ⊎ (¬ IsUtf8 line) ⊎ ((error : LineError) × Comes line (Err error))
+  -- a line has this fault: it is too long, not in UTF-8, or has a wrong word
+  abbrev pub HasFault : Text → InputFault → Type 0
+  HasFault line TooLong = MAX_LINE < length line
+  HasFault line NotText = ¬ IsUtf8 line
+  HasFault line (Line why) =
+      (error : LineError) × Comes line (Err error) × (why ≡ WrongWord error)
+  HasFault line (TooFew lines) = ⊥
+  HasFault line NoUndo = ⊥
 
-  -- the words of a text ask for the command of this input; or one of them is wrong, and the input
-  -- is a fault
+  -- the words of a text ask for the command of this input; or the input is its fault
   abbrev pub MeansText : Text → Input → Type 0
   MeansText line (input.Command command) = Comes line (Ok command)
-  MeansText line (input.Fault fault) = (error : LineError) × Comes line (Err error)
+  MeansText line (input.Fault fault) = HasFault line fault
   MeansText line input.Eof = ⊥
 
-  -- the same of bytes that may not be in UTF-8: if they are not, the input is a fault
+  -- the same of bytes that may not be in UTF-8
   abbrev pub Means : Text → Input → Type 0
   Means line (input.Command command) = IsUtf8 line × Comes line (Ok command)
-  Means line (input.Fault fault) =
-      (¬ IsUtf8 line) ⊎ ((error : LineError) × Comes line (Err error))
+  Means line (input.Fault fault) = HasFault line fault
   Means line input.Eof = ⊥
 
-  -- a line was read into a buffer and asks for the command of this input; or the line is at fault,
-  -- and the input is a fault
+  -- a line was read into a buffer and asks for the command of this input; or the input is the fault
+  -- of the line
   abbrev pub IsInputOf : Text → Input → Text → Type 0
   IsInputOf line (input.Command command) buffer = (buffer ≡ line) × AsksFor line command
-  IsInputOf line (input.Fault fault) buffer = IsAtFault line
+  IsInputOf line (input.Fault fault) buffer = HasFault line fault
   IsInputOf line input.Eof buffer = ⊥
 
   -- the input is that of the first of these lines, and the others are still to come; or there are
@@ -74,8 +79,9 @@ module _ (p : Fields) where
   -- the turn is that of this line
   abbrev pub IsTurnOfLine : Text → Turn → Type 0
   IsTurnOfLine line (executes command from) = (from ≡ line) × AsksFor line command
-  IsTurnOfLine line (refuses command) = AsksFor line command
-  IsTurnOfLine line rests = IsAtFault line
+  IsTurnOfLine line (refuses command fault) = AsksFor line command
+  IsTurnOfLine line (rests (Some fault)) = HasFault line fault
+  IsTurnOfLine line (rests None) = ⊥
 
   -- these are the turns of these lines, in order: of all, or up to the first that ends the session
   abbrev pub AreTurnsOf : List Text → List Turn → Type 0

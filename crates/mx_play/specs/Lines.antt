@@ -1,5 +1,5 @@
 -- The lines of a session.
-use Rattle.std.specs.Prelude.{ℕ, ◌≡◌, ◌≤◌, ◌<◌, ◌==◌, Bool, true, false, List, [], ◌∷◌, Option, Some, IfSome, length, option_map, if◌then◌else◌}
+use Rattle.std.specs.Prelude.{ℕ, ◌≡◌, ◌≤◌, ◌<◌, ◌==◌, ⊤, Bool, true, false, List, [], ◌∷◌, Option, Some, IfSome, length, option_map, if◌then◌else◌}
 use Rattle.mx_plan.specs.Text.{Text}
 use Rattle.mx_play.specs.declared.lines.LineRead.{LineRead}
 use Rattle.mx_play.specs.declared.lines.LineRead.TheVariants.{Line, TooLong, End, Unreadable}
@@ -32,8 +32,9 @@ ReadsLine line End buffer = ⊥
 ReadsLine line Unreadable buffer = ⊥
 
 -- the first of these lines was read, and the others are still to come; or there are no lines, and
--- the end was read
+-- the end was read; or they could not be read
 abbrev pub ReadsNext : List Text → LineRead → Text → Option (List Text) → Type 0
+ReadsNext lines Unreadable buffer rest = ⊤
 ReadsNext [] read buffer rest = (read ≡ End) × (buffer ≡ []) × (rest ≡ Some [])
 ReadsNext (line ∷ lines) read buffer rest = ReadsLine line read buffer × (rest ≡ Some lines)
 

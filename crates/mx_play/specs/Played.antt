@@ -16,13 +16,12 @@ use Rattle.mx_cli.specs.Reading.{IsPlanOf, IsRead, is_dash}
 use Rattle.mx_cli.specs.Reports.{Declines, Seen}
 use Rattle.mx_cli.specs.Requests.{Request, play}
 use Rattle.mx_io.specs.Told.{Telling}
-use Rattle.mx_io.specs.Outputs.{Held}
 use Rattle.mx_play.specs.Lines.{first_of, session_lines}
 use Rattle.mx_play.specs.Turns.{IsPlayed}
 
 -- a session was played in the cluster of the plan, by its algorithm: the lines of a script, and then
 -- those that come
-abbrev pub IsPlayedBy : Fields → Text → Option (List Text) → Held → Held → Shape → Type 0
+abbrev pub IsPlayedBy : Fields → Text → Option (List Text) → Seen → Seen → Shape → Type 0
 IsPlayedBy p script lines old new (Ricart count) =
     IsPlayed ricart_core ricart_text ricart_known p count script lines old new
 IsPlayedBy p script lines old new (Maekawa family) =
@@ -61,8 +60,8 @@ IsScriptOf told text = IfSome told (λ telling. telling ≡ Some text)
 
 -- the plan and the script of these names were read, and a session was played: the lines of the
 -- script, and then those that come, without the plan if it is the first of them
-abbrev pub HasPlayed : (Text → Option Telling) → Option (List Text) → Text → Option Text → Held
-    → Held → Type 0
+abbrev pub HasPlayed : (Text → Option Telling) → Option (List Text) → Text → Option Text → Seen
+    → Seen → Type 0
 HasPlayed told lines plan first old new =
     (p : Fields) × (script : Text) × IsPlanNamed told plan lines p
     × IsScriptOf (told_of_script told first) script
@@ -71,7 +70,7 @@ HasPlayed told lines plan first old new =
 -- with status 0, a session was played, and all that it printed was passed on
 pub record Plays (told : Text → Option Telling) (lines : Option (List Text)) (plan : Text)
     (first : Option Text) (old new : Seen) (status : ℕ) : Type 0 where
-  pub played : status ≡ 0 → HasPlayed told lines plan first old.out new.out
+  pub played : status ≡ 0 → HasPlayed told lines plan first old new
   pub passed : status ≡ 0 → new.kept_back ≡ false
   pub status_is : IsRunStatus status
 

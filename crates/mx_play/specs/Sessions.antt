@@ -6,7 +6,7 @@ use Rattle.mx_plan.specs.Fields.{Fields}
 use Rattle.mx_scripts.specs.Played.{AreOver}
 use Rattle.mx_scripts.specs.States.{Brings, RunState}
 use Rattle.mx_scripts.specs.declared.state.SessionEvent.{SessionEvent}
-use Rattle.mx_play.specs.Histories.{CanLead, Leads, Makes, events_in, first_state, new_text}
+use Rattle.mx_play.specs.Histories.{CanLead, Leads, Makes, events_in, first_state, made_text}
 use Rattle.mx_play.specs.declared.undo.Undone.{Undone}
 
 -- the cluster and its parcels as they are now; the events that happened, in order; for each line
@@ -66,4 +66,4 @@ module _ {H S M : Type 0} (core : Core H S M) (letter_text : Fields → M → Te
     pub done : new.done ≡ old.done ++ event ∷ []
     pub marks : new.marks ≡ old.marks
     pub undone : new.undone ≡ old.undone
-    pub printed : text' ≡ text ++ new_text core letter_text p old.state new.state
+    pub printed : text' ≡ text ++ made_text core letter_text p event old.state new.state

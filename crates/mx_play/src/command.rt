@@ -70,7 +70,8 @@ fn play_plan<S: Source, L: Lines, O: Output, E: Output>(
     err: &mut E,
 ) -> u8
     ensures played { result ≡ 0 → HasPlayed (S.told source.old) (L.rest lines.old)
-        plan.now (text_of script.entry) (O.written out.old) (O.written out.new) }
+        plan.now (text_of script.entry)
+        (seen O.Output E.Output out.old err.old) (seen O.Output E.Output out.new err.new) }
     ensures passed { result ≡ 0 → O.keeps_back out.new ≡ false }
     ensures status { IsRunStatus result }
 {
@@ -92,7 +93,8 @@ fn play_and_close<L: Lines, O: Output, E: Output>(
     err: &mut E,
 ) -> u8
     ensures played { result ≡ 0 → IsPlayedBy start.now.plan start.now.text.items
-        (L.rest lines.old) (O.written out.old) (O.written out.new) start.now.plan.shape }
+        (L.rest lines.old) (seen O.Output E.Output out.old err.old)
+        (seen O.Output E.Output out.new err.new) start.now.plan.shape }
     ensures passed { result ≡ 0 → O.keeps_back out.new ≡ false }
     ensures status { IsRunStatus result }
 {

@@ -15,7 +15,7 @@ use crate::help::add_words;
 use crate::interpreter::repeat;
 use crate::run_texts::add_events;
 use crate::session::{Session, Setting};
-use crate::undo::{event_count, redo_lines, truncate, undo_lines};
+use crate::undo::{event_count, redo_and_print, truncate, undo_and_print};
 use crate::views::show;
 use mx_format::Letter;
 use mx_knowledge::Knowledge;
@@ -45,8 +45,8 @@ where
 {
     match command {
         SessionCommand::Does(line) => do_line(setting, line, session, text),
-        SessionCommand::Undo(count) => undo_lines(setting, *count, session),
-        SessionCommand::Redo => redo_lines(setting, session),
+        SessionCommand::Undo(count) => undo_and_print(setting, *count, session, text),
+        SessionCommand::Redo => redo_and_print(setting, session, text),
         SessionCommand::Show(to) => {
             show(setting, to, &session.state, text)?;
             Ok(None)
@@ -90,8 +90,10 @@ where
             commit(before, session)?;
             Ok(None)
         }
-        Err(LineFailure::Memory) => Err(AllocError),
         Err(failure) => {
+            if let LineFailure::Memory = failure {
+                return Err(AllocError);
+            }
             truncate(setting, before, session)?;
             text.clear();
             Ok(Some(InputFault::Line(failure)))

@@ -1,9 +1,10 @@
-//! What `show` prints of the links that are cut.
+//! What is printed of links that are cut, or heal.
 
 ghost use Rattle.std.specs.Prelude.{◌≡◌, ◌<◌, ◌++◌, length, string_bytes, OnOk, Some};
-ghost use Rattle.mx_play.specs.Cuts.{cut_line, cut_lines, cut_lines_of, cut_text, is_shown, is_to};
+ghost use Rattle.mx_play.specs.Cuts.{change_line, cut_line, cut_lines, cut_lines_of, cut_text, is_shown, is_to};
 
 use mx_format::name_of;
+use mx_lines::LinkChange;
 use mx_plan::Plan;
 use mx_scripts::InFlight;
 use mx_stamps::{MAX_NODES, NodeId};
@@ -27,6 +28,28 @@ impl fmt::Display for CutLine<'_> {
     }
 }
 
+pub(crate) fn add_change(
+    plan: &Plan,
+    change: &LinkChange,
+    text: &mut String,
+) -> Result<(), AllocError>
+    ensures { OnOk result (string_bytes text.new
+        ≡ string_bytes text.old ++ change_line plan.now change.now) }
+{
+    match change {
+        LinkChange::Cut(one, other) => {
+            let (one, other) = (*one, *other);
+            text.write(CutLine { plan, one, other })
+        }
+        LinkChange::CutAll(node) => {
+            let node = name_of(plan, *node);
+            writeln!(text, "cut {node}")
+        }
+        LinkChange::Heal => text.push_str("heal\n"),
+    }
+}
+
+/// Appends the lines of the links that are cut, for `show`.
 pub(crate) fn add_cuts(
     plan: &Plan,
     to: &Option<NodeId>,

@@ -1,5 +1,8 @@
 //! Why a line of a session does nothing.
 
+ghost use Rattle.std.specs.Prelude.{◌≡◌, Some, string_bytes};
+ghost use Rattle.mx_play.specs.Printed.{input_fault_text, session_line};
+
 use mx_lines::{FirstWords, LineFault};
 use mx_plan::Plan;
 use mx_scripts::{LineFailure, message_of};
@@ -19,10 +22,14 @@ pub(crate) enum InputFault {
 }
 
 impl fmt::Display for InputFault {
+    ghost output = { λ e. Some (input_fault_text e) };
+
     fn fmt<W: fmt::Write>(&self, f: &mut fmt::Formatter<W>) -> fmt::Result {
         match self {
             InputFault::NotText => write!(f, "{}", LineFault::NotText),
-            InputFault::Line(failure) => write!(f, "{failure}"),
+            InputFault::Line(LineFailure::WrongWord(error)) => write!(f, "{}", error.fault),
+            InputFault::Line(LineFailure::Refused(fault)) => write!(f, "{fault}"),
+            InputFault::Line(LineFailure::Memory) => f.write_str("out of memory"),
             InputFault::TooLong => f.write_str("more than 65536 bytes"),
             InputFault::NoUndo => f.write_str("no undo to take back"),
             InputFault::TooFew(lines) => write!(f, "only {lines} to take back"),
@@ -40,9 +47,14 @@ pub(crate) struct InputFaultLine {
 }
 
 impl fmt::Display for InputFaultLine {
+    ghost output = { λ l. Some (session_line l.number l.fault (string_bytes l.message)) };
+
     fn fmt<W: fmt::Write>(&self, f: &mut fmt::Formatter<W>) -> fmt::Result {
-        let fault = self.fault;
-        writeln!(f, "mx: play: line {}: {fault}{}", self.number, self.message)
+        writeln!(
+            f,
+            "mx: play: line {}: {}{}",
+            self.number, self.fault, self.message
+        )
     }
 }
 

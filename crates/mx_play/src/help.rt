@@ -13,7 +13,7 @@ pub(crate) fn add_words(text: &mut String) -> Result<(), AllocError>
 }
 
 const WORDS: &str = "ask N         node N asks to enter\n\
-    enter N       node N enters, where it may\n\
+    enter N       node N enters, if it may\n\
     read N R      node N, inside, reads register R\n\
     write N R V   node N, inside, writes the number V to register R\n\
     leave N       node N leaves\n\
@@ -24,23 +24,24 @@ const WORDS: &str = "ask N         node N asks to enter\n\
     restart N     node N starts again, and keeps its journal\n\
     deliver K     parcel K arrives\n\
     deliver N M   the oldest parcel under way from N to M arrives\n\
-    deliver all   all that are under way arrive, and those that they bring about\n\
-    deliver all N M  the same of those from N to M\n\
+    deliver all   all parcels under way arrive, and those sent meanwhile\n\
+    deliver all N M  the same for those from N to M\n\
     lose N M      the oldest parcel under way from N to M is lost\n\
     lose all      all parcels under way are lost\n\
     lose all N M  all parcels under way from N to M are lost\n\
     again N M     the parcel from N to M that arrived last arrives once more\n\
     cut N M       the link between N and M is cut: no parcel arrives over it\n\
     cut N         all links of node N are cut\n\
-    heal          no link is cut any more\n\
-    times T ..    what follows, T times\n\
-    show          each node, and the parcels under way\n\
-    show N        node N, and the parcels under way to it\n\
-    undo          the last line that was done never happened\n\
-    undo K        the last K lines that were done never happened\n\
-    redo          the last undo never happened\n\
-    events        the events so far, as a file that `mx replay` reads\n\
-    mark WORD     this line itself\n\
-    help          these words\n\
-    end           the closing lines and the verdict, and the end\n\
-    quit, exit    the same as end\n";
+    heal          all links work again\n\
+    times T ..    does what follows T times\n\
+    show          prints each node, and the parcels under way\n\
+    show N        prints node N, and the parcels under way to it\n\
+    undo          undoes the last line that was done\n\
+    undo K        undoes the last K lines that were done\n\
+    redo          reverses the last undo\n\
+    events        prints the events so far, as a file that `mx replay` reads\n\
+    mark WORD     prints `mark WORD`\n\
+    help          lists these lines\n\
+    end           prints the nodes and the verdict, and ends the session\n\
+    quit, exit    the same as end\n\
+    To edit and recall lines, start with `rlwrap mx play PLAN`.\n";

@@ -1,8 +1,9 @@
 //! What the lines of a session ask for.
 
-ghost use Rattle.std.specs.Prelude.{◌≡◌, IfOk, IfSome};
+ghost use Rattle.std.specs.Prelude.{◌≡◌, IfOk, IfSome, OnOk};
 ghost use Rattle.mx_play.specs.Commands.{IsInput};
 ghost use Rattle.mx_play.specs.LineTurns.{Means, MeansText, ReadsInput, is_end};
+ghost use Rattle.mx_play.specs.Printed.{GetsAsides};
 
 use crate::faults::InputFault;
 use crate::lines::{LineRead, Lines};
@@ -32,10 +33,9 @@ pub(crate) fn read_input<L: Lines, E: Output>(
     ensures over { IfOk result (IsInput plan.now) }
     ensures reads { IfSome (L.rest lines.old) (λ known. IfOk result (λ input.
         ReadsInput plan.now known input line.new.items (L.rest lines.new))) }
+    ensures asks { OnOk result (GetsAsides (E.written err.old) (E.written err.new)) }
 {
-    if lines.are_typed() {
-        prompt(err)?;
-    }
+    prompt(lines, err)?;
     match lines.next(line)? {
         LineRead::Line => Ok(input_in(alloc, plan, line.as_slice())?),
         LineRead::TooLong => Ok(Input::Fault(InputFault::TooLong)),
@@ -44,16 +44,23 @@ pub(crate) fn read_input<L: Lines, E: Output>(
     }
 }
 
-pub(crate) fn greet<L: Lines, E: Output>(lines: &L, err: &mut E) -> Result<(), OutputFault> {
+pub(crate) fn greet<L: Lines, E: Output>(lines: &L, err: &mut E) -> Result<(), OutputFault>
+    ensures { OnOk result (GetsAsides (E.written err.old) (E.written err.new)) }
+{
     if lines.are_typed() {
-        err.put(b"help lists all lines, end ends the session\n")?;
+        return err.put(b"help lists all lines, end ends the session\n");
     }
     Ok(())
 }
 
-fn prompt<E: Output>(err: &mut E) -> Result<(), OutputFault> {
-    err.put(b"> ")?;
-    err.flush()
+fn prompt<L: Lines, E: Output>(lines: &L, err: &mut E) -> Result<(), OutputFault>
+    ensures { OnOk result (GetsAsides (E.written err.old) (E.written err.new)) }
+{
+    if lines.are_typed() {
+        err.put(b"> ")?;
+        return err.flush();
+    }
+    Ok(())
 }
 
 fn input_in(alloc: Global, plan: &Plan, line: &[u8]) -> Result<Input, AllocError>

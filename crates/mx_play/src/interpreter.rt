@@ -1,14 +1,14 @@
 //! What a line of a script does to a session.
 
-ghost use Rattle.std.specs.Prelude.{◌≡◌, ◌++◌, List, length, string_bytes, OnErr, OnOk};
+ghost use Rattle.std.specs.Prelude.{◌≡◌, ◌++◌, List, length, string_bytes, IfErr, OnErr, OnOk};
 ghost use Rattle.mx_format.specs.LetterTexts.{letter_text};
-ghost use Rattle.mx_scripts.specs.Lines.{Performs, Repeats};
-ghost use Rattle.mx_scripts.specs.States.{Brings, IsAllowed};
+ghost use Rattle.mx_scripts.specs.Lines.{Performs, Repeats, StopsAfter, StopsWithin};
+ghost use Rattle.mx_scripts.specs.States.{Brings, IsAllowed, IsNotApplied, RunState};
 ghost use Rattle.mx_scripts.specs.declared.state.SessionEvent.{SessionEvent};
-ghost use Rattle.mx_play.specs.Histories.{new_text};
+ghost use Rattle.mx_play.specs.Histories.{made_text};
 ghost use Rattle.mx_play.specs.Sessions.{Adds, AddsOne, Extends};
 
-use crate::event_texts::add_new;
+use crate::event_texts::add_made;
 use crate::session::{Session, Setting};
 use mx_format::Letter;
 use mx_lines::{Line, LineFault, Order};
@@ -29,6 +29,8 @@ where
         × Adds C.core (letter_text C.Msg.parts) setting.now.plan.now events
         session.old session.new (string_bytes text.old) (string_bytes text.new)) }
     ensures err { OnErr result (Extends session.old session.new) }
+    ensures stops { IfErr result
+        (StopsWithin C.core line.now.order line.now.times session.old.state) }
 {
     for _count in 0..line.times {
         perform(setting, &line.order, session, text)?;
@@ -49,6 +51,8 @@ where
         × Adds C.core (letter_text C.Msg.parts) setting.now.plan.now events
         session.old session.new (string_bytes text.old) (string_bytes text.new)) }
     ensures err { OnErr result (Extends session.old session.new) }
+    ensures stops { IfErr result (λ why. (es : List SessionEvent)
+        × StopsAfter C.core order.now 0 session.old.state es why) }
 {
     for count in 0..u64::MAX {
         let next = session.state.next_event(order, count)?;
@@ -72,6 +76,8 @@ where
     ensures ok { OnOk result (AddsOne C.core (letter_text C.Msg.parts) setting.now.plan.now
         event.now session.old session.new (string_bytes text.old) (string_bytes text.new)) }
     ensures err { OnErr result (Extends session.old session.new) }
+    ensures stops { IfErr result (λ why. (new : RunState C C.Msg)
+        × IsNotApplied C.core session.old.state event.now new why) }
 {
     apply_to(setting, event, &mut session.state, text)?;
     session.done.push(*event)?;
@@ -89,11 +95,13 @@ where
     requires allowed { IsAllowed state.old event.now }
     ensures brings { OnOk result (Brings C.core state.old event.now state.new) }
     ensures printed { OnOk result (string_bytes text.new ≡ string_bytes text.old
-        ++ new_text C.core (letter_text C.Msg.parts) setting.now.plan.now state.old state.new) }
+        ++ made_text C.core (letter_text C.Msg.parts) setting.now.plan.now event.now
+        state.old state.new) }
+    ensures stops { IfErr result (IsNotApplied C.core state.old event.now state.new) }
 {
     let (events, parcels) = counts(state);
     state.apply(event)?;
-    add_new(setting.plan, state.cluster(), events, parcels, text)?;
+    add_made(setting.plan, event, state.cluster(), events, parcels, text)?;
     Ok(())
 }
 

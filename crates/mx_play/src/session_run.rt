@@ -1,13 +1,13 @@
 //! A run of a session: its lines are read, executed and printed, one after another.
 
-ghost use Rattle.std.specs.Prelude.{◌≡◌, [], false, length, string_bytes, IfOk, OnOk};
+ghost use Rattle.std.specs.Prelude.{◌≡◌, [], Some, false, length, string_bytes, IfOk, OnOk};
 ghost use Rattle.std.specs.Io.KnownBytes.{Appends};
-ghost use Rattle.std.specs.Option.{is_some};
 ghost use Rattle.mx_format.specs.LetterTexts.{letter_text};
+ghost use Rattle.mx_cli.specs.Reports.{seen};
 ghost use Rattle.mx_commands.specs.Runs.{closing_text};
 ghost use Rattle.mx_play.specs.Commands.{IsInput};
 ghost use Rattle.mx_play.specs.Sessions.{IsSession, at_start};
-ghost use Rattle.mx_play.specs.Turns.{HasRun, HasTurned, IsPlayed, PrintsTurn, RunsOn};
+ghost use Rattle.mx_play.specs.Turns.{HasRun, HasTurned, IsPlayed, PrintsTurn, Reports, RunsOn, TakesTurn};
 
 use crate::commands::execute;
 use crate::faults::{InputFault, InputFaultLine, message_about};
@@ -37,7 +37,7 @@ where
         ≡ at_start C.core setting.now.plan.now setting.now.shape.now }
     ensures played { IfOk result (λ _. IsPlayed C.core (letter_text C.Msg.parts) C.knows
         setting.now.plan.now setting.now.shape.now script.now (L.rest lines.old)
-        (O.written out.old) (O.written out.new)) }
+        (seen O.Output E.Output out.old err.old) (seen O.Output E.Output out.new err.new)) }
     ensures zero { IfOk result (λ status. status ≡ 0) }
 {
     let mut listed = Listed { rest: script };
@@ -58,8 +58,9 @@ where
     C::Msg: Letter,
     requires { IsSession C.core setting.now.plan.now setting.now.shape.now session.old }
     ensures run { OnOk result (RunsOn C.core (letter_text C.Msg.parts) C.knows
-        setting.now.plan.now setting.now.shape.now (is_some next) (L.rest lines.old)
-        session.old session.new (O.written out.old) (O.written out.new)) }
+        setting.now.plan.now setting.now.shape.now next (L.rest lines.old)
+        session.old session.new
+        (seen O.Output E.Output out.old err.old) (seen O.Output E.Output out.new err.new)) }
     ensures is { OnOk result
         (IsSession C.core setting.now.plan.now setting.now.shape.now session.new) }
 {
@@ -85,8 +86,9 @@ where
     C::Msg: Letter,
     requires { IsSession C.core setting.now.plan.now setting.now.shape.now session.old }
     ensures run { IfOk result (λ next. HasRun C.core (letter_text C.Msg.parts) C.knows
-        setting.now.plan.now setting.now.shape.now (L.rest lines.old) (is_some next)
-        session.old session.new (O.written out.old) (O.written out.new)) }
+        setting.now.plan.now setting.now.shape.now first (L.rest lines.old) next
+        session.old session.new
+        (seen O.Output E.Output out.old err.old) (seen O.Output E.Output out.new err.new)) }
     ensures is { IfOk result (λ _.
         IsSession C.core setting.now.plan.now setting.now.shape.now session.new) }
 {
@@ -117,9 +119,10 @@ where
     C::Msg: Letter,
     requires is { IsSession C.core setting.now.plan.now setting.now.shape.now session.old }
     requires input { IsInput setting.now.plan.now input.now }
-    ensures turned { OnOk result (PrintsTurn C.core (letter_text C.Msg.parts) C.knows
-        setting.now.plan.now setting.now.shape.now input.now line.now session.old session.new
-        (O.written out.old) (O.written out.new)) }
+    ensures turned { OnOk result (TakesTurn C.core (letter_text C.Msg.parts) C.knows
+        setting.now.plan.now setting.now.shape.now number input.now line.now
+        session.old session.new
+        (seen O.Output E.Output out.old err.old) (seen O.Output E.Output out.new err.new)) }
     ensures is { OnOk result
         (IsSession C.core setting.now.plan.now setting.now.shape.now session.new) }
     ensures passed { OnOk result (O.keeps_back out.new ≡ false) }
@@ -139,9 +142,9 @@ where
     C::Msg: Letter,
     requires is { IsSession C.core setting.now.plan.now setting.now.shape.now session.old }
     requires input { IsInput setting.now.plan.now input.now }
-    ensures turned { IfOk result (λ _. PrintsTurn C.core (letter_text C.Msg.parts) C.knows
-        setting.now.plan.now setting.now.shape.now input.now line.now session.old session.new
-        (O.written out.old) (O.written out.new)) }
+    ensures turned { IfOk result (λ fault. PrintsTurn C.core (letter_text C.Msg.parts) C.knows
+        setting.now.plan.now setting.now.shape.now input.now line.now fault
+        session.old session.new (O.written out.old) (O.written out.new)) }
     ensures is { IfOk result (λ _.
         IsSession C.core setting.now.plan.now setting.now.shape.now session.new) }
     ensures passed { IfOk result (λ _. O.keeps_back out.new ≡ false) }
@@ -164,9 +167,9 @@ where
     requires is { IsSession C.core setting.now.plan.now setting.now.shape.now session.old }
     requires input { IsInput setting.now.plan.now input.now }
     requires empty { string_bytes text.old ≡ [] }
-    ensures turned { IfOk result (λ _. HasTurned C.core (letter_text C.Msg.parts) C.knows
-        setting.now.plan.now setting.now.shape.now input.now line.now session.old session.new
-        (string_bytes text.new)) }
+    ensures turned { IfOk result (λ fault. HasTurned C.core (letter_text C.Msg.parts) C.knows
+        setting.now.plan.now setting.now.shape.now input.now line.now fault
+        session.old session.new (string_bytes text.new)) }
     ensures is { IfOk result (λ _.
         IsSession C.core setting.now.plan.now setting.now.shape.now session.new) }
 {
@@ -192,10 +195,26 @@ fn report<C: Exclusion, E: Output>(
     fault: &Option<InputFault>,
     line: &[u8],
     err: &mut E,
-) -> Result<(), Stop> {
-    let Some(fault) = fault else {
-        return Ok(());
-    };
+) -> Result<(), Stop>
+    ensures { OnOk result
+        (Reports number fault.now (E.written err.old) (E.written err.new)) }
+{
+    match fault {
+        Some(fault) => report_fault(setting, number, fault, line, err),
+        None => Ok(()),
+    }
+}
+
+fn report_fault<C: Exclusion, E: Output>(
+    setting: &Setting<'_, C>,
+    number: u64,
+    fault: &InputFault,
+    line: &[u8],
+    err: &mut E,
+) -> Result<(), Stop>
+    ensures { OnOk result
+        (Reports number (Some fault.now) (E.written err.old) (E.written err.new)) }
+{
     let message = message_about(setting.alloc, setting.plan, fault, line)?;
     let said = InputFaultLine {
         number,

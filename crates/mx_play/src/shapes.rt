@@ -1,6 +1,7 @@
 //! A session in the cluster of a plan, by the plan's algorithm.
 
 ghost use Rattle.std.specs.Prelude.{◌≡◌, IfOk};
+ghost use Rattle.mx_cli.specs.Reports.{seen};
 ghost use Rattle.mx_play.specs.Played.{IsPlayedBy};
 
 use crate::lines::Lines;
@@ -22,7 +23,8 @@ pub(crate) fn run_by_plan<L: Lines, O: Output, E: Output>(
     err: &mut E,
 ) -> Result<u8, Stop>
     ensures played { IfOk result (λ _. IsPlayedBy start.now.plan start.now.text.items
-        (L.rest lines.old) (O.written out.old) (O.written out.new) start.now.plan.shape) }
+        (L.rest lines.old) (seen O.Output E.Output out.old err.old)
+        (seen O.Output E.Output out.new err.new) start.now.plan.shape) }
     ensures zero { IfOk result (λ status. status ≡ 0) }
 {
     let plan = &start.plan;

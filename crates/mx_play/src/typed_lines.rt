@@ -1,3 +1,6 @@
+ghost use Rattle.std.specs.Prelude.{◌≡◌, ◌<◌, IfOk};
+ghost use Rattle.mx_play.specs.TypedLines.{AddsByte, Bytes, IsTaking, TakesByte, TakesOn, lines_to_come, read_of, to_come};
+
 use crate::lines::{LineRead, Lines, MAX_LINE};
 use mx_io::{Counted, MAX_BYTES};
 use std::alloc::AllocError;
@@ -25,7 +28,7 @@ pub struct Typed<R: Read + Drop> {
 }
 
 #[derive(Clone, Copy)]
-enum ByteRead {
+pub(crate) enum ByteRead {
     Byte(u8),
     End,
     /// A signal interrupted the read.
@@ -35,7 +38,9 @@ enum ByteRead {
 
 impl<R: Read + Drop> Typed<R> {
     /// Creates the lines of a reader. `is_terminal` says whether they are typed at a terminal.
-    pub fn new(reader: R, is_terminal: bool) -> Self {
+    pub fn new(reader: R, is_terminal: bool) -> Self
+        ensures { to_come R.remaining result ≡ R.remaining reader }
+    {
         Typed {
             reader: Counted::new(reader),
             is_terminal,
@@ -46,15 +51,19 @@ impl<R: Read + Drop> Typed<R> {
         }
     }
 
-    fn byte(&mut self) -> ByteRead {
+    fn byte(&mut self) -> ByteRead
+        ensures { TakesByte result (to_come R.remaining self.old) (to_come R.remaining self.new) }
+    {
         if self.next < self.end {
             return self.take();
         }
         match self.reader.read(&mut self.ahead) {
-            Ok(0) => ByteRead::End,
             Ok(count) => {
                 self.next = 0;
                 self.end = count;
+                if count == 0 {
+                    return ByteRead::End;
+                }
                 self.take()
             }
             Err(e) => match e.kind() {
@@ -64,31 +73,52 @@ impl<R: Read + Drop> Typed<R> {
         }
     }
 
-    fn take(&mut self) -> ByteRead {
+    fn take(&mut self) -> ByteRead
+        requires { self.old.next < self.old.end }
+        ensures { TakesByte result (to_come R.remaining self.old) (to_come R.remaining self.new) }
+    {
         let place = self.next;
-        if place < MAX_AHEAD && self.left > 0 {
-            self.next = place + 1;
-            self.left -= 1;
-            ByteRead::Byte(self.ahead[place])
-        } else {
-            ByteRead::Failure
+        if place >= MAX_AHEAD {
+            return ByteRead::Failure;
+        }
+        if self.left == 0 {
+            return ByteRead::Failure;
+        }
+        self.next = place + 1;
+        self.left -= 1;
+        ByteRead::Byte(self.ahead[place])
+    }
+
+    /// Takes the next byte of a line, or finds where the line ends.
+    fn step(
+        &mut self,
+        line: &mut Vec<u8>,
+        is_long: &mut bool,
+    ) -> Result<Option<LineRead>, AllocError>
+        ensures { IfOk result (λ read. (first : Bytes)
+            → IsTaking first (to_come R.remaining self.old) is_long.old line.old.items
+            → TakesOn read first (to_come R.remaining self.new) is_long.new line.new.items) }
+    {
+        match self.byte() {
+            ByteRead::Byte(byte) => add_byte(byte, line, is_long),
+            ByteRead::End if line.is_empty() => Ok(Some(LineRead::End)),
+            ByteRead::End => Ok(Some(line_read(*is_long))),
+            ByteRead::Nothing => Ok(None),
+            ByteRead::Failure => Ok(Some(LineRead::Unreadable)),
         }
     }
 }
 
 impl<R: Read + Drop> Lines for Typed<R> {
+    ghost rest = { lines_to_come R.remaining };
+
     fn next(&mut self, line: &mut Vec<u8>) -> Result<LineRead, AllocError> {
         line.clear();
         let mut is_long = false;
-        for _ in 0..MAX_STEPS {
-            match self.byte() {
-                ByteRead::Byte(b'\n') => return Ok(line_read(is_long)),
-                ByteRead::Byte(_) if line.len() >= MAX_LINE => is_long = true,
-                ByteRead::Byte(byte) => line.push(byte)?,
-                ByteRead::End if line.is_empty() => return Ok(LineRead::End),
-                ByteRead::End => return Ok(line_read(is_long)),
-                ByteRead::Nothing => {}
-                ByteRead::Failure => return Ok(LineRead::Unreadable),
+        for _step in 0..MAX_STEPS {
+            match self.step(line, &mut is_long)? {
+                Some(read) => return Ok(read),
+                None => {}
             }
         }
         Ok(LineRead::Unreadable)
@@ -99,7 +129,29 @@ impl<R: Read + Drop> Lines for Typed<R> {
     }
 }
 
-fn line_read(is_long: bool) -> LineRead {
+/// Adds a byte to a line, unless it ends the line, or the line is too long.
+fn add_byte(
+    byte: u8,
+    line: &mut Vec<u8>,
+    is_long: &mut bool,
+) -> Result<Option<LineRead>, AllocError>
+    ensures { IfOk result (λ read. AddsByte byte is_long.old line.old.items
+        read is_long.new line.new.items) }
+{
+    if byte == b'\n' {
+        return Ok(Some(line_read(*is_long)));
+    }
+    if line.len() >= MAX_LINE {
+        *is_long = true;
+        return Ok(None);
+    }
+    line.push(byte)?;
+    Ok(None)
+}
+
+fn line_read(is_long: bool) -> LineRead
+    ensures { result ≡ read_of is_long }
+{
     if is_long {
         LineRead::TooLong
     } else {

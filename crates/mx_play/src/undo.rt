@@ -1,9 +1,10 @@
 //! Undoes and redoes lines of a session.
 
-ghost use Rattle.std.specs.Prelude.{◌≡◌, ◌∷◌, ◌++◌, [], IfNone, IfOk, IfSome, OnOk, drop, length, slice_index_or, take};
+ghost use Rattle.std.specs.Prelude.{◌≡◌, ◌∷◌, ◌++◌, [], IfNone, IfOk, IfSome, OnOk, Some, drop, length, slice_index_or, string_bytes, take};
 ghost use Rattle.mx_play.specs.Histories.{CanLead, Leads, first_state};
+ghost use Rattle.mx_play.specs.Printed.{if_done, steps_line};
 ghost use Rattle.mx_play.specs.Sessions.{IsSession};
-ghost use Rattle.mx_play.specs.Turns.{HasRedone, HasUndone};
+ghost use Rattle.mx_play.specs.Turns.{HasRedone, HasUndone, redone_text, undone_text};
 
 use crate::faults::InputFault;
 use crate::session::{Session, Setting, first_state};
@@ -12,6 +13,7 @@ use mx_knowledge::Knowledge;
 use mx_nodelaws::Exclusion;
 use mx_scripts::{SessionEvent, State};
 use std::alloc::{AllocError, Global};
+use std::fmt;
 
 /// What one `undo` took back.
 #[derive(Drop)]
@@ -22,7 +24,108 @@ pub(crate) struct Undone {
     pub(crate) marks: Vec<usize>,
 }
 
-pub(crate) fn undo_lines<C: Exclusion>(
+/// What is printed of lines that were undone or redone.
+#[derive(Clone, Copy)]
+struct StepsLine<'a> {
+    word: &'a str,
+    lines: usize,
+    /// How many events of the cluster.
+    events: usize,
+}
+
+impl fmt::Display for StepsLine<'_> {
+    ghost output = { λ l. Some (steps_line l.word.now l.lines l.events) };
+
+    fn fmt<W: fmt::Write>(&self, f: &mut fmt::Formatter<W>) -> fmt::Result {
+        writeln!(
+            f,
+            "{}: lines {}, events {}",
+            self.word, self.lines, self.events
+        )
+    }
+}
+
+fn add_steps(
+    fault: &Option<InputFault>,
+    steps: StepsLine<'_>,
+    text: &mut String,
+) -> Result<(), AllocError>
+    ensures { OnOk result (string_bytes text.new ≡ string_bytes text.old
+        ++ if_done fault.now (steps_line steps.entry.word.now steps.entry.lines steps.entry.events)) }
+{
+    match fault {
+        Some(_) => Ok(()),
+        None => text.write(steps),
+    }
+}
+
+/// Undoes the last lines, and appends how many lines and events those were.
+pub(crate) fn undo_and_print<C: Exclusion>(
+    setting: &Setting<'_, C>,
+    count: u64,
+    session: &mut Session<C>,
+    text: &mut String,
+) -> Result<Option<InputFault>, AllocError>
+    requires { IsSession C.core setting.now.plan.now setting.now.shape.now session.old }
+    ensures undone { IfOk result (λ fault. HasUndone C.core setting.now.plan.now
+        setting.now.shape.now fault count session.old session.new) }
+    ensures printed { IfOk result (λ fault. string_bytes text.new ≡ string_bytes text.old
+        ++ if_done fault (undone_text session.old session.new)) }
+    ensures is { IfOk result (λ _.
+        IsSession C.core setting.now.plan.now setting.now.shape.now session.new) }
+{
+    let (lines, events) = sizes(session);
+    let fault = undo_lines(setting, count, session)?;
+    let (lines_left, events_left) = sizes(session);
+    let steps = StepsLine {
+        word: "undone",
+        lines: lines.saturating_sub(lines_left),
+        events: events.saturating_sub(events_left),
+    };
+    add_steps(&fault, steps, text)?;
+    Ok(fault)
+}
+
+/// Redoes the last undo, and appends how many lines and events that are.
+pub(crate) fn redo_and_print<C: Exclusion>(
+    setting: &Setting<'_, C>,
+    session: &mut Session<C>,
+    text: &mut String,
+) -> Result<Option<InputFault>, AllocError>
+    requires { IsSession C.core setting.now.plan.now setting.now.shape.now session.old }
+    ensures redone { IfOk result (λ fault. HasRedone C.core fault session.old session.new) }
+    ensures printed { IfOk result (λ fault. string_bytes text.new ≡ string_bytes text.old
+        ++ if_done fault (redone_text session.old session.new)) }
+    ensures is { IfOk result (λ _.
+        IsSession C.core setting.now.plan.now setting.now.shape.now session.new) }
+{
+    let (lines_before, events_before) = sizes(session);
+    let fault = redo_lines(setting, session)?;
+    let (lines, events) = sizes(session);
+    let steps = StepsLine {
+        word: "redone",
+        lines: lines.saturating_sub(lines_before),
+        events: events.saturating_sub(events_before),
+    };
+    add_steps(&fault, steps, text)?;
+    Ok(fault)
+}
+
+/// Returns how many lines were done, and how many events of the cluster have happened.
+fn sizes<C: Exclusion>(session: &Session<C>) -> (usize, usize)
+    ensures lines { result.0 ≡ length session.now.marks }
+    ensures events { result.1 ≡ length session.now.state.cluster.trace }
+{
+    (line_count(session), trace_length(&session.state))
+}
+
+fn trace_length<C: Exclusion>(state: &State<C>) -> usize
+    ensures { result ≡ length state.now.cluster.trace }
+{
+    state.cluster().trace().len()
+}
+
+fn undo_lines<C: Exclusion>(
     setting: &Setting<'_, C>,
     count: u64,
     session: &mut Session<C>,
@@ -60,7 +163,7 @@ fn keep_undone<C: Exclusion>(
     Ok(())
 }
 
-pub(crate) fn redo_lines<C: Exclusion>(
+fn redo_lines<C: Exclusion>(
     setting: &Setting<'_, C>,
     session: &mut Session<C>,
 ) -> Result<Option<InputFault>, AllocError>

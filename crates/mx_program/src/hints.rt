@@ -9,14 +9,21 @@ use std::fmt;
 #[derive(Clone, Copy)]
 struct Hint<'a> {
     plan: &'a str,
-    events: Option<&'a str>,
+    /// The file that comes with the plan.
+    second: Option<&'a str>,
+    /// Whether that file is a script.
+    is_script: bool,
 }
 
 impl fmt::Display for Hint<'_> {
     fn fmt<W: fmt::Write>(&self, f: &mut fmt::Formatter<W>) -> fmt::Result {
-        write!(f, "mx: 'mx explain {}", self.plan)?;
-        if let Some(events) = self.events {
-            write!(f, " {events}")?;
+        f.write_str("mx: 'mx explain ")?;
+        if self.is_script {
+            f.write_str("--script ")?;
+        }
+        f.write_str(self.plan)?;
+        if let Some(second) = self.second {
+            write!(f, " {second}")?;
         }
         f.write_str("' says where and why\n")
     }
@@ -32,7 +39,7 @@ pub(crate) fn tell_hint<E: Output>(alloc: Global, words: &[&str], err: &mut E) {
         return;
     };
     match hint_for(&request) {
-        Some(hint) if hint.plan != "-" && hint.events != Some("-") => {
+        Some(hint) if hint.plan != "-" && hint.second != Some("-") => {
             let _ = write_line(alloc, err, hint);
         }
         _ => {}
@@ -41,20 +48,32 @@ pub(crate) fn tell_hint<E: Output>(alloc: Global, words: &[&str], err: &mut E) {
 
 /// Returns the hint for the files that a request names.
 fn hint_for<'a>(request: &Request<'a>) -> Option<Hint<'a>> {
-    let (plan, events) = match request {
+    let (plan, second) = match request {
         Request::Check { plan, .. } => (*plan, None),
         Request::Explore { exploration, .. }
         | Request::ExploreWalk(exploration, _)
         | Request::Draw(exploration, _) => (exploration.plan, None),
         Request::Live(run) => (run.plan, None),
         Request::Play { plan, script } => (*plan, *script),
-        Request::Replay(names, _)
+        Request::Replay { names, .. }
         | Request::Script(names)
-        | Request::Picture(names, _)
+        | Request::Picture { names, .. }
         | Request::Count { names, .. }
-        | Request::Judge(names) => (names.plan, Some(names.events)),
+        | Request::Judge { names, .. } => (names.plan, Some(names.events)),
         Request::Explain { plan, second, .. } => (*plan, *second),
         Request::Misfit(_) => return None,
     };
-    Some(Hint { plan, events })
+    let is_script = match request {
+        Request::Script(_) => true,
+        Request::Replay { is_script, .. }
+        | Request::Picture { is_script, .. }
+        | Request::Count { is_script, .. }
+        | Request::Explain { is_script, .. } => *is_script,
+        _ => false,
+    };
+    Some(Hint {
+        plan,
+        second,
+        is_script,
+    })
 }

@@ -11,17 +11,8 @@ use Rattle.mx_scripts.specs.declared.in_flight.Wanted.TheVariants.{Waiting, Arri
 
 -- the event delivers none
 pub delivers_none : {P : Type 0} (sent : List (ℕ × ℕ × P)) (e : Event) (f : Fates) → ((k : ℕ) → e ≡ event.Deliver k → ⊥) → delivered sent e f ≡ f
-delivers_none sent (event.Ask i) f h = refl
-delivers_none sent (event.Enter i) f h = refl
-delivers_none sent (event.Read i register) f h = refl
-delivers_none sent (event.Write i register value) f h = refl
-delivers_none sent (event.Leave i) f h = refl
-delivers_none sent (event.Cancel i) f h = refl
-delivers_none sent (event.Tick i) f h = refl
-delivers_none sent (event.Want i j) f h = refl
-delivers_none sent (event.Settle i upto) f h = refl
-delivers_none sent (event.Restart i) f h = refl
 delivers_none sent (event.Deliver k) f h = absurd (h k refl)
+delivers_none sent _ f h = refl
 
 -- ---- which parcels are under way
 

@@ -19,7 +19,7 @@ use Rattle.json.proofs.Printed.Utf8.{IsUtf8-are_ascii}
 use Rattle.mx_events.specs.declared.argument.Argument.{Argument}
 use Rattle.mx_events.specs.declared.argument.Argument.TheVariants as argument
 use Rattle.mx_events.specs.declared.event.Event.{Event}
-use Rattle.mx_events.specs.declared.event.Event.TheVariants.{Ask, Enter, Read, Write, Leave, Cancel, Tick, Want, Settle, Restart, Deliver}
+use Rattle.mx_events.specs.declared.event.Event.TheVariants.{Deliver}
 use Rattle.mx_events.specs.Arguments.{given}
 use Rattle.mx_events.specs.Events.{kind_of}
 use Rattle.mx_events.specs.Words.{word_of}
@@ -206,17 +206,8 @@ event_lexed p e r word parts =
 
 words_are : (e : Event) → IsWord (event_word e)
 unfolding is_name_byte
-words_are (Ask node) = refl
-words_are (Enter node) = refl
-words_are (Read node register) = refl
-words_are (Write node register value) = refl
-words_are (Leave node) = refl
-words_are (Cancel node) = refl
-words_are (Tick node) = refl
-words_are (Want node other) = refl
-words_are (Settle node upto) = refl
-words_are (Restart node) = refl
 words_are (Deliver k) = refl
+words_are _ = refl
 
 pub event_tokens : (q : Place) → Begins q → (p : Fields) (e : Event) (r : Text) → AreParts (parts_of p e)
     → punctuate q (lex between (item_text p e ++ r)) ≡ json_tokens (event_json p e) ++ punctuate after_value (lex between r)

@@ -24,7 +24,7 @@ use Rattle.mx_events.specs.declared.argument.ArgumentKind.{ArgumentKind}
 use Rattle.mx_events.specs.declared.argument.ArgumentKind.TheVariants as wanted
 use Rattle.mx_lines.specs.declared.errors.Expected.{Expected}
 use Rattle.mx_lines.specs.declared.errors.LineError.{LineError}
-use Rattle.mx_lines.specs.declared.lines.Line.{Line}
+use Rattle.mx_lines.specs.declared.line.Line.{Line}
 use Rattle.mx_lines.specs.declared.orders.LinkChange.TheVariants as change
 use Rattle.mx_lines.specs.declared.orders.Order.TheVariants as order
 use Rattle.mx_lines.specs.declared.verbs.Verb.{Verb}

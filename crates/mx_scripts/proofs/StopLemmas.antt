@@ -3,11 +3,11 @@ use Rattle.std.proofs.Common.{◌≡◌, ◌∙◌, ℕ, Err, ap, inr, refl}
 use Rattle.std.specs.Prelude.{string_bytes}
 use Rattle.mx_plan.specs.Text.{Text}
 use Rattle.mx_plan.specs.Fields.{Fields}
-use Rattle.mx_cli.specs.Printing.{IsStopWith, Prints, Sight}
+use Rattle.mx_cli.specs.Printing.{IsStopWith, Prints, Report, Sight}
 use Rattle.mx_cli.specs.declared.stop.Stop.{Stop}
 use Rattle.mx_cli.specs.declared.stop.Stop.TheVariants as stop
 use Rattle.mx_cli.proofs.FrameLemmas.{line_prints, memory_prints}
-use Rattle.mx_scripts.specs.Printed.{IsScript}
+use Rattle.mx_scripts.specs.Printed.{IsOnScript}
 use Rattle.mx_scripts.specs.ScriptFiles.{IsRefusedScript}
 use Rattle.mx_scripts.specs.Scripts.{HasLine, IsLineOf, IsRefused, script_line}
 use Rattle.mx_scripts.specs.declared.line_failure.LineFailure.{LineFailure}
@@ -34,8 +34,9 @@ refused_stops k why l s is h =
     (λ line same. (l.fault, string_bytes l.message, is.1, same ∙ ap (λ (n : ℕ). script_line n l.fault (string_bytes l.message)) is.0)) h
 
 -- the line of a script that is refused is printed
-pub script_stops : (p : Fields) (script : Text) (o : Sight) (s : Stop) → HasLine (IsRefusedScript p script) s → Prints (IsScript p script) o o (Err s)
-script_stops p script o (stop.Line line) h = line_prints (IsScript p script) (string_bytes line) o (stop.Line line) (inr (string_bytes line, h, refl)) refl
-script_stops p script o (stop.Fault fault) h = absurd h
-script_stops p script o stop.Writer h = absurd h
-script_stops p script o stop.Memory h = memory_prints (IsScript p script) o
+module _ (reports : Fields → Text → Report → Type 0) (p : Fields) (script : Text) (o : Sight) where
+  pub script_stops : (s : Stop) → HasLine (IsRefusedScript p script) s → Prints (IsOnScript reports p script) o o (Err s)
+  script_stops (stop.Line line) h = line_prints (IsOnScript reports p script) (string_bytes line) o (stop.Line line) (inr (string_bytes line, h, refl)) refl
+  script_stops (stop.Fault fault) h = absurd h
+  script_stops stop.Writer h = absurd h
+  script_stops stop.Memory h = memory_prints (IsOnScript reports p script) o

@@ -12,7 +12,7 @@ use Rattle.mx_lines.specs.Words.{AreWords, before_comment}
 use Rattle.mx_lines.specs.declared.errors.LineFault.{LineFault}
 use Rattle.mx_lines.specs.declared.errors.LineFault.TheVariants.{NotUnderWay, NotDelivered, TooMany}
 use Rattle.mx_lines.specs.declared.errors.LineError.{LineError}
-use Rattle.mx_lines.specs.declared.lines.Line.{Line}
+use Rattle.mx_lines.specs.declared.line.Line.{Line}
 use Rattle.mx_lines.specs.declared.orders.Order.{Order}
 use Rattle.mx_lines.specs.declared.orders.Order.TheVariants as order
 use Rattle.mx_lines.specs.declared.orders.Scope.TheVariants.{Link}

@@ -1,13 +1,22 @@
--- What the command `script` prints.
-use Rattle.std.specs.Prelude.{◌≡◌, ◌⊎◌}
+-- What the command `script` prints, and a command that gets a script in place of events.
+use Rattle.std.specs.Prelude.{◌≡◌, ◌⊎◌, Bool, true, false}
 use Rattle.mx_plan.specs.Text.{Text}
 use Rattle.mx_plan.specs.Fields.{Fields}
 use Rattle.mx_cli.specs.Printing.{IsWhole, Report, ends, has_line}
 use Rattle.mx_scripts.specs.ScriptFiles.{IsRefusedScript, IsScriptFile}
 
--- a report of `script`: the file of what the lines of the script do in the plan's cluster; or the
--- line that is printed of a script that is refused
-abbrev pub IsScript : Fields → Text → Report → Type 0
-IsScript p script r =
-    ((file : Text) × IsScriptFile p script file p.shape × IsWhole file 0 r)
+-- a report of a command that gets the file of what the lines of a script do in the plan's cluster;
+-- or the line that is printed of a script that is refused
+abbrev pub IsOnScript : (Fields → Text → Report → Type 0) → Fields → Text → Report → Type 0
+IsOnScript reports p script r =
+    ((file : Text) × IsScriptFile p script file p.shape × reports p file r)
     ⊎ ((line : Text) × IsRefusedScript p script line × (r ≡ ends (has_line line)))
+
+-- a report of a command that gets a script, or a file of events
+abbrev pub IsOnText : Bool → (Fields → Text → Report → Type 0) → Fields → Text → Report → Type 0
+IsOnText true reports = IsOnScript reports
+IsOnText false reports = reports
+
+-- a report of `script`, which prints that file
+abbrev pub IsScript : Fields → Text → Report → Type 0
+IsScript = IsOnScript (λ p file. IsWhole file 0)

@@ -61,7 +61,7 @@ where
     }
 }
 
-fn file_of_bytes<K>(
+pub(crate) fn file_of_bytes<K>(
     alloc: Global,
     plan: &Plan,
     script: &[u8],

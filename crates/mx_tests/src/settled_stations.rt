@@ -1,12 +1,11 @@
 //! Nodes in threads. Five count to one hundred by each algorithm, and after each tenth of their
-//! sections settle all that their journals have without gaps: as workers, and by direct calls. Of
-//! three, all letters are lost.
+//! sections settle all that their journals have without gaps: as workers, and by direct calls.
 
 ghost use Rattle.std.specs.Prelude.{IfOk};
 ghost use Rattle.mx_stations.specs.Gathered.{KeepsTable, OfOneTable};
 
 use crate::given::node;
-use crate::workers::{Assembly, Open};
+use crate::workers::Assembly;
 use mx_explorer::Weather;
 use mx_letters::Fates;
 use mx_maekawa::Maekawa;
@@ -17,8 +16,7 @@ use mx_raymond::Raymond;
 use mx_registers::view;
 use mx_ricart::{Count, Ricart};
 use mx_stations::{
-    Field, Gate, Gathered, Script, Station, TakeFault, TurnReport, Worked, gather, work,
-    work_settling,
+    Field, Gate, Gathered, Script, Station, TakeFault, TurnReport, gather, work_settling,
 };
 use mx_trees::Tree;
 use std::alloc::{AllocError, Global};
@@ -145,27 +143,10 @@ fn count_as_worker<C: Exclusion>(station: Station<C>, gate: &Assembly) -> Statio
     work_settling(station, script, 10, gate, weather, 100_000_000).0
 }
 
-/// Works for a section that no node permits. Notes at the gate if it has spent all its turns.
-fn work_in_vain<C: Exclusion>(station: Station<C>, gate: &Assembly) -> Station<C>
-    ensures { KeepsTable station result }
-{
-    let script = Script {
-        register: 0,
-        sections: 1,
-    };
-    let open = Open { may_stop: true };
-    let (station, ended) = work(station, script, &open, Weather::of(1, 256, 0), 1000);
-    if ended == Worked::NotYet(1000) {
-        gate.note_gone();
-    }
-    station
-}
-
 #[derive(Clone, Copy)]
 enum Manner {
     Calls,
     Worker,
-    LostLetters,
 }
 
 fn do_at<C: Exclusion>(station: Station<C>, gate: &Assembly, manner: Manner) -> Station<C>
@@ -174,7 +155,6 @@ fn do_at<C: Exclusion>(station: Station<C>, gate: &Assembly, manner: Manner) -> 
     match manner {
         Manner::Calls => count_by_calls(station, gate),
         Manner::Worker => count_as_worker(station, gate),
-        Manner::LostLetters => work_in_vain(station, gate),
     }
 }
 
@@ -185,6 +165,8 @@ fn created<C: Exclusion>(alloc: Global, shape: &C::Shape) -> Result<Vec<Station<
     Ok(all)
 }
 
+/// Returns whether this was gathered after such threads. Section 100 is the twentieth of its node,
+/// which knows all sections before it, since it read inside. So it has settled them all.
 fn is_settled(all: &Gathered) -> bool {
     let journal = &all.journal;
     all.receipts.len() == 100
@@ -194,33 +176,17 @@ fn is_settled(all: &Gathered) -> bool {
         && view(journal, 1).value(0) == Some(100)
 }
 
-fn is_empty(all: &Gathered) -> bool {
-    all.receipts.is_empty()
-        && all.journal.is_empty()
-        && all.journal.top() == 0
-        && all.journal.base().upto() == 0
-}
-
-/// Returns whether this was gathered after such threads. Section 100 is the twentieth of its node,
-/// which knows all sections before it, since it read inside. So it has settled them all.
-fn is_right(all: &Gathered, manner: Manner) -> bool {
-    match manner {
-        Manner::LostLetters => is_empty(all),
-        Manner::Calls | Manner::Worker => is_settled(all),
-    }
-}
-
-fn are_gathered<C: Exclusion>(alloc: Global, stations: Vec<Station<C>>, manner: Manner) -> bool
+fn are_gathered<C: Exclusion>(alloc: Global, stations: Vec<Station<C>>) -> bool
     requires { OfOneTable stations.items }
 {
     match gather(alloc, stations) {
-        Ok(all) => is_right(&all, manner),
+        Ok(all) => is_settled(&all),
         Err(_) => false,
     }
 }
 
 /// Gives each station to a new thread, and gathers them when the threads have ended. Returns whether
-/// they have the right sections, and how many of them have spent all their turns.
+/// they have the right sections, and how many of them have looked at the gate too often.
 fn worked<C: Exclusion + Send, R: Threads + Sync>(
     rt: &R,
     alloc: Global,
@@ -232,7 +198,7 @@ where
     C::Shape: Send,
     requires { OfOneTable stations.items }
 {
-    let gate = Assembly::new(5, 100_000_000);
+    let gate = Assembly::new(5);
     let back = thread::map_vec(
         rt,
         stations,
@@ -240,7 +206,7 @@ where
             ensures { KeepsTable station result }
         { do_at(station, &gate, manner) },
     )?;
-    Ok((are_gathered(alloc, back, manner), gate.gone()))
+    Ok((are_gathered(alloc, back), gate.gone()))
 }
 
 const COUNTING: [Manner; 2] = [Manner::Worker, Manner::Calls];
@@ -274,13 +240,5 @@ fn settling_nodes_count_by_raymond(rt: HostRuntime) -> Result<(), Fail> {
         let stations = created::<Raymond>(rt.alloc(), &shape)?;
         assert!(rt; worked(&rt, rt.alloc(), stations, manner)? == (true, 0));
     }
-    Ok(())
-}
-
-#[test]
-fn lost_letters_leave_no_section(rt: HostRuntime) -> Result<(), Fail> {
-    let shape = Count::of(3).ok_or("count")?;
-    let stations = created::<Ricart>(rt.alloc(), &shape)?;
-    assert!(rt; worked(&rt, rt.alloc(), stations, Manner::LostLetters)? == (true, 3));
     Ok(())
 }

@@ -18,7 +18,7 @@ drive_events-requires g c =
 pub returns-in_err-cluster-in-Ricart : goal.returns-in_err-cluster-in-Ricart
 returns-in_err-cluster-in-Ricart g c =
     let is : c.from_residual.result ≡ Err stop.Memory = err_is c.from_residual.result stop.Memory c.from_residual.ensures.1 in
-    record { prints = rw is (memory_prints _ (sight g.O.Output c.args.out.now)) }
+    record { prints = rw is (memory_prints _ (sight g.O.Output c.args.out.now)); told = rw is tt }
 
 pub drive_events-requires-in-Maekawa : goal.drive_events-requires-in-Maekawa
 drive_events-requires-in-Maekawa g c =
@@ -27,7 +27,7 @@ drive_events-requires-in-Maekawa g c =
 pub returns-in_err-cluster-in-Maekawa : goal.returns-in_err-cluster-in-Maekawa
 returns-in_err-cluster-in-Maekawa g c =
     let is : c.from_residual-in_err-cluster-in-Maekawa.result ≡ Err stop.Memory = err_is c.from_residual-in_err-cluster-in-Maekawa.result stop.Memory c.from_residual-in_err-cluster-in-Maekawa.ensures.1 in
-    record { prints = rw is (memory_prints _ (sight g.O.Output c.args.out.now)) }
+    record { prints = rw is (memory_prints _ (sight g.O.Output c.args.out.now)); told = rw is tt }
 
 pub drive_events-requires-in-Raymond : goal.drive_events-requires-in-Raymond
 drive_events-requires-in-Raymond g c =
@@ -36,4 +36,4 @@ drive_events-requires-in-Raymond g c =
 pub returns-in_err-cluster-in-Raymond : goal.returns-in_err-cluster-in-Raymond
 returns-in_err-cluster-in-Raymond g c =
     let is : c.from_residual-in_err-cluster-in-Raymond.result ≡ Err stop.Memory = err_is c.from_residual-in_err-cluster-in-Raymond.result stop.Memory c.from_residual-in_err-cluster-in-Raymond.ensures.1 in
-    record { prints = rw is (memory_prints _ (sight g.O.Output c.args.out.now)) }
+    record { prints = rw is (memory_prints _ (sight g.O.Output c.args.out.now)); told = rw is tt }

@@ -26,3 +26,10 @@ returns-clause-text g c =
     let texts = g.K.Sink.texts c.args.sink.now c.args.plan.now in
     c.in_ok-event.ensures.text old entry n.1 c.sent-before.ensures
     ∙ ap (λ (t : Text). t ++ texts.event c.args.index old new) c.requires.empty
+
+pub returns-clause-heard : goal.returns-clause-heard
+returns-clause-heard g c =
+    let old = c.args.cluster.now in
+    let event = c.args.event.now in
+    let n = noted g.C.Exclusion.core old event c.apply.new.cluster c.in_ok-apply.ensures.ok in
+    c.in_ok-event.ensures.heard old (record { event = event; outcome = n.0 }) n.1 c.sent-before.ensures

@@ -9,7 +9,7 @@ use Rattle.mx_cli.specs.Printing.{comes_to, ends, has_status, sight, stop_of}
 use Rattle.mx_cli.specs.declared.stop.Stop.TheVariants as stop
 use Rattle.mx_cli.proofs.OutputLemmas.{Appends-nil, appends_more}
 use Rattle.mx_cli.proofs.ReadLemmas.{err_is}
-use Rattle.mx_commands.proofs.RunLemmas.{after_after, grows, named_at, remaining, remaining_end, remaining_ok, run_ends, run_lacks, run_refused, run_stops}
+use Rattle.mx_commands.proofs.RunLemmas.{after_after, grows, named_at, remaining, remaining_end, remaining_ok, run_ends, run_lacks, run_refused, run_stops, told_end, told_more}
 use Rattle.mx_commands.proofs.driver.drive_events.Goals as goal
 
 pub loop-index-init : goal.loop-index-init
@@ -19,6 +19,7 @@ loop-index-init g c = record {
   sink = refl;
   members = c.requires.members;
   written = ([], Appends-nil (g.O.Output.written c.args.out.now), refl);
+  told = λ last told. told;
 }
 
 pub drive_event-requires : goal.drive_event-requires
@@ -43,7 +44,7 @@ returns-in_err-drive_event g c =
     let s = c.in_err-drive_event.field-0.0 in
     let at_event = subst (λ (x : Event). StopsAt k (step_of core c.loop-index.cluster x) s) c.index-events-index.is c.in_err-drive_event.ensures.err in
     let is : c.from_residual.result ≡ Err s = err_is c.from_residual.result s c.from_residual.ensures.1 in
-    record { prints = rw is (run_stops o m r i.written.0 i.written.1 i.refused i.stays core texts es k c.loop-index.cluster c.index-events-index.result s c.loop-index-test.true i.written.2 at_event) }
+    record { prints = rw is (run_stops o m r i.written.0 i.written.1 i.refused i.stays core texts es k c.loop-index.cluster c.index-events-index.result s c.loop-index-test.true i.written.2 at_event); told = rw is tt }
 
 pub returns-in_err-put : goal.returns-in_err-put
 returns-in_err-put g c =
@@ -60,6 +61,7 @@ returns-in_err-put g c =
     let is : c.from_residual-in_err-put.result ≡ Err (stop_of f) = err_is c.from_residual-in_err-put.result (stop_of f) c.from_residual-in_err-put.ensures.1 in
     record {
       prints = rw is (run_refused o m r i.written.0 i.written.1 i.refused i.stays (sight g.O.Output c.put.new.self) (remaining core texts es k c.loop-index.cluster) f i.written.2 put.err put.refused put.stays put.takes);
+      told = rw is tt;
     }
 
 pub returns-in_err-put-2 : goal.returns-in_err-put-2
@@ -77,6 +79,7 @@ returns-in_err-put-2 g c =
     let is : c.from_residual-in_err-put-2.result ≡ Err (stop_of f) = err_is c.from_residual-in_err-put-2.result (stop_of f) c.from_residual-in_err-put-2.ensures.1 in
     record {
       prints = rw is (run_refused o m r i.written.0 i.written.1 i.refused i.stays (sight g.O.Output c.put-2.new.self) (remaining core texts es k c.loop-index.cluster) f i.written.2 put.err put.refused put.stays put.takes);
+      told = rw is tt;
     }
 
 pub loop-index-preserved : goal.loop-index-preserved
@@ -105,6 +108,7 @@ loop-index-preserved g c =
         appends_more (g.O.Output.written c.args.out.now) (g.O.Output.written c.loop-index.out) (g.O.Output.written c.put.new.self) i.written.0 text i.written.1 put,
         i.written.2 ∙ ap (after_texts i.written.0) (remaining_ok core texts es k old new event c.loop-index-test.true stepped) ∙ after_after i.written.0 (text ∷ []) (remaining core texts es (k + 1) new),
       );
+      told = λ last rest. i.told last (told_more core (record { heard = λ s. g.K.Sink.heard s p; closed = λ s. g.K.Sink.closed s p }) es k old c.loop-index.sink last event c.loop-index-test.true (new, stepped, c.drive_event.new.sink, c.in_ok-drive_event.ensures.heard, rest));
     }
 
 pub end-requires : goal.end-requires
@@ -121,7 +125,7 @@ returns-in_err-status g c =
     let m = sight g.O.Output c.loop-index.out in
     let r = report_from core texts 0 c.args.cluster es in
     let is : c.from_residual-in_err-status.result ≡ Err stop.Memory = err_is c.from_residual-in_err-status.result stop.Memory c.from_residual-in_err-status.ensures.1 in
-    record { prints = rw is (run_lacks o m r i.written.0 i.written.1 i.refused i.stays (remaining core texts es k c.loop-index.cluster) i.written.2) }
+    record { prints = rw is (run_lacks o m r i.written.0 i.written.1 i.refused i.stays (remaining core texts es k c.loop-index.cluster) i.written.2); told = rw is tt }
 
 pub returns : goal.returns
 returns g c =
@@ -146,4 +150,5 @@ returns g c =
     record {
       prints = run_ends o n r (i.written.0 ++ text ∷ []) (appends_more o.held m.held n.held i.written.0 text i.written.1 appended) (put.refused ∙ i.refused) (put.stays ∙ i.stays) (has_status 0) _
           (ap (λ (status : ℕ). comes_to (has_status status)) c.in_ok-status.ensures.zero) so_far;
+      told = i.told c.end.new.self (told_end core (record { heard = λ s. g.K.Sink.heard s p; closed = λ s. g.K.Sink.closed s p }) es k c.loop-index.cluster c.loop-index.sink c.end.new.self c.loop-index-test.false c.in_ok-status.ensures.closed);
     }

@@ -1,14 +1,16 @@
-use Rattle.std.proofs.Common.{◌≡◌, List, length}
+use Rattle.std.proofs.Common.{◌≡◌, List, drop, length}
 use Rattle.std.specs.Io.KnownBytes.{Appends}
 use Rattle.std.specs.List.{concat}
 use Rattle.mx_plan.specs.Text.{Text}
 use Rattle.mx_commands.specs.Runs.{after_texts, report_from}
+use Rattle.mx_commands.specs.Sinks.{IsTold, Tells}
 use Rattle.mx_commands.proofs.RunLemmas.{remaining}
 use Rattle.mx_commands.proofs.driver.drive_events.Given as goal
 
 abbrev pub invariant-loop-index : goal.invariant-loop-index
 invariant-loop-index g l =
     let texts = g.K.Sink.texts l.initial.sink l.plan in
+    let tells : Tells g.row.K.Denot g.row.C.Denot g.row.C-Msg.Denot = record { heard = λ s. g.K.Sink.heard s l.plan; closed = λ s. g.K.Sink.closed s l.plan } in
     record {
       stays : g.O.Output.takes_all l.out ≡ g.O.Output.takes_all l.initial.out;
       refused : g.O.Output.has_refused l.out ≡ g.O.Output.has_refused l.initial.out;
@@ -16,4 +18,7 @@ invariant-loop-index g l =
       members : length l.cluster.members ≡ length l.plan.nodes;
       written : (done : List Text) × Appends (g.O.Output.written l.initial.out) (g.O.Output.written l.out) (concat done)
           × (report_from g.C.Exclusion.core texts 0 l.initial.cluster l.events ≡ after_texts done (remaining g.C.Exclusion.core texts l.events l.index l.cluster));
+      -- what the sink is told from here on, after what it was told so far, is the whole
+      told : (last : g.row.K.Denot) → IsTold g.C.Exclusion.core tells l.index l.cluster (drop l.index l.events) l.sink last
+          → IsTold g.C.Exclusion.core tells 0 l.initial.cluster l.events l.initial.sink last;
     }

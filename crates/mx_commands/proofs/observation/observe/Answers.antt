@@ -9,4 +9,4 @@ returns g c =
     let p = c.args.plan.now in
     let es = c.args.events.now in
     let texts : TextsBy = record { ricart = g.K.Sink-1.texts c.args.sink.now p; maekawa = g.K.Sink-2.texts c.args.sink.now p; raymond = g.K.Sink-3.texts c.args.sink.now p } in
-    record { prints = silent_prints (report_by texts p p.shape es) (run_by p p.shape es) (end_alike texts (replay_lines p) p es p.shape) c.drive.result c.drive.ensures.prints }
+    record { prints = silent_prints (report_by texts p p.shape es) (run_by p p.shape es) (end_alike texts (replay_lines p) p es p.shape) c.drive.result c.drive.ensures.prints; told = c.drive.ensures.told }

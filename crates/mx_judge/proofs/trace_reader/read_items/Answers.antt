@@ -1,8 +1,9 @@
-use Rattle.std.proofs.Common.{◌≡◌, ◌∙◌, ◌+◌, [], Err, Option, Result, ap, refl, subst, sym}
+use Rattle.std.proofs.Common.{◌≡◌, ◌∙◌, ◌+◌, Err, Option, Result, ap, refl, subst, sym}
 use Rattle.serde_json.specs.View.{view}
 use Rattle.mx_trace.specs.declared.outcome.Entry.{Entry}
 use Rattle.mx_judge.specs.Entries.{item_of}
 use Rattle.mx_judge.specs.Faults.{list_fault}
+use Rattle.mx_judge.specs.Listed.{listed, nothing}
 use Rattle.mx_judge.specs.Traces.{Gives, Refuses, with_item}
 use Rattle.mx_judge.specs.declared.faults.ItemFault.{ItemFault}
 use Rattle.mx_judge.specs.declared.faults.TraceFault.{TraceFault}
@@ -13,27 +14,27 @@ pub returns-in-Err : goal.returns-in-Err
 returns-in-Err c =
     let item = item_of c.args.plan.now in
     let items = c.args.items.now in
-    let entries = c.loop-index.entries.items in
+    let t = listed c.loop-index.trace in
     let k = c.loop-index.index in
     let x = c.index-items-index.result in
     let fault = c.in-Err.fault in
-    let wanted = rest view item list_fault items [] 0 in
-    let refused = subst (λ (r : Result (Option Entry) ItemFault). Refuses (with_item entries r) fault) c.item_in.ensures c.in-Err.ensures.err in
-    let named = λ (e : ItemFault) (is : with_item entries (item (view x)) ≡ Err e).
-    c.loop-index.invariant ∙ rest_err view item list_fault items entries k x e c.loop-index-test.true (ap (λ v. with_item entries (item (view v))) (sym c.index-items-index.is) ∙ is) in
+    let wanted = rest view item list_fault items nothing 0 in
+    let refused = subst (λ (r : Result (Option Entry) ItemFault). Refuses (with_item (k + 1) t r) fault) c.item_in.ensures c.in-Err.ensures.err in
+    let named = λ (e : ItemFault) (is : with_item (k + 1) t (item (view x)) ≡ Err e).
+    c.loop-index.invariant ∙ rest_err view item list_fault items t k x e c.loop-index-test.true (ap (λ v. with_item (k + 1) t (item (view v))) (sym c.index-items-index.is) ∙ is) in
     subst (λ (f : TraceFault). Gives wanted (Err f)) (sym c.of_item.ensures)
-    (gives_refused list_fault (k + 1) wanted (with_item entries (item (view x))) fault refl named refused)
+    (gives_refused list_fault (k + 1) wanted (with_item (k + 1) t (item (view x))) fault refl named refused)
 
 pub loop-index-preserved : goal.loop-index-preserved
 loop-index-preserved c =
     let item = item_of c.args.plan.now in
-    let entries = c.loop-index.entries.items in
+    let t = listed c.loop-index.trace in
     let k = c.loop-index.index in
     let x = c.index-items-index.result in
-    let is = ap (λ v. with_item entries (item (view v))) (sym c.index-items-index.is) ∙ ap (with_item entries) (sym c.item_in.ensures) ∙ c.in_default.ensures.ok in
-    c.loop-index.invariant ∙ rest_ok view item list_fault c.args.items.now entries c.add_item.new.entries.items k x c.loop-index-test.true is
+    let is = ap (λ v. with_item (k + 1) t (item (view v))) (sym c.index-items-index.is) ∙ ap (with_item (k + 1) t) (sym c.item_in.ensures) ∙ c.in_default.ensures.ok in
+    c.loop-index.invariant ∙ rest_ok view item list_fault c.args.items.now t (listed c.add_item.new.trace) k x c.loop-index-test.true is
 
 pub returns : goal.returns
 returns c =
     c.loop-index.invariant
-    ∙ rest_end view (item_of c.args.plan.now) list_fault c.args.items.now c.loop-index.entries.items c.loop-index.index c.loop-index-test.false
+    ∙ rest_end view (item_of c.args.plan.now) list_fault c.args.items.now (listed c.loop-index.trace) c.loop-index.index c.loop-index-test.false

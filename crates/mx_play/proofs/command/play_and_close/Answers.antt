@@ -3,6 +3,7 @@ use Rattle.mx_plan.specs.Text.{Text}
 use Rattle.mx_cli.specs.Reports.{seen}
 use Rattle.mx_cli.proofs.ClosedLemmas.{closed_done, closed_passed, closed_status}
 use Rattle.mx_play.proofs.PlayedLemmas.{by_keeps}
+use Rattle.mx_play.proofs.ReportLemmas.{closed_told}
 use Rattle.mx_play.proofs.command.play_and_close.Goals as goal
 
 pub returns : goal.returns
@@ -16,8 +17,8 @@ returns g c =
     let run = c.run_by_plan-ended.result in
     let closes = c.close.ensures.closes in
     record {
-      played = λ zero. by_keeps p c.args.start.now.text.items (g.O.Output.written c.args.out.now) (g.O.Output.written c.run_by_plan-ended.new.out) (g.O.Output.written c.close.new.out) (g.L.Lines.rest c.args.lines.now) p.shape
-          (closed_done names t u old new c.close.result run c.run_by_plan-ended.ensures.played closes zero) closes.0;
+      played = λ zero. by_keeps p c.args.start.now.text.items (seen g.O.Output g.E.Output c.args.out.now c.args.err.now) old new (g.L.Lines.rest c.args.lines.now) p.shape
+          (closed_done names t u old new c.close.result run c.run_by_plan-ended.ensures.played closes zero) closes.0 (closed_told names t u old new c.close.result run closes zero);
       passed = λ zero. closed_passed names t u old new c.close.result run closes zero;
       status = closed_status names t u old new c.close.result run c.run_by_plan-ended.ensures.zero closes;
     }

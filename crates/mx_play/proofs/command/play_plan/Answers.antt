@@ -1,4 +1,5 @@
 use Rattle.mx_cli.specs.Reading.{is_dash}
+use Rattle.mx_cli.specs.Reports.{seen}
 use Rattle.mx_play.specs.Lines.{session_lines}
 use Rattle.mx_play.proofs.PlayedLemmas.{by_left}
 use Rattle.mx_play.proofs.command.play_plan.Goals as goal
@@ -7,11 +8,12 @@ pub returns-in-Ok-clause-played : goal.returns-in-Ok-clause-played
 returns-in-Ok-clause-played g c =
     let start = c.in-Ok.start in
     let lines = session_lines (is_dash c.args.plan.now) (g.L.Lines.rest c.args.lines.now) in
+    let new = seen g.O.Output g.E.Output c.play_and_close.new.out c.play_and_close.new.err in
     λ zero. (
       start.plan,
       start.text.items,
       c.in-Ok.ensures.plan,
       c.in-Ok.ensures.script,
-      by_left start.plan start.text.items (g.O.Output.written c.args.out.now) (g.O.Output.written c.play_and_close.new.out) (g.O.Output.written c.play_and_close.new.out) lines (g.L.Lines.rest c.fetch_start.new.lines) start.plan.shape
+      by_left start.plan start.text.items (seen g.O.Output g.E.Output c.args.out.now c.args.err.now) new new lines (g.L.Lines.rest c.fetch_start.new.lines) start.plan.shape
           c.in-Ok.ensures.left (c.play_and_close.ensures.played zero),
     )

@@ -1,4 +1,4 @@
-use Rattle.std.proofs.Common.{string_bytes}
+use Rattle.std.proofs.Common.{refl, string_bytes}
 use Rattle.mx_format.specs.LetterTexts.{letter_text}
 use Rattle.mx_play.proofs.SessionLemmas.{can_return, is_as_before, line_done, line_session, same_holds}
 use Rattle.mx_play.proofs.commands.do_line.Goals as goal
@@ -31,7 +31,7 @@ returns-in_ok-truncate-in-Err g c =
     let same = is_as_before g.C.Exclusion.core s.plan.now s.shape.now c.args.session.now c.repeat.new.session c.event_count-before.result c.requires.is c.in-Err.ensures.err c.event_count-before.ensures
     c.truncate.new.session t.leads t.done t.marks t.undone in
     record {
-      done = record { same = same; printed = c.clear.ensures.bytes };
+      done = ((c.in-Err.failure, c.in-Err.ensures.stops, c.in_default.not-Memory, refl), record { same = same; printed = c.clear.ensures.bytes });
       is = same_holds g.C.Exclusion.core s.plan.now s.shape.now c.args.session.now c.truncate.new.session same c.requires.is;
     }
 

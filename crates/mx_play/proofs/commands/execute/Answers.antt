@@ -25,25 +25,25 @@ returns-in-Does-clause-executed g c =
 pub returns-in-Undo-clause-executed : goal.returns-in-Undo-clause-executed
 returns-in-Undo-clause-executed g c =
     let s = c.args.setting.now in
-    rw c.in-Undo.is (executed_undo g.C.Exclusion.core (letter_text g.C.Msg.Letter.parts) g.C.Knowledge.knows s.plan.now s.shape.now c.undo_lines.result c.in-Undo.count c.args.line.now
-    c.args.session.now c.undo_lines.new.session (string_bytes c.args.text.now) c.requires.empty c.undo_lines.ensures.undone)
+    rw c.in-Undo.is (executed_undo g.C.Exclusion.core (letter_text g.C.Msg.Letter.parts) g.C.Knowledge.knows s.plan.now s.shape.now c.undo_and_print.result c.in-Undo.count c.args.line.now
+    c.args.session.now c.undo_and_print.new.session (string_bytes c.args.text.now) (string_bytes c.undo_and_print.new.text) c.requires.empty c.undo_and_print.ensures.undone c.undo_and_print.ensures.printed)
 
 pub returns-in-Redo-clause-executed : goal.returns-in-Redo-clause-executed
 returns-in-Redo-clause-executed g c =
     let s = c.args.setting.now in
-    rw c.in-Redo.is (executed_redo g.C.Exclusion.core (letter_text g.C.Msg.Letter.parts) g.C.Knowledge.knows s.plan.now s.shape.now c.redo_lines.result c.args.line.now
-    c.args.session.now c.redo_lines.new.session (string_bytes c.args.text.now) c.requires.empty c.redo_lines.ensures.redone)
+    rw c.in-Redo.is (executed_redo g.C.Exclusion.core (letter_text g.C.Msg.Letter.parts) g.C.Knowledge.knows s.plan.now s.shape.now c.redo_and_print.result c.args.line.now
+    c.args.session.now c.redo_and_print.new.session (string_bytes c.args.text.now) (string_bytes c.redo_and_print.new.text) c.requires.empty c.redo_and_print.ensures.redone c.redo_and_print.ensures.printed)
 
 pub returns-in_ok-add_mark-in-Mark-clause-executed : goal.returns-in_ok-add_mark-in-Mark-clause-executed
 returns-in_ok-add_mark-in-Mark-clause-executed g c =
     let word = c.in_ok-second_word-in-Mark.field-0.now in
     rw c.in-Mark.is (word, c.in_ok-second_word-in-Mark.ensures, record { same = refl; printed = c.in_ok-add_mark-in-Mark.ensures ∙ ap (λ (l : Text). l ++ mark_line word) c.requires.empty })
 
-pub undo_lines-requires : goal.undo_lines-requires
-undo_lines-requires g c = (search c.requires-raw, c.requires.is)
+pub undo_and_print-requires : goal.undo_and_print-requires
+undo_and_print-requires g c = (search c.requires-raw, c.requires.is)
 
-pub redo_lines-requires : goal.redo_lines-requires
-redo_lines-requires g c = (search c.requires-raw, c.requires.is)
+pub redo_and_print-requires : goal.redo_and_print-requires
+redo_and_print-requires g c = (search c.requires-raw, c.requires.is)
 
 pub add_events-requires : goal.add_events-requires
 add_events-requires g c = grind (arith, common_steps)

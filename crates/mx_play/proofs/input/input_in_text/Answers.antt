@@ -1,4 +1,4 @@
-use Rattle.std.proofs.Common.{◌≡◌, Err, List, Ok, subst, sym}
+use Rattle.std.proofs.Common.{◌≡◌, Err, List, Ok, refl, subst, sym}
 use Rattle.std.specs.Borrow.{Bor}
 use Rattle.mx_lines.specs.Commands.{command_of}
 use Rattle.mx_lines.specs.Names.{known_of, texts_of}
@@ -24,4 +24,5 @@ returns-clause-means c = (
     c.in_ok-words.ensures,
     subst (λ (l : List (Bor Text)). command_of (known_of c.args.plan.now) (texts_of l) ≡ Err c.in-Err.error) c.as_slice.ensures.value (sym c.in-Err.ensures),
   ),
+  refl,
 )

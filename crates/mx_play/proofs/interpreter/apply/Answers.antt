@@ -1,6 +1,9 @@
-use Rattle.std.proofs.Common.{arith, refl, subst, sym}
+use Rattle.std.proofs.Common.{arith, inl, refl, subst, sym}
 use Rattle.std.proofs.lemmas.Grind.{common_steps}
-use Rattle.mx_scripts.specs.States.{IsAllowed}
+use Rattle.mx_scripts.specs.States.{IsAllowed, IsNotApplied, RunState}
+use Rattle.mx_scripts.specs.declared.line_failure.LineFailure.{LineFailure}
+use Rattle.mx_scripts.specs.declared.line_failure.LineFailure.TheVariants as failure
+use Rattle.mx_scripts.proofs.LineLemmas.{err_of}
 use Rattle.mx_play.specs.Sessions.{SessionState}
 use Rattle.mx_play.proofs.InterpreterLemmas.{extends_done}
 use Rattle.mx_play.proofs.interpreter.apply.Goals as goal
@@ -26,3 +29,15 @@ returns-clause-ok g c =
       undone = refl;
       printed = c.in_ok-apply_to.ensures.printed;
     })
+
+pub returns-in_err-apply_to-clause-stops : goal.returns-in_err-apply_to-clause-stops
+returns-in_err-apply_to-clause-stops g c =
+    let stops = c.in_err-apply_to.ensures.stops in
+    err_of (λ (why : LineFailure). (new : RunState g.row.C.Denot g.row.C-Msg.Denot) × IsNotApplied g.C.Exclusion.core c.args.session.now.state c.args.event.now new why) c.from_residual.result
+    c.in_err-apply_to.field-0.0 c.from_residual.ensures.1
+    (c.apply_to.new.state, rw (← c.session.view_is) stops)
+
+pub returns-in_err-push-clause-stops : goal.returns-in_err-push-clause-stops
+returns-in_err-push-clause-stops g c =
+    err_of (λ (why : LineFailure). (new : RunState g.row.C.Denot g.row.C-Msg.Denot) × IsNotApplied g.C.Exclusion.core c.args.session.now.state c.args.event.now new why) c.from_residual-in_err-push.result
+    failure.Memory c.from_residual-in_err-push.ensures.1 (c.apply_to.new.state, inl refl)

@@ -1,9 +1,13 @@
-use Rattle.std.proofs.Common.{Option, rules, string_bytes, subst, arith}
+use Rattle.std.proofs.Common.{List, Option, [], inl, inr, refl, rules, string_bytes, subst, arith}
 use Rattle.std.specs.Prelude.{IfSome}
 use Rattle.mx_format.specs.LetterTexts.{letter_text}
-use Rattle.mx_scripts.specs.Lines.{IsNext}
+use Rattle.mx_lines.specs.declared.errors.LineFault.TheVariants.{TooMany}
+use Rattle.mx_scripts.specs.Lines.{IsNext, IsNoNext, StopsAfter}
 use Rattle.mx_scripts.specs.States.{IsAllowed}
+use Rattle.mx_scripts.specs.declared.line_failure.LineFailure.{LineFailure}
+use Rattle.mx_scripts.specs.declared.line_failure.LineFailure.TheVariants as failure
 use Rattle.mx_scripts.specs.declared.state.SessionEvent.{SessionEvent}
+use Rattle.mx_scripts.proofs.LineLemmas.{err_of}
 use Rattle.mx_play.specs.Sessions.{SessionState}
 use Rattle.mx_play.proofs.InterpreterLemmas.{adds_extends, extends_more, on_err, performing_end, performing_first, performing_next}
 use borrow.Author.Count.{falls}
@@ -58,3 +62,29 @@ next_event-requires g c = search (arith, c.requires-raw)
 
 pub loop-count-smaller : goal.loop-count-smaller
 loop-count-smaller g c = falls 18446744073709551615 c.loop-count.count c.loop-count-test.true
+
+pub returns-in_err-next-clause-stops : goal.returns-in_err-next-clause-stops
+returns-in_err-next-clause-stops g c =
+    let l = c.loop-count in
+    let failed = c.in_err-next in
+    let why = failure.Refused failed.field-0.0 in
+    let none = subst (λ (s : SessionState g.row.C.Denot g.row.C-Msg.Denot). IsNoNext s.state c.args.order.now l.count failed.field-0.0) c.session.view_is failed.ensures.err in
+    err_of (λ (w : LineFailure). (es : List SessionEvent) × StopsAfter g.C.Exclusion.core c.args.order.now 0 c.args.session.now.state es w) c.from_residual.result why c.from_residual.ensures.1
+    (_, l.invariant.stops why [] (inl (failed.field-0.0, none, refl)))
+
+pub returns-in_err-apply-in-Some-clause-stops : goal.returns-in_err-apply-in-Some-clause-stops
+returns-in_err-apply-in-Some-clause-stops g c =
+    let l = c.loop-count in
+    let failed = c.in_err-apply-in-Some in
+    let why = failed.field-0.0 in
+    let asked = subst (λ (s : SessionState g.row.C.Denot g.row.C-Msg.Denot). IsNext s.state.fates s.state.cluster.sent c.args.order.now l.count c.in_ok-next.next) c.session.view_is c.in_ok-next.ensures.next in
+    let next = subst (λ (o : Option SessionEvent). IsNext l.session.state.fates l.session.state.cluster.sent c.args.order.now l.count o) c.in-Some.is asked in
+    let stops = failed.ensures.stops in
+    err_of (λ (w : LineFailure). (es : List SessionEvent) × StopsAfter g.C.Exclusion.core c.args.order.now 0 c.args.session.now.state es w) c.from_residual-in_err-apply-in-Some.result why
+    c.from_residual-in_err-apply-in-Some.ensures.1
+    (_, l.invariant.stops why [] (inr (inl (c.in-Some.event, stops.0, next, stops.1))))
+
+pub returns-clause-stops : goal.returns-clause-stops
+returns-clause-stops g c =
+    let past = c.loop-count-test.false in
+    (_, c.loop-count.invariant.stops (failure.Refused TooMany) [] (inr (inr (omega (arith, past), refl))))

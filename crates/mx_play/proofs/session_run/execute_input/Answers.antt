@@ -1,4 +1,4 @@
-use Rattle.std.proofs.Common.{refl, rules, string_bytes}
+use Rattle.std.proofs.Common.{None, Some, refl, rules, string_bytes}
 use Rattle.mx_format.specs.LetterTexts.{letter_text}
 use Rattle.mx_play.specs.Commands.{rests}
 use Rattle.mx_play.proofs.TurnLemmas.{turned_on_ok}
@@ -8,10 +8,10 @@ pub execute-requires : goal.execute-requires
 execute-requires g c = (first_of (search rules, search (rules, c.requires-raw)), (c.requires.is, (rw c.in-Command.is at c.requires.input, c.requires.empty)))
 
 pub returns-in-Fault-clause-turned : goal.returns-in-Fault-clause-turned
-returns-in-Fault-clause-turned g c = rw c.in-Fault.is (record { turn = rests; is = tt; takes = record { same = refl; printed = c.requires.empty } })
+returns-in-Fault-clause-turned g c = rw c.in-Fault.is (record { turn = rests (Some c.in-Fault.fault); is = refl; faulty = refl; takes = record { same = refl; printed = c.requires.empty } })
 
 pub returns-in-Eof-clause-turned : goal.returns-in-Eof-clause-turned
-returns-in-Eof-clause-turned g c = rw c.in-Eof.is (record { turn = rests; is = tt; takes = record { same = refl; printed = c.requires.empty } })
+returns-in-Eof-clause-turned g c = rw c.in-Eof.is (record { turn = rests None; is = refl; faulty = refl; takes = record { same = refl; printed = c.requires.empty } })
 
 pub returns-in-Command-clause-turned : goal.returns-in-Command-clause-turned
 returns-in-Command-clause-turned g c =

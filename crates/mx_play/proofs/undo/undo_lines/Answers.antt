@@ -1,4 +1,5 @@
 use Rattle.std.proofs.Common.{◌≡◌, ◌≤◌, ◌-◌, ℕ, ap, arith, length, rules, refl}
+use Rattle.mx_play.specs.declared.faults.InputFault.TheVariants as input_fault
 use Rattle.mx_play.proofs.SessionLemmas.{can_truncate, session_undone, was_undone}
 use Rattle.mx_play.proofs.undo.undo_lines.Goals as goal
 
@@ -42,7 +43,8 @@ pub overflow_sub-left : goal.overflow_sub-left
 overflow_sub-left g c = c.if-count-lines.false
 
 pub returns-then-count-lines-clause-undone : goal.returns-then-count-lines-clause-undone
-returns-then-count-lines-clause-undone g c = (rw c.line_count-lines.ensures at c.if-count-lines.true, refl)
+returns-then-count-lines-clause-undone g c =
+    ((rw c.line_count-lines.ensures at c.if-count-lines.true, ap (λ (n : ℕ). input_fault.TooFew n) c.line_count-lines.ensures), refl)
 
 pub returns-then-count-lines-clause-is : goal.returns-then-count-lines-clause-is
 returns-then-count-lines-clause-is g c = c.requires

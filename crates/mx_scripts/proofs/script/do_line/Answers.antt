@@ -1,5 +1,5 @@
 use Rattle.std.proofs.Common.{Option, arith, subst}
-use Rattle.mx_lines.specs.declared.lines.Line.{Line}
+use Rattle.mx_lines.specs.declared.line.Line.{Line}
 use Rattle.mx_scripts.specs.Lines.{IsNotDone, Reads}
 use Rattle.mx_scripts.proofs.LineLemmas.{err_of, misread, not_repeated}
 use Rattle.mx_scripts.proofs.script.do_line.Goals as goal

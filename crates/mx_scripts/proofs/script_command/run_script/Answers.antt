@@ -1,5 +1,5 @@
 use Rattle.std.proofs.Common.{inl, refl, string_bytes}
-use Rattle.mx_cli.specs.Printing.{sight}
+use Rattle.mx_cli.specs.Printing.{IsWhole, sight}
 use Rattle.mx_cli.proofs.FrameLemmas.{whole_prints}
 use Rattle.mx_scripts.specs.Printed.{IsScript}
 use Rattle.mx_scripts.proofs.StopLemmas.{script_stops}
@@ -14,4 +14,4 @@ returns-in-Ok g c =
     }
 
 pub returns-in-Err : goal.returns-in-Err
-returns-in-Err g c = record { prints = script_stops c.args.plan.now c.args.script.now (sight g.O.Output c.args.out.now) c.in-Err.stop c.in-Err.ensures.err }
+returns-in-Err g c = record { prints = script_stops (λ p file. IsWhole file 0) c.args.plan.now c.args.script.now (sight g.O.Output c.args.out.now) c.in-Err.stop c.in-Err.ensures.err }

@@ -5,4 +5,4 @@ use Rattle.mx_picture.proofs.sheet.Sheet.change.Goals as goal
 
 pub invariant_of-self-clause-begun : goal.invariant_of-self-clause-begun
 invariant_of-self-clause-begun c =
-    all_above_set (λ (span : PhaseSpan). span.since) c.args.self.now.row c.args.self.now.phases c.from-index.result (record { since = c.args.self.now.row; phase = c.args.phase }) (omega arith) c.args.self.now.begun
+    all_above_set (λ (span : PhaseSpan). span.since) c.args.self.now.row c.args.self.now.phases c.from-index.result (record { since = c.args.self.now.row; phase = c.args.phase; is_shown = c.args.is_shown }) (omega arith) c.args.self.now.begun

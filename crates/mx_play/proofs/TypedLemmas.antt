@@ -1,0 +1,246 @@
+-- Lines whose bytes come one after another.
+use Rattle.std.proofs.Common.{◌≡◌, ◌≤◌, ◌<◌, ◌-◌, ◌+◌, ◌∙◌, ◌⊎◌, ◌==◌, ℕ, suc, Bool, true, false, List, [], ◌∷◌, ◌++◌, Option, Some, None, Result, Ok, Err, IfOk, IfSome, length, take, drop, get_or, drop-cons, add-one, refl, sym, ap, ap₂, subst, inl, inr, arith}
+use Rattle.std.proofs.lemmas.List.{length-append}
+use Rattle.std.specs.Prelude.{if◌then◌else◌, option_map}
+use Rattle.std.specs.Io.KnownBytes.{Consumes, IsAtEnd, Keeps, prepend_known}
+use Rattle.std.proofs.KnownBytes.{Consumes-kept, Consumes-nil, Consumes-trans}
+use Rattle.mx_stamps.proofs.Lists.{append_nil}
+use Rattle.mx_plan.specs.Text.{Text}
+use Rattle.mx_play.specs.Lines.{ReadsNext, before_lines, lines_of}
+use Rattle.mx_play.specs.TypedLines.{AddsByte, Bytes, HasNoFeed, Holds, IsTaking, TakesByte, TakesOn, read_of}
+use Rattle.mx_play.specs.declared.lines.LineRead.{LineRead}
+use Rattle.mx_play.specs.declared.lines.LineRead.TheVariants.{End, Unreadable}
+use Rattle.mx_play.specs.declared.lines.TheConstants.{MAX_LINE}
+use Rattle.mx_play.specs.declared.typed_lines.ByteRead.{ByteRead}
+use Rattle.mx_play.specs.declared.typed_lines.ByteRead.TheVariants as byte_read
+
+-- ---- lines of bytes
+
+-- a line that a line feed ends, and then the others
+line_then : (taken rest : Text) → HasNoFeed taken → lines_of (taken ++ 10 ∷ rest) ≡ taken ∷ lines_of rest
+line_then [] rest inner = refl
+line_then (b ∷ bs) rest inner =
+    subst (λ (c : Bool). (if c then [] ∷ lines_of (bs ++ 10 ∷ rest) else before_lines b (lines_of (bs ++ 10 ∷ rest))) ≡ (b ∷ bs) ∷ lines_of rest) (sym inner.0)
+    (ap (before_lines b) (line_then bs rest inner.1))
+
+-- a last line without a line feed
+last_line : (b : ℕ) (bs : Text) → HasNoFeed (b ∷ bs) → lines_of (b ∷ bs) ≡ (b ∷ bs) ∷ []
+last_line b [] inner = subst (λ (c : Bool). (if c then [] ∷ [] else before_lines b []) ≡ (b ∷ []) ∷ []) (sym inner.0) refl
+last_line b (c ∷ cs) inner =
+    subst (λ (d : Bool). (if d then [] ∷ lines_of (c ∷ cs) else before_lines b (lines_of (c ∷ cs))) ≡ (b ∷ c ∷ cs) ∷ []) (sym inner.0)
+    (ap (before_lines b) (last_line c cs inner.1))
+
+-- it is one of these bytes
+no_feed_more : (taken : Text) (b : ℕ) → HasNoFeed taken → (b == 10) ≡ false → HasNoFeed (taken ++ b ∷ [])
+no_feed_more [] b x y = (y, tt)
+no_feed_more (a ∷ taken) b x y = (x.0, no_feed_more taken b x.1 y)
+
+-- ---- a line that was read
+
+held_line : (is_long : Bool) (buffer taken : Text) (rest : List Text) → Holds is_long buffer taken → ReadsNext (taken ∷ rest) (read_of is_long) buffer (Some rest)
+held_line false buffer taken rest x = ((x.1, x.0), refl)
+held_line true buffer taken rest x = (x.1, refl)
+
+-- a line feed ends it
+line_ended : (is_long : Bool) (buffer taken : Text) (all left next : List ℕ) → HasNoFeed taken → all ≡ taken ++ left → left ≡ 10 ∷ next → Holds is_long buffer taken
+    → ReadsNext (lines_of all) (read_of is_long) buffer (Some (lines_of next))
+line_ended is_long buffer taken all left next inner is feed holds =
+    let lines : lines_of all ≡ taken ∷ lines_of next = ap lines_of (is ∙ ap (λ (l : Text). taken ++ l) feed) ∙ line_then taken next inner in
+    subst (λ (l : List Text). ReadsNext l (read_of is_long) buffer (Some (lines_of next))) (sym lines) (held_line is_long buffer taken (lines_of next) holds)
+
+pub feed_read : (first now new : Bytes) (is_long : Bool) (buffer : Text) → IsTaking first now is_long buffer → Consumes now new (10 ∷ [])
+    → IfSome (option_map lines_of first) (λ lines. ReadsNext lines (read_of is_long) buffer (option_map lines_of new))
+feed_read None now new is_long buffer x feed = tt
+feed_read (Some all) None new is_long buffer x feed = absurd x.consumed
+feed_read (Some all) (Some left) None is_long buffer x feed = absurd feed
+feed_read (Some all) (Some left) (Some next) is_long buffer x feed = line_ended is_long buffer x.taken all left next x.inner x.consumed feed x.holds
+
+-- the end of the bytes ends it
+short_buffer : (is_long : Bool) (taken : Text) → Holds is_long [] taken → taken ≡ []
+short_buffer false taken x = sym x.0
+short_buffer true taken x = absurd (omega (arith, x.0))
+
+some_taken : (is_long : Bool) (buffer : Text) → (buffer ≡ [] → ⊥) → Holds is_long buffer [] → ⊥
+some_taken false buffer some x = some x.0
+some_taken true buffer some x = omega (arith, x.1)
+
+end_line : (is_long : Bool) (buffer taken : Text) → HasNoFeed taken → Holds is_long buffer taken → (buffer ≡ [] → ⊥) → ReadsNext (lines_of taken) (read_of is_long) buffer (Some [])
+end_line is_long buffer [] inner x some = absurd (some_taken is_long buffer some x)
+end_line is_long buffer (b ∷ bs) inner x some =
+    subst (λ (l : List Text). ReadsNext l (read_of is_long) buffer (Some [])) (sym (last_line b bs inner)) (held_line is_long buffer (b ∷ bs) [] x)
+
+all_taken : (all taken left new : List ℕ) → all ≡ taken ++ left → new ≡ left → new ≡ [] → all ≡ taken
+all_taken all taken left new is same end = is ∙ ap (λ (l : List ℕ). taken ++ l) (sym same ∙ end) ∙ append_nil taken
+
+pub end_read : (first now new : Bytes) (is_long : Bool) (buffer : Text) → IsTaking first now is_long buffer → Keeps now new → IsAtEnd new → (buffer ≡ [] → ⊥)
+    → IfSome (option_map lines_of first) (λ lines. ReadsNext lines (read_of is_long) buffer (option_map lines_of new))
+end_read None now new is_long buffer x same end some = tt
+end_read (Some all) None new is_long buffer x same end some = absurd x.consumed
+end_read (Some all) (Some left) None is_long buffer x same end some = absurd same
+end_read (Some all) (Some left) (Some new) is_long buffer x same end some =
+    let whole : all ≡ x.taken = all_taken all x.taken left new x.consumed same end in
+    subst (λ (l : List ℕ). ReadsNext (lines_of all) (read_of is_long) buffer (Some (lines_of l))) (sym end)
+    (subst (λ (l : List ℕ). ReadsNext (lines_of l) (read_of is_long) buffer (Some [])) (sym whole) (end_line is_long buffer x.taken x.inner x.holds some))
+
+pub none_read : (first now new : Bytes) (is_long : Bool) (buffer : Text) → IsTaking first now is_long buffer → Keeps now new → IsAtEnd new → buffer ≡ []
+    → IfSome (option_map lines_of first) (λ lines. ReadsNext lines End buffer (option_map lines_of new))
+none_read None now new is_long buffer x same end none = tt
+none_read (Some all) None new is_long buffer x same end none = absurd x.consumed
+none_read (Some all) (Some left) None is_long buffer x same end none = absurd same
+none_read (Some all) (Some left) (Some new) is_long buffer x same end none =
+    let empty : x.taken ≡ [] = short_buffer is_long x.taken (subst (λ (l : Text). Holds is_long l x.taken) none x.holds) in
+    let whole : all ≡ [] = all_taken all x.taken left new x.consumed same end ∙ empty in
+    subst (λ (l : List ℕ). ReadsNext (lines_of all) End buffer (Some (lines_of l))) (sym end)
+    (subst (λ (l : List ℕ). ReadsNext (lines_of l) End buffer (Some [])) (sym whole) (refl, none, refl))
+
+pub unread : (first now : Bytes) (buffer : Text) → IfSome (option_map lines_of first) (λ lines. ReadsNext lines Unreadable buffer (option_map lines_of now))
+unread None now buffer = tt
+unread (Some all) now buffer = tt
+
+-- ---- a byte more
+
+held_more : (is_long : Bool) (buffer taken : Text) (b : ℕ) → Holds is_long buffer taken → length buffer < MAX_LINE → Holds is_long (buffer ++ b ∷ []) (taken ++ b ∷ [])
+held_more false buffer taken b x short =
+    let same : length buffer ≡ length taken = ap (λ (l : Text). length l) x.0 in
+    let one = length-append taken (b ∷ []) in
+    (ap (λ (l : Text). l ++ b ∷ []) x.0, omega (arith, same, one, short))
+held_more true buffer taken b x short = absurd (let long = x.0 in omega (arith, long, short))
+
+held_long : (is_long : Bool) (buffer taken : Text) (b : ℕ) → Holds is_long buffer taken → MAX_LINE ≤ length buffer → Holds true buffer (taken ++ b ∷ [])
+held_long false buffer taken b x long =
+    let same : length buffer ≡ length taken = ap (λ (l : Text). length l) x.0 in
+    let one = length-append taken (b ∷ []) in
+    (long, omega (arith, same, one, long))
+held_long true buffer taken b x long =
+    let one = length-append taken (b ∷ []) in
+    let past = x.1 in
+    (long, omega (arith, one, past))
+
+pub taking_first : (first : Bytes) (buffer : Text) → buffer ≡ [] → IsTaking first first false buffer
+taking_first first buffer empty = record { taken = []; inner = tt; consumed = Consumes-nil first; holds = (empty, omega arith) }
+
+-- nothing was taken
+pub taking_kept : (first now new : Bytes) (is_long : Bool) (buffer : Text) → IsTaking first now is_long buffer → Keeps now new → IsTaking first new is_long buffer
+taking_kept first now new is_long buffer x same = record { taken = x.taken; inner = x.inner; consumed = Consumes-kept first now new x.taken x.consumed same; holds = x.holds }
+
+taking_more : (first now new : Bytes) (is_long is_long' : Bool) (b : ℕ) (buffer buffer' : Text) → IsTaking first now is_long buffer → Consumes now new (b ∷ []) → (b == 10) ≡ false
+    → ((length buffer < MAX_LINE) × (is_long' ≡ is_long) × (buffer' ≡ buffer ++ b ∷ [])) ⊎ ((MAX_LINE ≤ length buffer) × (is_long' ≡ true) × (buffer' ≡ buffer))
+    → IsTaking first new is_long' buffer'
+taking_more first now new is_long is_long' b buffer buffer' x consumed plain (inl y) = record {
+  taken = x.taken ++ b ∷ [];
+  inner = no_feed_more x.taken b x.inner plain;
+  consumed = Consumes-trans first now new x.taken (b ∷ []) x.consumed consumed;
+  holds = subst (λ (l : Bool). Holds l buffer' (x.taken ++ b ∷ [])) (sym y.1)
+      (subst (λ (l : Text). Holds is_long l (x.taken ++ b ∷ [])) (sym y.2) (held_more is_long buffer x.taken b x.holds y.0));
+}
+taking_more first now new is_long is_long' b buffer buffer' x consumed plain (inr y) = record {
+  taken = x.taken ++ b ∷ [];
+  inner = no_feed_more x.taken b x.inner plain;
+  consumed = Consumes-trans first now new x.taken (b ∷ []) x.consumed consumed;
+  holds = subst (λ (l : Bool). Holds l buffer' (x.taken ++ b ∷ [])) (sym y.1)
+      (subst (λ (l : Text). Holds true l (x.taken ++ b ∷ [])) (sym y.2) (held_long is_long buffer x.taken b x.holds y.0));
+}
+
+-- what a byte comes to
+pub byte_on : (read : Option LineRead) (first now new : Bytes) (is_long is_long' : Bool) (b : ℕ) (buffer buffer' : Text) → Consumes now new (b ∷ [])
+    → AddsByte b is_long buffer read is_long' buffer' → IsTaking first now is_long buffer → TakesOn read first new is_long' buffer'
+byte_on None first now new is_long is_long' b buffer buffer' consumed adds x = taking_more first now new is_long is_long' b buffer buffer' x consumed adds.0 adds.1
+byte_on (Some read) first now new is_long is_long' b buffer buffer' consumed adds x =
+    let feed = subst (λ (c : ℕ). Consumes now new (c ∷ [])) adds.0 consumed in
+    subst (λ (r : LineRead). IfSome (option_map lines_of first) (λ lines. ReadsNext lines r buffer' (option_map lines_of new))) (sym adds.1)
+    (subst (λ (l : Text). IfSome (option_map lines_of first) (λ lines. ReadsNext lines (read_of is_long) l (option_map lines_of new))) (sym adds.2)
+    (feed_read first now new is_long buffer x feed))
+
+pub bytes_on : {E : Type 0} (r : Result (Option LineRead) E) (now new : Bytes) (is_long is_long' : Bool) (b : ℕ) (buffer buffer' : Text) → Consumes now new (b ∷ [])
+    → IfOk r (λ read. AddsByte b is_long buffer read is_long' buffer') → IfOk r (λ read. (first : Bytes) → IsTaking first now is_long buffer → TakesOn read first new is_long' buffer')
+bytes_on (Ok read) now new is_long is_long' b buffer buffer' consumed adds = λ first x. byte_on read first now new is_long is_long' b buffer buffer' consumed adds x
+bytes_on (Err e) now new is_long is_long' b buffer buffer' consumed adds = tt
+
+zero_is : (0 == 0) ≡ false → ⊥
+zero_is e = cc
+
+none_counted : (buffer : Text) (count : ℕ) → count ≡ length buffer → (count == 0) ≡ false → buffer ≡ [] → ⊥
+none_counted buffer count counts some empty =
+    let zero : count ≡ 0 = counts ∙ ap (λ (l : Text). length l) empty in
+    zero_is (subst (λ (n : ℕ). (n == 0) ≡ false) zero some)
+
+-- how the end of the bytes ends a line
+pub end_as : (first now new : Bytes) (is_long is_empty : Bool) (count : ℕ) (buffer : Text) (read : LineRead) → IsTaking first now is_long buffer → Keeps now new × IsAtEnd new → count ≡ length buffer
+    → is_empty ≡ (count == 0) → is_empty ≡ false → read ≡ read_of is_long → IfSome (option_map lines_of first) (λ lines. ReadsNext lines read buffer (option_map lines_of new))
+end_as first now new is_long is_empty count buffer read x end counts tests some is =
+    subst (λ (r : LineRead). IfSome (option_map lines_of first) (λ lines. ReadsNext lines r buffer (option_map lines_of new))) (sym is)
+    (end_read first now new is_long buffer x end.0 end.1 (λ empty. none_counted buffer count counts (sym tests ∙ some) empty))
+
+-- ---- bytes that were read ahead
+
+-- the first of them
+ahead_first : (ahead : List ℕ) (next end b d : ℕ) → next < end → next < length ahead → b ≡ get_or ahead next d
+    → take (end - next) (drop next ahead) ≡ b ∷ take (end - (next + 1)) (drop (next + 1) ahead)
+ahead_first ahead next end b d some there is =
+    let n : end - next ≡ suc (end - (next + 1)) = omega (arith, some) in
+    let split : drop next ahead ≡ b ∷ drop (next + 1) ahead =
+    drop-cons ahead next d there ∙ ap₂ (λ (x m : ℕ). x ∷ drop m ahead) (sym is) (sym (add-one next)) in
+    ap₂ (λ (m : ℕ) (l : List ℕ). take m l) n split
+
+first_taken : (front all : List ℕ) (b : ℕ) (rest : Bytes) → all ≡ b ∷ front → Consumes (prepend_known all rest) (prepend_known front rest) (b ∷ [])
+first_taken front all b None is = tt
+first_taken front all b (Some left) is = ap (λ (l : List ℕ). l ++ left) is
+
+pub ahead_taken : (ahead : List ℕ) (next end b d : ℕ) (rest : Bytes) → next < end → next < length ahead → b ≡ get_or ahead next d
+    → Consumes (prepend_known (take (end - next) (drop next ahead)) rest) (prepend_known (take (end - (next + 1)) (drop (next + 1) ahead)) rest) (b ∷ [])
+ahead_taken ahead next end b d rest some there is =
+    first_taken (take (end - (next + 1)) (drop (next + 1) ahead)) (take (end - next) (drop next ahead)) b rest (ahead_first ahead next end b d some there is)
+
+-- none is left
+ahead_none : (ahead : List ℕ) (next end : ℕ) → end ≤ next → take (end - next) (drop next ahead) ≡ []
+ahead_none ahead next end le =
+    let n : end - next ≡ 0 = omega (arith, le) in
+    ap (λ (m : ℕ). take m (drop next ahead)) n
+
+-- and then these bytes were read
+none_consumed : (bytes : List ℕ) (old new : Bytes) → Consumes old new bytes → Keeps (prepend_known [] old) (prepend_known bytes new)
+none_consumed bytes None new x = tt
+none_consumed bytes (Some all) None x = absurd x
+none_consumed bytes (Some all) (Some left) x = sym x
+
+pub ahead_read : (old_ahead ahead : List ℕ) (next end count : ℕ) (old new : Bytes) → end ≤ next → Consumes old new (take count ahead)
+    → Keeps (prepend_known (take (end - next) (drop next old_ahead)) old) (prepend_known (take (count - 0) (drop 0 ahead)) new)
+ahead_read old_ahead ahead next end count old new le x =
+    let n : count - 0 ≡ count = omega arith in
+    subst (λ (l : List ℕ). Keeps (prepend_known l old) (prepend_known (take (count - 0) (drop 0 ahead)) new)) (sym (ahead_none old_ahead next end le))
+    (subst (λ (m : ℕ). Keeps (prepend_known [] old) (prepend_known (take m (drop 0 ahead)) new)) (sym n) (none_consumed (take count ahead) old new x))
+
+kept_before : (old new : Bytes) → Keeps old new → Keeps (prepend_known [] old) (prepend_known [] new)
+kept_before None new x = tt
+kept_before (Some all) None x = absurd x
+kept_before (Some all) (Some left) x = x
+
+-- a read that took none
+pub ahead_kept : (old_ahead ahead : List ℕ) (next end : ℕ) (old new : Bytes) → end ≤ next → Keeps old new
+    → Keeps (prepend_known (take (end - next) (drop next old_ahead)) old) (prepend_known (take (end - next) (drop next ahead)) new)
+ahead_kept old_ahead ahead next end old new le x =
+    subst (λ (l : List ℕ). Keeps (prepend_known l old) (prepend_known (take (end - next) (drop next ahead)) new)) (sym (ahead_none old_ahead next end le))
+    (subst (λ (l : List ℕ). Keeps (prepend_known [] old) (prepend_known l new)) (sym (ahead_none ahead next end le)) (kept_before old new x))
+
+pub at_end : (new : Bytes) → IsAtEnd new → IsAtEnd (prepend_known [] new)
+at_end None x = tt
+at_end (Some left) x = x
+
+-- a byte was taken after what stays
+kept_then : (a b c : Bytes) (bs : List ℕ) → Keeps a b → Consumes b c bs → Consumes a c bs
+kept_then None b c bs x y = tt
+kept_then (Some all) None c bs x y = absurd x
+kept_then (Some all) (Some same) None bs x y = absurd y
+kept_then (Some all) (Some same) (Some left) bs x y = sym x ∙ y
+
+keeps_on : (a b c : Bytes) → Keeps a b → Keeps b c → Keeps a c
+keeps_on None b c x y = tt
+keeps_on (Some all) None c x y = absurd x
+keeps_on (Some all) (Some same) None x y = absurd y
+keeps_on (Some all) (Some same) (Some left) x y = y ∙ x
+
+pub takes_then : (read : ByteRead) (a b c : Bytes) → Keeps a b → TakesByte read b c → TakesByte read a c
+takes_then (byte_read.Byte byte) a b c x y = kept_then a b c (byte ∷ []) x y
+takes_then byte_read.End a b c x y = (keeps_on a b c x y.0, y.1)
+takes_then byte_read.Nothing a b c x y = keeps_on a b c x y
+takes_then byte_read.Failure a b c x y = tt
