@@ -58,10 +58,6 @@ impl Exclusion for Solo {
         1
     }
 
-    fn is_same(one: &u8, other: &u8) -> bool {
-        one == other
-    }
-
     fn start(_shape: &One, me: NodeId, _origin: u64, limit: u64) -> Self {
         Solo {
             me,

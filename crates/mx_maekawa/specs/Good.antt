@@ -47,7 +47,8 @@ IsOver w a i stamp g =
 abbrev pub IsLockedFor : Node → Stamp → ℕ → ℕ → Type 0
 IsLockedFor s stamp g c = s.arbiter.lock ≡ Some (record { stamp = stamp; grant = g; last = c })
 
--- the entry of node i into its last section
+-- the entry of node i into its last section, whose number is `mine`; nothing is said of the sections
+-- that it entered before
 pub record IsEntered (w : NodeWorld) (i : ℕ) (s : Node) : Type 0 where
   -- the stamp of this entry, and the number of the grant of each arbiter for it
   pub stamp : Stamp

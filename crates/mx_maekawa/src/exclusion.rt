@@ -35,7 +35,9 @@ impl Exclusion for Maekawa {
         shape.nodes()
     }
 
-    fn is_same(one: &MaekawaMsg, other: &MaekawaMsg) -> bool {
+    fn is_same(one: &MaekawaMsg, other: &MaekawaMsg) -> bool
+        ensures same { IsTrue result ↔ (one.now ≡ other.now) }
+    {
         one == other
     }
 

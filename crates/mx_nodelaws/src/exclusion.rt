@@ -40,9 +40,13 @@ pub trait Exclusion: Drop {
         ensures low { 0 < result }
         ensures high { result ≤ MAX_NODES };
 
-    /// Returns whether both are the same letter, so that a letter to many nodes can be stored once.
+    /// Returns whether both are known to be the same letter, so that a letter to many nodes can be
+    /// stored once. By default, no two are.
     fn is_same(one: &Self::Msg, other: &Self::Msg) -> bool
-        ensures { IsTrue result ↔ (one.now ≡ other.now) };
+        ensures { IsTrue result → one.now ≡ other.now }
+    {
+        false
+    }
 
     /// Creates the node `me`, idle, at the start of a cluster. The algorithm may count its stamps
     /// and grants, or its hops, on from `origin`; `limit` is the greatest section number.

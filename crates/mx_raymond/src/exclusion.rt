@@ -33,7 +33,9 @@ impl Exclusion for Raymond {
         shape.nodes()
     }
 
-    fn is_same(one: &RaymondMsg, other: &RaymondMsg) -> bool {
+    fn is_same(one: &RaymondMsg, other: &RaymondMsg) -> bool
+        ensures same { IsTrue result ↔ (one.now ≡ other.now) }
+    {
         one == other
     }
 

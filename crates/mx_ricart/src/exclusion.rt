@@ -31,7 +31,9 @@ impl Exclusion for Ricart {
         shape.get()
     }
 
-    fn is_same(one: &RicartMsg, other: &RicartMsg) -> bool {
+    fn is_same(one: &RicartMsg, other: &RicartMsg) -> bool
+        ensures same { IsTrue result ↔ (one.now ≡ other.now) }
+    {
         one == other
     }
 
