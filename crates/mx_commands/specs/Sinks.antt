@@ -48,6 +48,13 @@ pub record Tells (K S M : Type 0) : Type 1 where
   pub heard : K → ℕ → ClusterState S M → ClusterState S M → K → Type 0
   pub closed : K → ClusterState S M → K → Type 0
 
+-- nothing is said of what a sink becomes, or (below) that it stays the same
+abbrev pub anything : {K S M : Type 0} → Tells K S M
+anything = record { heard = λ _ _ _ _ _. Unit {0}; closed = λ _ _ _. Unit {0} }
+
+abbrev pub same : {K S M : Type 0} → Tells K S M
+same = record { heard = λ sink _ _ _ told. told ≡ sink; closed = λ sink _ told. told ≡ sink }
+
 module _ {K H S M : Type 0} (core : Core H S M) (tells : Tells K S M) where
   -- the sink is told of each of these events once, in order, the first with index k, and then of
   -- the end; so it becomes `last`

@@ -43,18 +43,9 @@ where
     }) plan.now plan.now.shape events.now))
         (sight O.Output out.old) (sight O.Output out.new) result }
     ensures told { OnOk result (IsToldBy (record {
-      ricart = record {
-        heard = λ s. ⟦<K as Sink<Cluster<Ricart>>>⟧.heard s plan.now;
-        closed = λ s. ⟦<K as Sink<Cluster<Ricart>>>⟧.closed s plan.now;
-      };
-      maekawa = record {
-        heard = λ s. ⟦<K as Sink<Cluster<Maekawa>>>⟧.heard s plan.now;
-        closed = λ s. ⟦<K as Sink<Cluster<Maekawa>>>⟧.closed s plan.now;
-      };
-      raymond = record {
-        heard = λ s. ⟦<K as Sink<Cluster<Raymond>>>⟧.heard s plan.now;
-        closed = λ s. ⟦<K as Sink<Cluster<Raymond>>>⟧.closed s plan.now;
-      };
+      ricart = ⟦<K as Sink<Cluster<Ricart>>>⟧.tells plan.now;
+      maekawa = ⟦<K as Sink<Cluster<Maekawa>>>⟧.tells plan.now;
+      raymond = ⟦<K as Sink<Cluster<Raymond>>>⟧.tells plan.now;
     }) plan.now plan.now.shape events.now sink.old sink.new) }
 {
     by_shape!(
@@ -77,10 +68,8 @@ fn drive_events<C: Exclusion, K: Sink<Cluster<C>>, O: Output>(
     ensures prints { Prints (IsReport
         (report_from C.core (K.texts sink.old plan.now) 0 cluster events.now))
         (sight O.Output out.old) (sight O.Output out.new) result }
-    ensures told { OnOk result (IsTold C.core (record {
-      heard = λ s. K.heard s plan.now;
-      closed = λ s. K.closed s plan.now;
-    }) 0 cluster events.now sink.old sink.new) }
+    ensures told { OnOk result (IsTold C.core (K.tells plan.now)
+        0 cluster events.now sink.old sink.new) }
 {
     let mut text = String::new(alloc);
     for (index, event) in events.iter().enumerate() {
@@ -119,7 +108,7 @@ fn drive_event<C: Exclusion, K: Sink<Cluster<C>>>(
     ensures err { IfErr result (StopsAt index (step_of C.core cluster.old event.now)) }
     ensures stays { OnOk result (K.texts sink.new ≡ K.texts sink.old) }
     ensures heard { OnOk result
-        (K.heard sink.old plan.now index cluster.old cluster.new sink.new) }
+        ((K.tells plan.now).heard sink.old index cluster.old cluster.new sink.new) }
 {
     let before = cluster.sent();
     apply(index, event, cluster)?;

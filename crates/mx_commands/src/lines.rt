@@ -4,6 +4,7 @@ ghost use Rattle.std.specs.Prelude.{◌≡◌, ◌<◌, ◌≤◌, List, [], ◌
 ghost use Rattle.mx_network.specs.Step.{ClusterState};
 ghost use Rattle.mx_trace.specs.declared.outcome.Entry.{Entry};
 ghost use Rattle.mx_format.specs.Lines.{texts_from};
+ghost use Rattle.mx_commands.specs.Sinks.{same};
 ghost use Rattle.mx_commands.specs.Shown.{shown_closing, shown_entry, shown_owner, shown_parcel, step_text, view_texts, where_shown};
 
 use crate::runs::newest;
@@ -24,9 +25,7 @@ where
 {
     ghost texts = { λ view p. view_texts C.core C.Msg.parts p view C.knows };
 
-    ghost heard = { λ view p k old new told. told ≡ view };
-
-    ghost closed = { λ view p cluster told. told ≡ view };
+    ghost tells = { λ _. same };
 
     fn event(
         &mut self,

@@ -52,18 +52,9 @@ where
     ensures prints { Prints (IsReport (run_by plan.now plan.now.shape events.now))
         null_output null_output result }
     ensures told { OnOk result (IsToldBy (record {
-      ricart = record {
-        heard = λ s. ⟦<K as Sink<Cluster<Ricart>>>⟧.heard s plan.now;
-        closed = λ s. ⟦<K as Sink<Cluster<Ricart>>>⟧.closed s plan.now;
-      };
-      maekawa = record {
-        heard = λ s. ⟦<K as Sink<Cluster<Maekawa>>>⟧.heard s plan.now;
-        closed = λ s. ⟦<K as Sink<Cluster<Maekawa>>>⟧.closed s plan.now;
-      };
-      raymond = record {
-        heard = λ s. ⟦<K as Sink<Cluster<Raymond>>>⟧.heard s plan.now;
-        closed = λ s. ⟦<K as Sink<Cluster<Raymond>>>⟧.closed s plan.now;
-      };
+      ricart = ⟦<K as Sink<Cluster<Ricart>>>⟧.tells plan.now;
+      maekawa = ⟦<K as Sink<Cluster<Maekawa>>>⟧.tells plan.now;
+      raymond = ⟦<K as Sink<Cluster<Raymond>>>⟧.tells plan.now;
     }) plan.now plan.now.shape events.now sink.old sink.new) }
 {
     drive(alloc, plan, events, sink, &mut NullOutput)

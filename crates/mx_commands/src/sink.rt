@@ -1,10 +1,11 @@
 //! The interface of what prints the events of a run.
 
-ghost use Rattle.std.specs.Prelude.{ℕ, ◌≡◌, ◌<◌, ◌≤◌, [], ◌∷◌, ◌++◌, length, string_bytes, IfOk, OnOk};
+ghost use Rattle.std.specs.Prelude.{◌≡◌, ◌<◌, ◌≤◌, [], ◌∷◌, ◌++◌, length, string_bytes, IfOk, OnOk};
 ghost use Rattle.mx_network.specs.Step.{ClusterState};
 ghost use Rattle.mx_trace.specs.declared.outcome.Entry.{Entry};
 ghost use Rattle.mx_plan.specs.Fields.{Fields};
 ghost use Rattle.mx_commands.specs.Runs.{Texts};
+ghost use Rattle.mx_commands.specs.Sinks.{Tells, anything};
 
 use mx_network::Cluster;
 use mx_nodelaws::Exclusion;
@@ -31,13 +32,8 @@ pub trait Sink<R: Running> {
     // what the sink prints of a run of a plan; this does not change during the run
     ghost texts: { Self → Fields → Texts R.Core R.Core.Msg };
 
-    // the second sink is what the first becomes by the event of this index, which leads from the
-    // first cluster to the second
-    ghost heard: { Self → Fields → ℕ → ClusterState R.Core R.Core.Msg
-        → ClusterState R.Core R.Core.Msg → Self → Type 0 } = { λ sink p k old new told. Unit {0} };
-
-    // the second sink is what the first becomes at the end of a run
-    ghost closed: { Self → Fields → ClusterState R.Core R.Core.Msg → Self → Type 0 } = { λ sink p cluster told. Unit {0} };
+    // what the sink becomes by the events of a run of a plan, and at the end
+    ghost tells: { Fields → Tells Self R.Core R.Core.Msg } = { λ _. anything };
 
     /// Appends the text of the newest event of a run. The event has this index, and sent the
     /// parcels from the number `before` on.
@@ -63,7 +59,8 @@ pub trait Sink<R: Running> {
         ensures stays { texts self.new ≡ texts self.old }
         ensures heard { (old : ClusterState R.Core R.Core.Msg) (entry : Entry)
             → (R.state cluster.now).trace ≡ old.trace ++ entry ∷ [] → before ≡ length old.sent
-            → OnOk result (heard self.old plan.now index old (R.state cluster.now) self.new) };
+            → OnOk result ((tells plan.now).heard self.old index old (R.state cluster.now)
+            self.new) };
 
     /// Appends the closing text of a run, and returns the status.
     ///
@@ -81,5 +78,5 @@ pub trait Sink<R: Running> {
         ensures text { OnOk result (string_bytes text.new ≡ string_bytes text.old
             ++ (texts self.old plan.now).closing (R.state cluster.now)) }
         ensures zero { IfOk result (λ status. status ≡ 0) }
-        ensures closed { OnOk result (closed self.old plan.now (R.state cluster.now) self.new) };
+        ensures closed { OnOk result ((tells plan.now).closed self.old (R.state cluster.now) self.new) };
 }

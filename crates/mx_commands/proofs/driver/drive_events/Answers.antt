@@ -108,7 +108,7 @@ loop-index-preserved g c =
         appends_more (g.O.Output.written c.args.out.now) (g.O.Output.written c.loop-index.out) (g.O.Output.written c.put.new.self) i.written.0 text i.written.1 put,
         i.written.2 ∙ ap (after_texts i.written.0) (remaining_ok core texts es k old new event c.loop-index-test.true stepped) ∙ after_after i.written.0 (text ∷ []) (remaining core texts es (k + 1) new),
       );
-      told = λ last rest. i.told last (told_more core (record { heard = λ s. g.K.Sink.heard s p; closed = λ s. g.K.Sink.closed s p }) es k old c.loop-index.sink last event c.loop-index-test.true (new, stepped, c.drive_event.new.sink, c.in_ok-drive_event.ensures.heard, rest));
+      told = λ last rest. i.told last (told_more core (g.K.Sink.tells p) es k old c.loop-index.sink last event c.loop-index-test.true (new, stepped, c.drive_event.new.sink, c.in_ok-drive_event.ensures.heard, rest));
     }
 
 pub end-requires : goal.end-requires
@@ -150,5 +150,5 @@ returns g c =
     record {
       prints = run_ends o n r (i.written.0 ++ text ∷ []) (appends_more o.held m.held n.held i.written.0 text i.written.1 appended) (put.refused ∙ i.refused) (put.stays ∙ i.stays) (has_status 0) _
           (ap (λ (status : ℕ). comes_to (has_status status)) c.in_ok-status.ensures.zero) so_far;
-      told = i.told c.end.new.self (told_end core (record { heard = λ s. g.K.Sink.heard s p; closed = λ s. g.K.Sink.closed s p }) es k c.loop-index.cluster c.loop-index.sink c.end.new.self c.loop-index-test.false c.in_ok-status.ensures.closed);
+      told = i.told c.end.new.self (told_end core (g.K.Sink.tells p) es k c.loop-index.cluster c.loop-index.sink c.end.new.self c.loop-index-test.false c.in_ok-status.ensures.closed);
     }

@@ -3,14 +3,14 @@ use Rattle.std.specs.Io.KnownBytes.{Appends}
 use Rattle.std.specs.List.{concat}
 use Rattle.mx_plan.specs.Text.{Text}
 use Rattle.mx_commands.specs.Runs.{after_texts, report_from}
-use Rattle.mx_commands.specs.Sinks.{IsTold, Tells}
+use Rattle.mx_commands.specs.Sinks.{IsTold}
 use Rattle.mx_commands.proofs.RunLemmas.{remaining}
 use Rattle.mx_commands.proofs.driver.drive_events.Given as goal
 
 abbrev pub invariant-loop-index : goal.invariant-loop-index
 invariant-loop-index g l =
     let texts = g.K.Sink.texts l.initial.sink l.plan in
-    let tells : Tells g.row.K.Denot g.row.C.Denot g.row.C-Msg.Denot = record { heard = λ s. g.K.Sink.heard s l.plan; closed = λ s. g.K.Sink.closed s l.plan } in
+    let tells = g.K.Sink.tells l.plan in
     record {
       stays : g.O.Output.takes_all l.out ≡ g.O.Output.takes_all l.initial.out;
       refused : g.O.Output.has_refused l.out ≡ g.O.Output.has_refused l.initial.out;
