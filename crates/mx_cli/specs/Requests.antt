@@ -1,17 +1,18 @@
 -- What the words of a command line ask for, as `clap` reads them.
-use Rattle.std.specs.Prelude.{◌≡◌, ℕ, Bool, true, false, ◌||◌, List, Option, Some, None, codes, if◌then◌else◌, option_map, option_and_then, unwrap_or, []}
+use Rattle.std.specs.Prelude.{◌≡◌, ℕ, Bool, true, false, not, ◌&&◌, ◌||◌, List, Option, Some, None, codes, if◌then◌else◌, option_map, option_and_then, unwrap_or, []}
 use Rattle.std.specs.Borrow.{Bor}
 use Rattle.std.specs.Option.{option_map_or}
 use Rattle.std.specs.Str.{bytes_eq}
 use Rattle.clap.specs.Words.{Row, Text, first_of}
 use Rattle.clap.specs.Faults.{fault_of}
 use Rattle.mx_cli.specs.Table.{mx_app}
-use Rattle.mx_cli.specs.Words.{asked_of, exploration_at, explored, is_given, names_of, number_at}
+use Rattle.mx_cli.specs.Words.{asked_of, is_given, names_of, number_at}
 use Rattle.mx_cli.specs.declared.request.Conditions.{Conditions}
 use Rattle.mx_cli.specs.declared.request.LiveRequest.{LiveRequest as GivenLive}
 use Rattle.mx_cli.specs.declared.request.Misfit.{Misfit}
 use Rattle.mx_cli.specs.declared.request.Misfit.TheVariants.{DrawWithoutWalk, ExploreWithoutWalk, WalkWithCount, WalkWithJson}
 use Rattle.mx_cli.specs.declared.request.PictureOptions.{PictureOptions}
+use Rattle.mx_cli.specs.declared.request.RandomRun.{RandomRun}
 use Rattle.mx_cli.specs.declared.request.ViewOptions.{ViewOptions}
 use Rattle.mx_cli.specs.declared.request.Request.{Request as Given}
 use Rattle.mx_cli.specs.declared.request.Request.TheVariants as given
@@ -46,10 +47,9 @@ pub record LiveRequest : Type 0 where
 pub data Request : Type 0 where
   check : Text → Bool → Bool → Request
   replay : Text × Text → View → Bool → Request
-  explore : Text × (ℕ × ℕ) → Bool → Bool → Request
-  explore_walk : Text × (ℕ × ℕ) → Conditions → Request
+  explore : Text → RandomRun → Bool → Bool → Request
   live : LiveRequest → Request
-  draw : Text × (ℕ × ℕ) → Option Conditions → Request
+  draw : Text → RandomRun → Request
   script : Text × Text → Request
   play : Text → Option Text → Request
   picture : Text × Text → Part → Bool → Request
@@ -88,10 +88,9 @@ live_request_of run =
 abbrev pub request_of : Given → Request
 request_of (given.Check plan has_asks is_json) = check plan.now has_asks is_json
 request_of (given.Replay names view is_script) = replay (names_of names) (view_of view) is_script
-request_of (given.Explore e has_counts is_json) = explore (explored e) has_counts is_json
-request_of (given.ExploreWalk e conditions) = explore_walk (explored e) conditions
+request_of (given.Explore plan run has_counts is_json) = explore plan.now run has_counts is_json
 request_of (given.Live run) = live (live_request_of run)
-request_of (given.Draw e conditions) = draw (explored e) conditions
+request_of (given.Draw plan run) = draw plan.now run
 request_of (given.Script names) = script (names_of names)
 request_of (given.Play plan first) = play plan.now (text_of first)
 request_of (given.Picture names part is_script) = picture (names_of names) (part_of part) is_script
@@ -149,22 +148,39 @@ conditions_in rows =
       in_order = is_given (codes "in-order") rows;
     }
 
--- `explore` with `--walk`, which goes neither with `--count` nor with `--json`
-abbrev pub walk_in : List Row → Text × (ℕ × ℕ) → Request
-walk_in rows e =
-    if is_given (codes "count") rows then misfit WalkWithCount
-    else if is_given (codes "json") rows then misfit WalkWithJson
-    else explore_walk e (conditions_in rows)
+-- a walk, if `--walk` was given
+abbrev pub walk_in : List Row → Option Conditions
+walk_in rows = if is_given (codes "walk") rows then Some (conditions_in rows) else None
 
--- `explore`; without `--walk`, options of a walk do not go with it
-abbrev pub exploring : List Row → Text × (ℕ × ℕ) → Request
-exploring rows e =
-    if is_given (codes "walk") rows then walk_in rows e
-    else if has_conditions rows then misfit ExploreWithoutWalk
-    else explore e (is_given (codes "count") rows) (is_given (codes "json") rows)
+-- the run of the seed and the steps that were given
+abbrev pub run_in : List Row → Option RandomRun
+run_in rows =
+    option_and_then
+    (λ seed. option_map
+    (λ steps. record { seed = seed; steps = steps; conditions = walk_in rows })
+    (number_at (codes "steps") rows))
+    (number_at (codes "seed") rows)
+
+-- why options of `explore` do not go together: those of a walk need `--walk`, which goes neither
+-- with `--count` nor with `--json`
+abbrev pub misfit_in : List Row → Option Misfit
+misfit_in rows =
+    if not (is_given (codes "walk") rows) then
+    (if has_conditions rows then Some ExploreWithoutWalk else None)
+    else if is_given (codes "count") rows then Some WalkWithCount
+    else if is_given (codes "json") rows then Some WalkWithJson
+    else None
+
+-- `explore`
+abbrev pub exploring : List Row → Text → RandomRun → Request
+exploring rows plan run =
+    option_map_or misfit (misfit_in rows)
+    (explore plan run (is_given (codes "count") rows) (is_given (codes "json") rows))
 
 abbrev pub explore_in : List Row → Option Request
-explore_in rows = option_map (exploring rows) (exploration_at rows)
+explore_in rows =
+    option_and_then (λ plan. option_map (exploring rows plan) (run_in rows))
+    (first_of (codes "PLAN") rows)
 
 -- `live`; without options, the seed 1, 10,000,000 turns, and no settling
 abbrev pub live_of : List Row → Text → ℕ → LiveRequest
@@ -185,14 +201,15 @@ live_in rows =
     (first_of (codes "PLAN") rows)
 
 -- `draw`; without `--walk`, options of a walk do not go with it
-abbrev pub drawing : List Row → Text × (ℕ × ℕ) → Request
-drawing rows e =
-    if is_given (codes "walk") rows then draw e (Some (conditions_in rows))
-    else if has_conditions rows then misfit DrawWithoutWalk
-    else draw e None
+abbrev pub drawing : List Row → Text → RandomRun → Request
+drawing rows plan run =
+    if not (is_given (codes "walk") rows) && has_conditions rows then misfit DrawWithoutWalk
+    else draw plan run
 
 abbrev pub draw_in : List Row → Option Request
-draw_in rows = option_map (drawing rows) (exploration_at rows)
+draw_in rows =
+    option_and_then (λ plan. option_map (drawing rows plan) (run_in rows))
+    (first_of (codes "PLAN") rows)
 
 -- `play`
 abbrev pub play_in : List Row → Option Request

@@ -12,7 +12,6 @@ use Rattle.clap.specs.declared.builder.arg.Arg.{Arg}
 use Rattle.clap.specs.declared.builder.command.Command.{Command}
 use Rattle.clap.specs.declared.builder.command.Command.TheViews.{out-Command}
 use Rattle.clap.specs.declared.parser.matches.ArgMatches.{ArgMatches}
-use Rattle.mx_cli.specs.declared.request.Exploration.{Exploration}
 use Rattle.mx_cli.specs.declared.request.Names.{Names}
 use Rattle.clap.specs.declared.error.Error.{Error}
 use Rattle.clap.specs.declared.error.kind.ErrorKind.{ErrorKind}
@@ -53,10 +52,6 @@ texts_of = map (λ word. word.now)
 abbrev pub names_of : Names → Text × Text
 names_of names = (names.plan.now, names.events.now)
 
--- the name of the plan, the seed and the number of steps
-abbrev pub explored : Exploration → Text × (ℕ × ℕ)
-explored exploration = (exploration.plan.now, (exploration.seed, exploration.steps))
-
 -- the number that a text writes, if it fits in 64 bits
 abbrev pub number_of : Text → Option ℕ
 number_of text =
@@ -68,13 +63,6 @@ number_at id rows = option_and_then number_of (one_of id rows)
 
 abbrev pub is_given : Text → List Row → Bool
 is_given id rows = option_map_or (λ text. bytes_eq text (codes "true")) (first_of id rows) false
-
--- the plan, the seed and the number of steps that were given
-abbrev pub exploration_at : List Row → Option (Text × (ℕ × ℕ))
-exploration_at rows =
-    option_and_then (λ plan. option_and_then (λ seed. option_map (λ steps. (plan, (seed, steps)))
-    (number_at (codes "steps") rows)) (number_at (codes "seed") rows))
-    (first_of (codes "PLAN") rows)
 
 -- the value, if there are no faults; else `None`
 abbrev pub where_none : {X : Type 0} → Kinds → Option X → Option X

@@ -31,7 +31,7 @@ pub use planning::{PlanAndText, fetch, fetch_both, fetch_plan, plan_in};
 pub use reader::parse;
 pub use report::{refuse, report_fault, report_memory, report_misfit, write_line};
 pub use request::{
-    Conditions, Exploration, LiveRequest, Misfit, Names, PictureOptions, Request, ViewOptions,
+    Conditions, LiveRequest, Misfit, Names, PictureOptions, RandomRun, Request, ViewOptions,
 };
 pub use stop::{Stop, stop_with};
 pub use table::is_explained;

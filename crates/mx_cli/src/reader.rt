@@ -3,12 +3,12 @@
 ghost use Rattle.std.specs.Prelude.{◌≡◌, Some, option_map};
 ghost use Rattle.clap.specs.Words.{first_of, found_of, rows_of, subcommand_rows_of};
 ghost use Rattle.mx_cli.specs.Table.{mx_app};
-ghost use Rattle.mx_cli.specs.Words.{Asks, exploration_at, explored, is_given, names_of, number_at, texts_of};
+ghost use Rattle.mx_cli.specs.Words.{Asks, is_given, names_of, number_at, texts_of};
 ghost use Rattle.mx_cli.specs.Requests as spec;
 
 use crate::line::{matches_of, whole_line};
 use crate::request::{
-    Conditions, Exploration, LiveRequest, Misfit, Names, PictureOptions, Request, ViewOptions,
+    Conditions, LiveRequest, Misfit, Names, PictureOptions, RandomRun, Request, ViewOptions,
 };
 use clap::{ArgMatches, Error};
 use std::alloc::Global;
@@ -101,31 +101,30 @@ fn replay_in<'a>(matches: &ArgMatches<'a>) -> Option<Request<'a>>
 fn explore_in<'a>(matches: &ArgMatches<'a>) -> Option<Request<'a>>
     ensures { option_map spec.request_of result ≡ spec.explore_in (rows_of (found_of matches.now)) }
 {
-    let exploration = exploration_at(matches)?;
-    if is_given(matches, "walk") {
-        return Some(walk_in(matches, exploration));
-    }
-    if has_conditions(matches) {
-        return Some(Request::Misfit(Misfit::ExploreWithoutWalk));
-    }
-    Some(Request::Explore {
-        exploration,
-        has_counts: is_given(matches, "count"),
-        is_json: is_given(matches, "json"),
+    let plan = text_at(matches, "PLAN")?;
+    let run = run_in(matches)?;
+    Some(match misfit_in(matches) {
+        Some(misfit) => Request::Misfit(misfit),
+        None => Request::Explore {
+            plan,
+            run,
+            has_counts: is_given(matches, "count"),
+            is_json: is_given(matches, "json"),
+        },
     })
 }
 
-fn walk_in<'a>(matches: &ArgMatches<'a>, exploration: Exploration<'a>) -> Request<'a>
-    ensures { spec.request_of result
-        ≡ spec.walk_in (rows_of (found_of matches.now)) (explored exploration.entry) }
+/// Returns why the options of `explore` do not go together, if they do not.
+fn misfit_in(matches: &ArgMatches<'_>) -> Option<Misfit>
+    ensures { result ≡ spec.misfit_in (rows_of (found_of matches.now)) }
 {
+    if !is_given(matches, "walk") {
+        return has_conditions(matches).then_some(Misfit::ExploreWithoutWalk);
+    }
     if is_given(matches, "count") {
-        return Request::Misfit(Misfit::WalkWithCount);
+        return Some(Misfit::WalkWithCount);
     }
-    if is_given(matches, "json") {
-        return Request::Misfit(Misfit::WalkWithJson);
-    }
-    Request::ExploreWalk(exploration, conditions_in(matches))
+    is_given(matches, "json").then_some(Misfit::WalkWithJson)
 }
 
 fn live_in<'a>(matches: &ArgMatches<'a>) -> Option<Request<'a>>
@@ -146,14 +145,35 @@ fn live_in<'a>(matches: &ArgMatches<'a>) -> Option<Request<'a>>
 fn draw_in<'a>(matches: &ArgMatches<'a>) -> Option<Request<'a>>
     ensures { option_map spec.request_of result ≡ spec.draw_in (rows_of (found_of matches.now)) }
 {
-    let exploration = exploration_at(matches)?;
-    if is_given(matches, "walk") {
-        return Some(Request::Draw(exploration, Some(conditions_in(matches))));
-    }
-    if has_conditions(matches) {
+    let plan = text_at(matches, "PLAN")?;
+    let run = run_in(matches)?;
+    if run.conditions.is_none() && has_conditions(matches) {
         return Some(Request::Misfit(Misfit::DrawWithoutWalk));
     }
-    Some(Request::Draw(exploration, None))
+    Some(Request::Draw { plan, run })
+}
+
+/// Returns the run that the arguments ask for, if its seed and its steps are given.
+fn run_in(matches: &ArgMatches<'_>) -> Option<RandomRun>
+    ensures { result ≡ spec.run_in (rows_of (found_of matches.now)) }
+{
+    let seed = number_at(matches, "seed")?;
+    let steps = number_at(matches, "steps")?;
+    Some(RandomRun {
+        seed,
+        steps,
+        conditions: walk_in(matches),
+    })
+}
+
+fn walk_in(matches: &ArgMatches<'_>) -> Option<Conditions>
+    ensures { result ≡ spec.walk_in (rows_of (found_of matches.now)) }
+{
+    if is_given(matches, "walk") {
+        Some(conditions_in(matches))
+    } else {
+        None
+    }
 }
 
 /// Returns the conditions of a walk that the arguments give, with defaults for absent ones.
@@ -242,16 +262,6 @@ fn names_in<'a>(matches: &ArgMatches<'a>, id: &str) -> Option<Names<'a>>
     let plan = text_at(matches, "PLAN")?;
     let events = text_at(matches, id)?;
     Some(Names { plan, events })
-}
-
-/// Returns the plan, the seed and the number of steps, if all are given.
-fn exploration_at<'a>(matches: &ArgMatches<'a>) -> Option<Exploration<'a>>
-    ensures { option_map explored result ≡ exploration_at (rows_of (found_of matches.now)) }
-{
-    let plan = text_at(matches, "PLAN")?;
-    let seed = number_at(matches, "seed")?;
-    let steps = number_at(matches, "steps")?;
-    Some(Exploration { plan, seed, steps })
 }
 
 /// Returns the text that was given for the argument `id`.

@@ -10,14 +10,6 @@ pub struct Names<'a> {
     pub events: &'a str,
 }
 
-/// The name of a plan, and the seed and the number of steps of a random run.
-#[derive(Clone, Copy, Debug, PartialEq, Eq)]
-pub struct Exploration<'a> {
-    pub plan: &'a str,
-    pub seed: u64,
-    pub steps: u64,
-}
-
 /// How often a walk loses and repeats parcels, each a chance in 256, and whether the oldest parcel
 /// of a link arrives first.
 #[derive(Clone, Copy, Debug, PartialEq, Eq)]
@@ -25,6 +17,16 @@ pub struct Conditions {
     pub loss: u64,
     pub repeat: u64,
     pub in_order: bool,
+}
+
+/// A run that is drawn from a seed: a schedule, or a walk.
+#[derive(Clone, Copy)]
+pub struct RandomRun {
+    pub seed: u64,
+    /// How many events a schedule has, or how many steps a walk.
+    pub steps: u64,
+    /// The conditions of the walk, if the run is one.
+    pub conditions: Option<Conditions>,
 }
 
 /// How a replay is shown.
@@ -110,15 +112,16 @@ pub enum Request<'a> {
         is_script: bool,
     },
     Explore {
-        exploration: Exploration<'a>,
+        plan: &'a str,
+        run: RandomRun,
         has_counts: bool,
         is_json: bool,
     },
-    /// `explore` with `--walk`.
-    ExploreWalk(Exploration<'a>, Conditions),
     Live(LiveRequest<'a>),
-    /// `draw`: each event alone, or a walk under these conditions.
-    Draw(Exploration<'a>, Option<Conditions>),
+    Draw {
+        plan: &'a str,
+        run: RandomRun,
+    },
     /// The second name is that of the script.
     Script(Names<'a>),
     Play {

@@ -1,43 +1,19 @@
 -- The program: what each request does.
-use Rattle.std.specs.Prelude.{ℕ, Bool, true, false, Option, Some, None}
+use Rattle.std.specs.Prelude.{ℕ, Bool, true, Option}
 use Rattle.mx_plan.specs.Text.{Text}
-use Rattle.mx_plan.specs.Fields.{Fields}
 use Rattle.mx_io.specs.Told.{Telling}
 use Rattle.mx_cli.specs.Frames.{Runs, alone, both}
-use Rattle.mx_cli.specs.Printing.{Report}
 use Rattle.mx_cli.specs.Reports.{Declines, ReportsUsage, Seen}
-use Rattle.mx_cli.specs.Requests.{Request, check, count, draw, explain, explore, explore_walk, judge, live, misfit, picture, play, replay, script}
-use Rattle.mx_cli.specs.declared.request.Conditions.{Conditions}
+use Rattle.mx_cli.specs.Requests.{Request, check, count, draw, explain, explore, judge, live, misfit, picture, play, replay, script}
 use Rattle.mx_commands.specs.Commands.{IsCheck}
 use Rattle.mx_commands.specs.Viewed.{IsReplayed, has_options}
 use Rattle.mx_count.specs.Printed.{IsCount}
 use Rattle.mx_explain.specs.Explained.{Explains}
 use Rattle.mx_explore.specs.Drawn.{IsDraw}
 use Rattle.mx_explore.specs.Explored.{IsExplored}
-use Rattle.mx_explore.specs.declared.random_run.RandomRun.{RandomRun}
 use Rattle.mx_judge.specs.Judged.{IsJudgement}
 use Rattle.mx_picture.specs.Pictures.{IsPictured}
 use Rattle.mx_scripts.specs.Printed.{IsOnText, IsScript}
-
--- the reports that a command may print of a plan and of the text that comes with it
-abbrev pub Reports : Type 1
-Reports = Fields → Text → Report → Type 0
-
--- the schedule of a seed, of a number of steps, or the walk under some conditions
-abbrev pub run_of : ℕ → ℕ → Option Conditions → RandomRun
-run_of seed steps conditions = record { seed = seed; steps = steps; conditions = conditions }
-
-abbrev pub IsExploration : ℕ → ℕ → Option Conditions → Bool → Bool → Reports
-IsExploration seed steps conditions has_counts is_json p text =
-    IsExplored
-    (record {
-      run = run_of seed steps conditions;
-      has_counts = has_counts;
-      is_json = is_json;
-    }) p
-
-abbrev pub IsDrawing : ℕ → ℕ → Option Conditions → Reports
-IsDrawing seed steps conditions p text = IsDraw (run_of seed steps conditions) p
 
 -- What each request does, by what the source states about names, by whether the outputs take all
 -- bytes, and by what is seen of the outputs
@@ -47,13 +23,11 @@ Does told (check plan has_asks is_json) t u old new status =
 Does told (replay names view is_script) t u old new status =
     Runs (IsOnText is_script (IsReplayed view)) told (both names (has_options view)) t u old new
     status
-Does told (explore e has_counts is_json) t u old new status =
-    Runs (IsExploration e.1.0 e.1.1 None has_counts is_json) told (alone e.0) t u old new status
-Does told (explore_walk e conditions) t u old new status =
-    Runs (IsExploration e.1.0 e.1.1 (Some conditions) false false) told (alone e.0) t u old new
-    status
-Does told (draw e conditions) t u old new status =
-    Runs (IsDrawing e.1.0 e.1.1 conditions) told (alone e.0) t u old new status
+Does told (explore plan run has_counts is_json) t u old new status =
+    Runs (IsExplored (record { run = run; has_counts = has_counts; is_json = is_json })) told
+    (alone plan) t u old new status
+Does told (draw plan run) t u old new status =
+    Runs (IsDraw run) told (alone plan) t u old new status
 Does told (script names) t u old new status =
     Runs IsScript told (both names true) t u old new status
 Does told (picture names part is_script) t u old new status =

@@ -7,11 +7,12 @@ ghost use Rattle.mx_cli.specs.Requests.{AskNothing, request_asked, request_of};
 ghost use Rattle.mx_cli.specs.Reports.{Answers, Declines, seen};
 ghost use Rattle.mx_dispatch.specs.Program.{Does};
 
-use crate::forms::{run_both, run_check, run_draw, run_explore, run_text};
+use crate::forms::{run_alone, run_both, run_text};
 use mx_cli::{Request, parse, refuse, report_misfit};
-use mx_commands::Replay;
+use mx_commands::{Check, Replay};
 use mx_count::Count;
 use mx_explain::explain;
+use mx_explore::{Draw, Explore};
 use mx_io::{Output, Source};
 use mx_judge::Judge;
 use mx_picture::Picture;
@@ -61,7 +62,13 @@ fn carry_out<S: Source, O: Output, E: Output>(
             plan,
             has_asks,
             is_json,
-        } => run_check(alloc, plan, *has_asks, *is_json, source, out, err),
+        } => {
+            let check = Check {
+                has_asks: *has_asks,
+                is_json: *is_json,
+            };
+            run_alone(alloc, &check, plan, source, out, err)
+        }
         Request::Replay {
             names,
             view,
@@ -81,20 +88,19 @@ fn carry_out<S: Source, O: Output, E: Output>(
             )
         }
         Request::Explore {
-            exploration,
+            plan,
+            run,
             has_counts,
             is_json,
         } => {
-            let (counts, json) = (*has_counts, *is_json);
-            run_explore(alloc, exploration, None, counts, json, source, out, err)
+            let explore = Explore {
+                run: *run,
+                has_counts: *has_counts,
+                is_json: *is_json,
+            };
+            run_alone(alloc, &explore, plan, source, out, err)
         }
-        Request::ExploreWalk(exploration, conditions) => {
-            let walk = Some(*conditions);
-            run_explore(alloc, exploration, walk, false, false, source, out, err)
-        }
-        Request::Draw(exploration, conditions) => {
-            run_draw(alloc, exploration, *conditions, source, out, err)
-        }
+        Request::Draw { plan, run } => run_alone(alloc, &Draw(*run), plan, source, out, err),
         Request::Script(names) => run_both(alloc, &Script, names, true, source, out, err),
         Request::Picture {
             names,

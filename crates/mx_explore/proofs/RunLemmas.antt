@@ -22,7 +22,7 @@ use Rattle.mx_scripts.proofs.PlayedLemmas.{played_at_rest, plays_step}
 use Rattle.mx_explore.specs.Walk.{StepperState, at_first, looked}
 use Rattle.mx_explore.specs.Runs.{after_placed, after_run, next_of, or_stay, ran}
 use Rattle.mx_explore.specs.Drawn.{LeadsAs, drawn_events}
-use Rattle.mx_explore.specs.declared.random_run.RandomRun.{RandomRun}
+use Rattle.mx_cli.specs.declared.request.RandomRun.{RandomRun}
 use Rattle.mx_explore.proofs.StepLemmas.{next_named}
 
 -- ---- the event of a step

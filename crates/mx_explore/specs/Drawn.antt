@@ -14,7 +14,7 @@ use Rattle.mx_cli.specs.Printing.{IsWhole, Report}
 use Rattle.mx_scripts.specs.Files.{file_text}
 use Rattle.mx_scripts.specs.Played.{IsEventFile, events_of}
 use Rattle.mx_explore.specs.Runs.{after_run}
-use Rattle.mx_explore.specs.declared.random_run.RandomRun.{RandomRun}
+use Rattle.mx_cli.specs.declared.request.RandomRun.{RandomRun}
 
 -- the events that happen in a run from the cluster of a plan, at rest
 abbrev pub drawn_events : Fields → RandomRun → Shape → List Event
@@ -51,6 +51,6 @@ abbrev pub drawn_file : Fields → RandomRun → Text
 drawn_file p run = file_text p (drawn_events p run p.shape)
 
 -- a report of `draw`: the file of a run, whose events can happen in the plan's cluster
-abbrev pub IsDraw : RandomRun → Fields → Report → Type 0
-IsDraw run p r =
+abbrev pub IsDraw : RandomRun → Fields → Text → Report → Type 0
+IsDraw run p text r =
     IsEventFile p (drawn_file p run) p.shape × IsWhole (drawn_file p run) 0 r

@@ -38,5 +38,5 @@ IsExploredBy p e (Raymond tree) =
     IsExploredFrom raymond_core (word_by raymond_parts) raymond_words p e
     (at_rest raymond_core p tree)
 
-abbrev pub IsExplored : Explore → Fields → Report → Type 0
-IsExplored e p = IsExploredBy p e p.shape
+abbrev pub IsExplored : Explore → Fields → Text → Report → Type 0
+IsExplored e p text = IsExploredBy p e p.shape

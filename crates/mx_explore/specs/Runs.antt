@@ -9,7 +9,7 @@ use Rattle.mx_explorer.specs.Drawn.{after_drawn, drawn}
 use Rattle.mx_explorer.specs.Place.{place_of}
 use Rattle.mx_cli.specs.declared.request.Conditions.{Conditions}
 use Rattle.mx_explore.specs.Walk.{Step, StepperState, at_first, looked, next_step, with_words}
-use Rattle.mx_explore.specs.declared.random_run.RandomRun.{RandomRun}
+use Rattle.mx_cli.specs.declared.request.RandomRun.{RandomRun}
 
 -- the state after an event; an event that can't happen changes nothing
 abbrev pub or_stay : {G : Type 0} → G → Result G StepFault → G

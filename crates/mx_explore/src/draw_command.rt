@@ -8,8 +8,8 @@ ghost use Rattle.mx_scripts.specs.Played.{IsEventFile, IsFileOf, events_of};
 ghost use Rattle.mx_explore.specs.Runs.{after_run, schedule_of};
 ghost use Rattle.mx_explore.specs.Drawn.{IsDraw, LeadsAs, drawn_events, drawn_file, parcels_in};
 
-use crate::random_run::{RandomRun, run};
-use mx_cli::{Command, Stop, print};
+use crate::random_run::run;
+use mx_cli::{Command, RandomRun, Stop, print};
 use mx_commands::by_shape;
 use mx_io::Output;
 use mx_network::Cluster;
@@ -25,7 +25,7 @@ use std::alloc::{AllocError, Global};
 pub struct Draw(pub RandomRun);
 
 impl Command for Draw {
-    ghost reports = { λ d p _. IsDraw d.0 p };
+    ghost reports = { λ d. IsDraw d.0 };
 
     fn run<O: Output>(
         &self,

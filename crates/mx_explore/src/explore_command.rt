@@ -4,8 +4,8 @@ ghost use Rattle.mx_format.specs.Parts.{word_by};
 ghost use Rattle.mx_cli.specs.Printing.{Prints, sight};
 ghost use Rattle.mx_explore.specs.Explored.{IsExplored, IsExploredBy, IsExploredFrom};
 
-use crate::random_run::{RandomRun, run};
-use mx_cli::{Command, Stop};
+use crate::random_run::run;
+use mx_cli::{Command, RandomRun, Stop};
 use mx_commands::by_shape;
 use mx_count::{EventSource, Options, print_counts};
 use mx_format::Letter;
@@ -25,7 +25,7 @@ pub struct Explore {
 }
 
 impl Command for Explore {
-    ghost reports = { λ e p _. IsExplored e p };
+    ghost reports = { λ e. IsExplored e };
 
     fn run<O: Output>(
         &self,

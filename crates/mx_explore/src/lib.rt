@@ -12,4 +12,4 @@ mod under_way;
 
 pub use draw_command::{Draw, replays_as_explored};
 pub use explore_command::Explore;
-pub use random_run::{RandomRun, run};
+pub use random_run::run;

@@ -7,22 +7,12 @@ ghost use Rattle.mx_explore.specs.Reads.{AddsNoVainRead};
 ghost use Rattle.mx_explore.specs.Runs.{after_placed, after_run, next_of, ran};
 
 use crate::stepper::Stepper;
-use mx_cli::Conditions;
+use mx_cli::{Conditions, RandomRun};
 use mx_network::{Cluster, Event, StepFault};
 use mx_nodelaws::Exclusion;
 use mx_plan::Plan;
 use mx_stamps::MAX_NODES;
 use std::alloc::{AllocError, Global};
-
-/// A run that is drawn from a seed: a schedule, or a walk.
-#[derive(Clone, Copy)]
-pub struct RandomRun {
-    pub seed: u64,
-    /// How many events a schedule has, or how many steps a walk.
-    pub steps: u64,
-    /// The conditions of the walk, if the run is one.
-    pub conditions: Option<Conditions>,
-}
 
 /// Does a run in a cluster of the plan. A step may have no event.
 pub fn run<C: Exclusion>(

@@ -49,10 +49,9 @@ pub(crate) fn tell_hint<E: Output>(alloc: Global, words: &[&str], err: &mut E) {
 /// Returns the hint for the files that a request names.
 fn hint_for<'a>(request: &Request<'a>) -> Option<Hint<'a>> {
     let (plan, second) = match request {
-        Request::Check { plan, .. } => (*plan, None),
-        Request::Explore { exploration, .. }
-        | Request::ExploreWalk(exploration, _)
-        | Request::Draw(exploration, _) => (exploration.plan, None),
+        Request::Check { plan, .. }
+        | Request::Explore { plan, .. }
+        | Request::Draw { plan, .. } => (*plan, None),
         Request::Live(run) => (run.plan, None),
         Request::Play { plan, script } => (*plan, *script),
         Request::Replay { names, .. }
