@@ -1,20 +1,13 @@
 -- The counts of a run of events.
-use Rattle.std.specs.Prelude.{◌≡◌, ◌⊎◌, ◌<◌, ℕ, ◌++◌, Bool, List, [], IfSome, IsErr, codes, length, slice_get, take, if◌then◌else◌}
+use Rattle.std.specs.Prelude.{ℕ, ◌++◌, Bool, List, [], codes, length, if◌then◌else◌}
 use Rattle.std.specs.List.{count_by}
-use Rattle.mx_nodelaws.specs.Core.{Core}
-use Rattle.mx_events.specs.declared.event.Event.{Event}
-use Rattle.mx_network.specs.Step.{ClusterState, RunsTo, step_of}
-use Rattle.mx_network.specs.declared.faults.StepFault.{StepFault}
-use Rattle.mx_network.specs.declared.faults.StepFault.TheVariants as step_fault
+use Rattle.mx_network.specs.Step.{ClusterState}
 use Rattle.mx_explorer.specs.declared.verdict.Verdict.TheVariants.{Sound}
 use Rattle.mx_plan.specs.Text.{Text}
 use Rattle.mx_plan.specs.Fields.{Fields}
 use Rattle.mx_format.specs.PlanTexts.{explored_line}
 use Rattle.mx_commands.specs.VerdictLines.{verdict_text}
 use Rattle.mx_format.specs.Members.{number_member, number_start}
-use Rattle.mx_cli.specs.declared.faults.Fault.TheVariants.{NoParcel}
-use Rattle.mx_cli.specs.declared.stop.Stop.{Stop}
-use Rattle.mx_cli.specs.declared.stop.Stop.TheVariants as stop
 use Rattle.mx_count.specs.Counts.{tallies_text}
 use Rattle.mx_count.specs.NodeCounts.{is_entry, nodes_text}
 use Rattle.mx_count.specs.Tallies.{counts_end, first_tally_text, tally_text}
@@ -66,21 +59,3 @@ abbrev pub counts_text : {S M : Type 0} → (M → Text) → List Text → Optio
 counts_text kind_text words options p events g =
     cluster_text kind_text words options events g ++ all_nodes_text options p g
     ++ verdict_text options.is_json Sound
-
--- events lead to event k, which cannot happen: it delivers a parcel that was not sent. Events that
--- are read have no other fault
-abbrev pub StopsAt : {H S M : Type 0} → Core H S M → ClusterState S M → List Event → ℕ → Type 0
-StopsAt {H} {S} {M} core start es k =
-    (k < length es) × ((g : ClusterState S M) × RunsTo core start (take k es) g
-    × IfSome (slice_get es k) (λ e. IsErr (step_of core g e)))
-
--- why a run stops at event k, which has this fault
-abbrev pub stop_of_step : ℕ → StepFault → Stop
-stop_of_step k step_fault.Memory = stop.Memory
-stop_of_step k fault = stop.Fault (NoParcel k)
-
--- memory ran out, or the events stop at one of them
-abbrev pub StopsWith : {H S M : Type 0} → Core H S M → ClusterState S M → List Event → Stop
-    → Type 0
-StopsWith core start es s =
-    (s ≡ stop.Memory) ⊎ ((k : ℕ) × (s ≡ stop.Fault (NoParcel k)) × StopsAt core start es k)

@@ -3,17 +3,17 @@
 ghost use Rattle.mx_format.specs.Parts.{word_by};
 ghost use Rattle.mx_cli.specs.Printing.{IsWhole, Prints, sight};
 ghost use Rattle.mx_count.specs.Counted.{counts_text};
-ghost use Rattle.mx_count.specs.Printed.{IsCount, IsCountBy, IsCountFrom};
+ghost use Rattle.mx_count.specs.Printed.{IsCount, count_texts};
 
-use crate::counted_run::{EventSource, Options, add_counts, apply_events};
+use crate::counted_run::{EventSource, Options, add_counts};
 use mx_cli::{Command, Stop, print};
-use mx_commands::by_shape;
+use mx_commands::{Sink, drive};
 use mx_format::Letter;
 use mx_io::Output;
-use mx_network::{Cluster, Event};
+use mx_network::Cluster;
 use mx_nodelaws::Exclusion;
 use mx_plan::{Plan, read_events};
-use std::alloc::Global;
+use std::alloc::{AllocError, Global};
 
 /// `count`: counts a run of the events that the text lists.
 #[derive(Clone, Copy)]
@@ -22,7 +22,7 @@ pub struct Count {
 }
 
 impl Command for Count {
-    ghost reports = { λ c p text. IsCount c.is_json p text };
+    ghost reports = { λ c. IsCount c.is_json };
 
     fn run<O: Output>(
         &self,
@@ -31,50 +31,58 @@ impl Command for Count {
         text: &[u8],
         out: &mut O,
     ) -> Result<u8, Stop> {
-        let options = Options {
-            source: EventSource::Given,
-            is_json: self.is_json,
-            has_counts: true,
-        };
         match read_events(alloc, text, plan) {
-            Ok(events) => count_events(alloc, plan, events.as_slice(), options, out),
+            Ok(events) => {
+                let mut counter = Counter {
+                    events: events.len() as u64,
+                    is_json: self.is_json,
+                };
+                drive(alloc, plan, events.as_slice(), &mut counter, out)
+            }
             Err(fault) => Err(Stop::from(fault)),
         }
     }
 }
 
-fn count_events<O: Output>(
-    alloc: Global,
-    plan: &Plan,
-    events: &[Event],
-    options: Options,
-    out: &mut O,
-) -> Result<u8, Stop>
-    ensures prints { Prints (IsCountBy options plan.now events.now plan.now.shape)
-        (sight O.Output out.old) (sight O.Output out.new) result }
-{
-    by_shape!(
-        alloc,
-        plan,
-        |cluster| count_after(alloc, plan, cluster, events, options, out)
-    )
+/// A sink that appends nothing but the counts, at the end of a run of this many events.
+#[derive(Clone, Copy)]
+struct Counter {
+    events: u64,
+    is_json: bool,
 }
 
-fn count_after<C: Exclusion, O: Output>(
-    alloc: Global,
-    plan: &Plan,
-    mut cluster: Cluster<C>,
-    events: &[Event],
-    options: Options,
-    out: &mut O,
-) -> Result<u8, Stop>
+impl<C: Exclusion> Sink<Cluster<C>> for Counter
 where
     C::Msg: Letter,
-    ensures prints { Prints (IsCountFrom C.core (word_by C.Msg.parts) C.Msg.words options plan.now
-        events.now cluster) (sight O.Output out.old) (sight O.Output out.new) result }
 {
-    apply_events(&mut cluster, events)?;
-    print_counts(alloc, plan, &cluster, events.len() as u64, options, out)
+    ghost texts = { λ c p. count_texts (word_by C.Msg.parts) C.Msg.words c.is_json p c.events };
+
+    fn event(
+        &mut self,
+        _alloc: Global,
+        _plan: &Plan,
+        _index: u64,
+        _before: u64,
+        _cluster: &Cluster<C>,
+        _text: &mut String,
+    ) -> Result<(), AllocError> {
+        Ok(())
+    }
+
+    fn end(
+        &mut self,
+        alloc: Global,
+        plan: &Plan,
+        cluster: &Cluster<C>,
+        text: &mut String,
+    ) -> Result<u8, AllocError> {
+        let options = Options {
+            source: EventSource::Given,
+            is_json: self.is_json,
+            has_counts: true,
+        };
+        add_counts(alloc, plan, cluster, self.events, options, text)
+    }
 }
 
 /// Prints the counts of a cluster after this many events, and returns the status.

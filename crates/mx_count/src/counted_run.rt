@@ -1,10 +1,9 @@
-//! Runs events, and counts their parcels, refusals and waits.
+//! The counts of a cluster after a run: its parcels, refusals and waits, and those of its nodes.
 
-ghost use Rattle.std.specs.Prelude.{◌≡◌, ◌++◌, IfErr, IfOk, OnOk, string_bytes};
-ghost use Rattle.mx_network.specs.Step.{RunsTo};
+ghost use Rattle.std.specs.Prelude.{◌≡◌, ◌++◌, IfOk, OnOk, string_bytes};
 ghost use Rattle.mx_format.specs.Parts.{word_by};
 ghost use Rattle.mx_count.specs.Counts.{tallies_text, times_text};
-ghost use Rattle.mx_count.specs.Counted.{StopsWith, all_nodes_text, cluster_text, counts_text, details_text, first_text, stop_of_step};
+ghost use Rattle.mx_count.specs.Counted.{all_nodes_text, cluster_text, counts_text, details_text, first_text};
 
 use crate::kinds::Group;
 use crate::measures::Measure;
@@ -14,12 +13,11 @@ use crate::refusal_counts::add_refusal_counts;
 use crate::spread::add_measure;
 use crate::tallies::{add_counts_end, add_first_tally, add_share, add_tally_line};
 use crate::waits::longest_wait;
-use mx_cli::{Fault, Stop};
 use mx_commands::{add_verdict, verdict_status};
 use mx_explorer::judge;
 use mx_format::json::{add_number, start_number};
 use mx_format::{ExploredLine, Letter};
-use mx_network::{Cluster, Event, RunFault, StepFault};
+use mx_network::Cluster;
 use mx_nodelaws::Exclusion;
 use mx_plan::Plan;
 use std::alloc::{AllocError, Global};
@@ -40,30 +38,6 @@ pub struct Options {
     pub is_json: bool,
     /// Whether more is printed than the numbers of events, sections and parcels, and the verdict.
     pub has_counts: bool,
-}
-
-/// Applies events that a file lists. The delivery of a parcel that was not sent is a fault.
-pub(crate) fn apply_events<C: Exclusion>(
-    cluster: &mut Cluster<C>,
-    events: &[Event],
-) -> Result<(), Stop>
-    ensures ok { OnOk result (RunsTo C.core cluster.old events.now cluster.new) }
-    ensures err { IfErr result (StopsWith C.core cluster.old events.now) }
-{
-    cluster.make_room(events.len())?;
-    match cluster.run(events) {
-        Ok(()) => Ok(()),
-        Err(stopped) => Err(stop_at(stopped)),
-    }
-}
-
-fn stop_at(stopped: RunFault) -> Stop
-    ensures { result ≡ stop_of_step stopped.index stopped.fault }
-{
-    match stopped.fault {
-        StepFault::Memory => Stop::Memory,
-        StepFault::NoNode | StepFault::NoParcel => Stop::Fault(Fault::NoParcel(stopped.index)),
-    }
 }
 
 pub(crate) fn add_counts<C: Exclusion>(

@@ -1,6 +1,28 @@
-use Rattle.mx_cli.specs.Printing.{sight}
-use Rattle.mx_count.proofs.PrintedLemmas.{no_count}
+use Rattle.std.proofs.Common.{List, length, subst, sym}
+use Rattle.mx_events.specs.declared.event.Event.{Event}
+use Rattle.mx_cli.specs.Printing.{IsReport, sight}
+use Rattle.mx_cli.proofs.FrameLemmas.{prints_as}
+use Rattle.mx_commands.specs.Runs.{AllNameNodes}
+use Rattle.mx_commands.proofs.EventLemmas.{events_named}
+use Rattle.mx_count.specs.Printed.{IsCount, count_report}
+use Rattle.mx_count.proofs.PrintedLemmas.{is_count, no_count}
 use Rattle.mx_count.proofs.count_command.CountCommand.run.Goals as goal
+
+pub drive-requires : goal.drive-requires
+drive-requires g c =
+    let p = c.args.plan.now in
+    subst (λ (es : List Event). AllNameNodes (length p.nodes) es) (sym c.as_slice.ensures.value) (events_named p c.args.text.now c.in-Ok.events.items c.in-Ok.ensures)
+
+pub returns-in-Ok : goal.returns-in-Ok
+returns-in-Ok g c =
+    let p = c.args.plan.now in
+    let text = c.args.text.now in
+    let is_json = c.args.self.now.is_json in
+    let es = c.as_slice.result.now in
+    record {
+      prints = prints_as (IsReport (count_report is_json p es)) (IsCount is_json p text) (is_count is_json p text c.in-Ok.events.items es c.in-Ok.ensures c.as_slice.ensures.value)
+          (sight g.O.Output c.args.out.now) (sight g.O.Output c.drive.new.out) c.drive.result c.drive.ensures.prints;
+    }
 
 pub returns-in-Err : goal.returns-in-Err
 returns-in-Err g c = record {
