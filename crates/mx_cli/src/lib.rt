@@ -7,10 +7,8 @@
 mod arguments;
 mod command;
 mod examples;
-mod fault_lines;
 mod faults;
 mod files;
-mod first_line;
 mod frame;
 mod help;
 mod line;
@@ -22,12 +20,10 @@ mod stop;
 mod table;
 
 pub use command::{Command, print};
-pub use fault_lines::FaultLine;
-pub use faults::{Fault, Named};
+pub use faults::{Fault, FaultLine, Named};
 pub use files::Files;
-pub use first_line::{are_dashes, split_line};
 pub use frame::{close, front, run_files, stop_for};
-pub use planning::{PlanAndText, fetch, fetch_both, fetch_plan, plan_in};
+pub use planning::{PlanAndText, are_dashes, fetch, fetch_both, fetch_plan, plan_in, split_line};
 pub use reader::parse;
 pub use report::{refuse, report_fault, report_memory, report_misfit, write_line};
 pub use request::{

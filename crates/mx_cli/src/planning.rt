@@ -1,13 +1,13 @@
 //! Fetches the bytes that a command names, and reads its plan.
 
-ghost use Rattle.std.specs.Prelude.{◌≡◌, [], ◌∷◌, Some, IfErr, IfSome, option_map};
+ghost use Rattle.std.specs.Prelude.{◌≡◌, ◌≤◌, ◌==◌, ◌&&◌, [], ◌∷◌, Some, IfErr, IfSome, length, option_map};
+ghost use Rattle.std.specs.List.{after_first, before_first, position_or_len};
 ghost use Rattle.mx_io.specs.Told.{Asks};
 ghost use Rattle.mx_cli.specs.Asked.{AsksBoth, AsksInTurn};
-ghost use Rattle.mx_cli.specs.Reading.{Fetches, IsUnread, Reads, ReadsBoth, line_of, plan_told, rest_of, text_told};
+ghost use Rattle.mx_cli.specs.Reading.{Fetches, IsUnread, Reads, ReadsBoth, is_dash, line_of, plan_told, rest_of, text_told};
 ghost use Rattle.mx_cli.specs.Words.{names_of};
 
 use crate::faults::{Fault, Named};
-use crate::first_line::{are_dashes, split_line};
 use crate::request::Names;
 use crate::stop::Stop;
 use mx_io::{Source, SourceFault};
@@ -118,4 +118,37 @@ fn fetch_two<S: Source>(
     let plan = fetch_plan(alloc, source, names.plan)?;
     let text = fetch(alloc, source, names.events, Named::Events)?;
     Ok(PlanAndText { plan, text })
+}
+
+/// Whether both names are `-`, which is standard input.
+pub fn are_dashes(names: &Names<'_>) -> bool
+    ensures { result ≡ (is_dash names.now.plan.now && is_dash names.now.events.now) }
+{
+    names.plan == "-" && names.events == "-"
+}
+
+/// Returns the bytes before the first line feed, and those after it. Without a line feed, all bytes
+/// are in the first part.
+pub fn split_line(bytes: &[u8]) -> (&[u8], &[u8])
+    ensures line { result.0.now ≡ before_first (λ b. b == 10) bytes.now }
+    ensures rest { result.1.now ≡ after_first (λ b. b == 10) bytes.now }
+{
+    let at = first_feed(bytes);
+    if at < bytes.len() {
+        (&bytes[..at], &bytes[at + 1..])
+    } else {
+        (bytes, &bytes[bytes.len()..])
+    }
+}
+
+fn first_feed(bytes: &[u8]) -> usize
+    ensures value { result ≡ position_or_len (λ b. b == 10) bytes.now }
+    ensures within { result ≤ length bytes.now }
+{
+    for (i, b) in bytes.iter().enumerate() {
+        if *b == b'\n' {
+            return i;
+        }
+    }
+    bytes.len()
 }

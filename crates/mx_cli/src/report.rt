@@ -8,8 +8,7 @@ ghost use Rattle.mx_io.specs.Outputs.{refused_by};
 ghost use Rattle.mx_cli.specs.FaultLines.{fault_line};
 ghost use Rattle.mx_cli.specs.Reports.{Answers, Helps, MayReport, RunsOut, ReportsFault, seen};
 
-use crate::fault_lines::FaultLine;
-use crate::faults::Fault;
+use crate::faults::{Fault, FaultLine};
 use crate::request::{Misfit, Names};
 use clap::error::ErrorKind;
 use mx_io::{Output, OutputFault};

@@ -1,13 +1,13 @@
 //! The interface of what prints the events of a run.
 
-ghost use Rattle.std.specs.Prelude.{◌≡◌, ◌<◌, ◌≤◌, [], ◌∷◌, ◌++◌, length, string_bytes, IfOk, OnOk};
+ghost use Rattle.std.specs.Prelude.{◌≡◌, ◌<◌, ◌≤◌, List, [], ◌∷◌, ◌++◌, length, string_bytes, IfOk, OnOk};
 ghost use Rattle.mx_network.specs.Step.{ClusterState};
 ghost use Rattle.mx_trace.specs.declared.outcome.Entry.{Entry};
 ghost use Rattle.mx_plan.specs.Fields.{Fields};
 ghost use Rattle.mx_commands.specs.Runs.{Texts};
 ghost use Rattle.mx_commands.specs.Sinks.{Tells, anything};
 
-use mx_network::Cluster;
+use mx_network::{Cluster, Entry};
 use mx_nodelaws::Exclusion;
 use mx_plan::Plan;
 use std::alloc::{AllocError, Global};
@@ -79,4 +79,13 @@ pub trait Sink<R: Running> {
             ++ (texts self.old plan.now).closing (R.state cluster.now)) }
         ensures zero { IfOk result (λ status. status ≡ 0) }
         ensures closed { OnOk result ((tells plan.now).closed self.old (R.state cluster.now) self.new) };
+}
+
+/// Returns the newest item of a trace that has one.
+pub fn newest(trace: &[Entry]) -> &Entry
+    requires { 0 < length trace.now }
+    ensures { (front : List Entry) (entry : Entry) → trace.now ≡ front ++ entry ∷ []
+        → result.now ≡ entry }
+{
+    &trace[trace.len() - 1]
 }

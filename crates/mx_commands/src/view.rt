@@ -1,12 +1,17 @@
-//! What is shown of a run.
+//! What is shown of a run, and what that has in common with the plain replay.
 
 ghost use Rattle.std.specs.Prelude.{◌≡◌, false, nat_eq};
+ghost use Rattle.std.specs.List.{concat};
 ghost use Rattle.std.specs.Option.{option_map_or};
-ghost use Rattle.mx_commands.specs.Shown.{addressee_of, owner_of, shows, shows_event, shows_parcel};
+ghost use Rattle.mx_cli.specs.Printing.{has_status};
+ghost use Rattle.mx_commands.specs.Jobs.{run_by};
+ghost use Rattle.mx_commands.specs.Shown.{ShowsRunBy, addressee_of, owner_of, shows, shows_event, shows_parcel, view_by};
+ghost use Rattle.mx_commands.specs.declared.view.View.{View};
 
 use mx_member::SentParcel;
 use mx_network::{Cluster, Event};
 use mx_nodelaws::Exclusion;
+use mx_plan::Plan;
 use mx_stamps::NodeId;
 
 /// What is shown of a run.
@@ -85,3 +90,18 @@ fn addressee_of<C: Exclusion>(cluster: &Cluster<C>, number: u64) -> Option<NodeI
         None => None,
     }
 }
+
+/// Proves that a view of a run ends as the plain replay does: well, or with the same fault. The
+/// body does nothing.
+pub fn ends_as_replay(plan: &Plan, events: &[Event])
+    ensures { (view : View) → (view_by plan.now view plan.now.shape events.now).end
+        ≡ (run_by plan.now plan.now.shape events.now).end }
+{}
+
+/// Proves that a view of a run without a fault has the lines of the events in order, unless it is
+/// quiet, and then the closing lines of the cluster to which they lead. The body does nothing.
+pub fn shows_run(plan: &Plan, events: &[Event])
+    ensures { (view : View) → (view_by plan.now view plan.now.shape events.now).end ≡ has_status 0
+        → ShowsRunBy plan.now view events.now
+        (concat (view_by plan.now view plan.now.shape events.now).texts) plan.now.shape }
+{}

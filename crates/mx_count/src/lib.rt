@@ -3,7 +3,6 @@
 #![tactic(auto)]
 
 mod count_command;
-mod count_lines;
 mod counted_run;
 mod kinds;
 mod measures;

@@ -1,15 +1,15 @@
 //! The least, the mean and the greatest of numbers.
 
-ghost use Rattle.std.specs.Prelude.{◌≡◌, ◌++◌, ◌+◌, OnOk, length, string_bytes};
+ghost use Rattle.std.specs.Prelude.{◌≡◌, ◌++◌, ◌+◌, OnOk, Some, length, string_bytes};
 ghost use Rattle.mx_count.specs.Measures.{greatest_from, least_from, mean_start, measure_end, measure_name, measure_text, numbers_text, spread_text, sum_from};
-ghost use Rattle.mx_count.specs.Tallies.{quotient_text};
+ghost use Rattle.mx_count.specs.Tallies.{labelled, quotient_text};
 
-use crate::count_lines::Labelled;
 use crate::measures::{Measure, measured};
 use crate::tallies::{add_absent, add_quotient, add_value_end, add_value_start, either};
 use mx_network::Cluster;
 use mx_nodelaws::Exclusion;
 use std::alloc::{AllocError, Global};
+use std::fmt;
 
 pub(crate) fn add_measure<C: Exclusion>(
     alloc: Global,
@@ -100,4 +100,15 @@ fn sum_of(first: u64, rest: &[u64]) -> u128
         sum += u128::from(*number);
     }
     sum
+}
+
+#[derive(Clone, Copy)]
+struct Labelled<'a>(&'a str, u64);
+
+impl fmt::Display for Labelled<'_> {
+    ghost output = { λ l. Some (labelled l.0.now l.1) };
+
+    fn fmt<W: fmt::Write>(&self, f: &mut fmt::Formatter<W>) -> fmt::Result {
+        write!(f, "{}{}", self.0, self.1)
+    }
 }

@@ -1,11 +1,11 @@
 //! Counts and values with their names, as lines or as members of an object of JSON.
 
-ghost use Rattle.std.specs.Prelude.{◌≡◌, ◌≢◌, ◌++◌, if◌then◌else◌, OnOk, string_bytes};
-ghost use Rattle.mx_count.specs.Tallies.{absent_text, counts_end, first_tally_text, quotient_text, share_of, share_text, tally, tally_text, value_end, value_start};
+ghost use Rattle.std.specs.Prelude.{◌≡◌, ◌≢◌, ◌++◌, if◌then◌else◌, OnOk, Some, string_bytes};
+ghost use Rattle.mx_count.specs.Tallies.{absent_text, counts_end, first_tally_text, named_count, quotient_text, share_of, share_text, tally, tally_text, tenths_text, value_end, value_start};
 
-use crate::count_lines::{NamedCount, TenthsText};
 use mx_format::json::{add_number, start_number};
 use std::alloc::AllocError;
+use std::fmt;
 
 /// Returns the text for JSON, or else the one for lines.
 pub(crate) fn either(is_json: bool, json: &'static str, line: &'static str) -> &'static str
@@ -144,4 +144,34 @@ pub(crate) fn add_counts_end(is_json: bool, text: &mut String) -> Result<(), All
         ≡ string_bytes text.old ++ counts_end is_json) }
 {
     text.push_str(either(is_json, "}\n", ""))
+}
+
+/// A name and its count, after an indentation, or after what separates them from an earlier count.
+#[derive(Clone, Copy)]
+struct NamedCount<'a> {
+    before: &'a str,
+    name: &'a str,
+    count: u64,
+}
+
+impl fmt::Display for NamedCount<'_> {
+    ghost output = { λ n. Some (named_count n.before.now n.name.now n.count) };
+
+    fn fmt<W: fmt::Write>(&self, f: &mut fmt::Formatter<W>) -> fmt::Result {
+        write!(f, "{}{} {}", self.before, self.name, self.count)
+    }
+}
+
+#[derive(Clone, Copy)]
+struct TenthsText {
+    whole: u128,
+    tenths: u128,
+}
+
+impl fmt::Display for TenthsText {
+    ghost output = { λ t. Some (tenths_text t.whole t.tenths) };
+
+    fn fmt<W: fmt::Write>(&self, f: &mut fmt::Formatter<W>) -> fmt::Result {
+        write!(f, "{}.{}", self.whole, self.tenths)
+    }
 }

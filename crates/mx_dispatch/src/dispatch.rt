@@ -1,14 +1,15 @@
 //! The words of a command line, and the command that they ask for.
 
-ghost use Rattle.std.specs.Prelude.{IfSome};
+ghost use Rattle.std.specs.Prelude.{◌≡◌, IfSome};
 ghost use Rattle.mx_cli.specs.Table.{mx_app};
-ghost use Rattle.mx_cli.specs.Words.{texts_of};
+ghost use Rattle.mx_cli.specs.Frames.{Runs, alone, both};
+ghost use Rattle.mx_cli.specs.Words.{names_of, texts_of};
 ghost use Rattle.mx_cli.specs.Requests.{AskNothing, request_asked, request_of};
 ghost use Rattle.mx_cli.specs.Reports.{Answers, Declines, seen};
+ghost use Rattle.mx_scripts.specs.Printed.{IsOnText};
 ghost use Rattle.mx_dispatch.specs.Program.{Does};
 
-use crate::forms::{run_alone, run_both, run_text};
-use mx_cli::{Request, parse, refuse, report_misfit};
+use mx_cli::{Command, Files, Names, Request, front, parse, refuse, report_misfit};
 use mx_commands::{Check, Replay};
 use mx_count::Count;
 use mx_explain::explain;
@@ -16,7 +17,7 @@ use mx_explore::{Draw, Explore};
 use mx_io::{Output, Source};
 use mx_judge::Judge;
 use mx_picture::Picture;
-use mx_scripts::Script;
+use mx_scripts::{OnScript, Script};
 use std::alloc::Global;
 
 /// Runs the words of a command line, without the program's name, and returns the exit status: 0 if
@@ -130,4 +131,61 @@ fn carry_out<S: Source, O: Output, E: Output>(
         Request::Misfit(misfit) => report_misfit(alloc, *misfit, err),
         Request::Live(_) | Request::Play { .. } => 2,
     }
+}
+
+/// Runs a command on a plan alone.
+fn run_alone<C: Command, S: Source, O: Output, E: Output>(
+    alloc: Global,
+    command: &C,
+    plan: &str,
+    source: &mut S,
+    out: &mut O,
+    err: &mut E,
+) -> u8
+    ensures { Runs (C.reports command.now) (S.told source.old) (alone plan.now)
+        (O.takes_all out.old) (E.takes_all err.old)
+        (seen O.Output E.Output out.old err.old) (seen O.Output E.Output out.new err.new) result }
+{
+    front(alloc, command, &Files::alone(plan), source, out, err)
+}
+
+/// Runs a command on a plan and a file of events, or a script in their place.
+fn run_text<C: Command, S: Source, O: Output, E: Output>(
+    alloc: Global,
+    command: &C,
+    names: &Names<'_>,
+    names_texts: bool,
+    is_script: bool,
+    source: &mut S,
+    out: &mut O,
+    err: &mut E,
+) -> u8
+    ensures { Runs (IsOnText is_script (C.reports command.now)) (S.told source.old)
+        (both (names_of names.now) names_texts) (O.takes_all out.old) (E.takes_all err.old)
+        (seen O.Output E.Output out.old err.old) (seen O.Output E.Output out.new err.new) result }
+{
+    if is_script {
+        let scripted = OnScript(command);
+        return run_both(alloc, &scripted, names, names_texts, source, out, err);
+    }
+    run_both(alloc, command, names, names_texts, source, out, err)
+}
+
+/// Runs a command on a plan and a text. If `names_texts`, the fault that one of them is not JSON
+/// says which.
+fn run_both<C: Command, S: Source, O: Output, E: Output>(
+    alloc: Global,
+    command: &C,
+    names: &Names<'_>,
+    names_texts: bool,
+    source: &mut S,
+    out: &mut O,
+    err: &mut E,
+) -> u8
+    ensures { Runs (C.reports command.now) (S.told source.old)
+        (both (names_of names.now) names_texts) (O.takes_all out.old) (E.takes_all err.old)
+        (seen O.Output E.Output out.old err.old) (seen O.Output E.Output out.new err.new) result }
+{
+    let files = Files::both(names, names_texts);
+    front(alloc, command, &files, source, out, err)
 }

@@ -3,6 +3,5 @@
 #![tactic(auto)]
 
 mod dispatch;
-mod forms;
 
 pub use dispatch::command;

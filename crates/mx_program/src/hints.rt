@@ -49,9 +49,8 @@ pub(crate) fn tell_hint<E: Output>(alloc: Global, words: &[&str], err: &mut E) {
 /// Returns the hint for the files that a request names.
 fn hint_for<'a>(request: &Request<'a>) -> Option<Hint<'a>> {
     let (plan, second) = match request {
-        Request::Check { plan, .. }
-        | Request::Explore { plan, .. }
-        | Request::Draw { plan, .. } => (*plan, None),
+        Request::Check { plan, .. } | Request::Explore { plan, .. } | Request::Draw { plan, .. } =>
+            (*plan, None),
         Request::Live(run) => (run.plan, None),
         Request::Play { plan, script } => (*plan, *script),
         Request::Replay { names, .. }

@@ -3,7 +3,7 @@ use Rattle.mx_cli.specs.Words.{names_of}
 use Rattle.mx_cli.specs.Reports.{seen}
 use Rattle.mx_cli.specs.Frames.{Runs, both}
 use Rattle.mx_scripts.specs.Printed.{IsOnText}
-use Rattle.mx_dispatch.proofs.forms.run_text.Goals as goal
+use Rattle.mx_dispatch.proofs.dispatch.run_text.Goals as goal
 
 pub returns-then-is_script : goal.returns-then-is_script
 returns-then-is_script g c =

@@ -1,6 +1,6 @@
 use Rattle.std.proofs.Common.{◌==◌, arith, sym, eq-eqb, get_or, length}
 use Rattle.std.proofs.lemmas.List.Sums.{position_or_len_is}
-use Rattle.mx_cli.proofs.first_line.first_feed.Goals as goal
+use Rattle.mx_cli.proofs.planning.first_feed.Goals as goal
 
 pub returns-then-b-eq10-clause-value : goal.returns-then-b-eq10-clause-value
 returns-then-b-eq10-clause-value c =

@@ -1,7 +1,7 @@
 use Rattle.std.proofs.Common.{subst}
 use Rattle.mx_cli.specs.Reports.{seen}
 use Rattle.mx_cli.specs.Frames.{Files, Runs}
-use Rattle.mx_dispatch.proofs.forms.run_alone.Goals as goal
+use Rattle.mx_dispatch.proofs.dispatch.run_alone.Goals as goal
 
 pub returns : goal.returns
 returns g c =

@@ -1,7 +1,7 @@
 use Rattle.std.proofs.Common.{rules, arith, ◌≡◌, [], ℕ, IfOk, subst}
 use Rattle.mx_stamps.specs.Lists.{each_below}
 use Rattle.mx_member.specs.Steps.{start_of}
-use Rattle.mx_commands.proofs.runs.start.Goals as goal
+use Rattle.mx_commands.proofs.plan_cluster.start.Goals as goal
 
 pub start-requires : goal.start-requires
 start-requires g c = (search rules, (omega (arith, c.sections.ensures.low), (c.sections.ensures.high, (c.registers.ensures.low, c.registers.ensures.high))))

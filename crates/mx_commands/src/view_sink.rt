@@ -7,8 +7,7 @@ ghost use Rattle.mx_format.specs.Lines.{texts_from};
 ghost use Rattle.mx_commands.specs.Sinks.{same};
 ghost use Rattle.mx_commands.specs.Shown.{shown_closing, shown_entry, shown_owner, shown_parcel, step_text, view_texts, where_shown};
 
-use crate::runs::newest;
-use crate::sink::Sink;
+use crate::sink::{Sink, newest};
 use crate::verdicts::verdict_status;
 use crate::view::{View, owner_of};
 use mx_format::{EventLine, Letter, add_event_json, add_parcel_json, add_parcel_line};

@@ -2,7 +2,7 @@ use Rattle.mx_cli.proofs.FrameLemmas.{silent_prints}
 use Rattle.mx_commands.specs.Jobs.{run_by}
 use Rattle.mx_commands.specs.Sinks.{TextsBy, replay_lines, report_by}
 use Rattle.mx_commands.proofs.SinkLemmas.{end_alike}
-use Rattle.mx_commands.proofs.observation.observe.Goals as goal
+use Rattle.mx_commands.proofs.driver.observe.Goals as goal
 
 pub returns : goal.returns
 returns g c =

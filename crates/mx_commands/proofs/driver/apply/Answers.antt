@@ -2,7 +2,7 @@ use Rattle.std.proofs.Common.{◌∙◌, Err, ap, subst}
 use Rattle.mx_network.specs.Step.{IsFaultOf, step_of}
 use Rattle.mx_network.specs.declared.faults.StepFault.{StepFault}
 use Rattle.mx_commands.proofs.RunLemmas.{has_nodes, stops_without}
-use Rattle.mx_commands.proofs.runs.apply.Goals as goal
+use Rattle.mx_commands.proofs.driver.apply.Goals as goal
 
 pub unreachable-requires : goal.unreachable-requires
 unreachable-requires g c = has_nodes c.args.cluster.now c.args.event.now c.requires.named (c.advance.ensures.no_node.0 (c.in-Err-NoNode.is ∙ ap Err c.in-Err-NoNode.field-0-is))

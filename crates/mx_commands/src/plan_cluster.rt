@@ -1,4 +1,29 @@
-//! What is done with the cluster of a plan, whatever its algorithm.
+//! The cluster of a plan, at rest, whatever its algorithm.
+
+ghost use Rattle.std.specs.Prelude.{◌≡◌, IfOk};
+ghost use Rattle.mx_commands.specs.Runs.{at_rest};
+
+use mx_network::Cluster;
+use mx_nodelaws::Exclusion;
+use mx_plan::Plan;
+use std::alloc::{AllocError, Global};
+
+/// Creates the cluster of a plan, at rest. `shape` is that of the plan, for the algorithm `C`.
+pub fn start<C: Exclusion>(
+    alloc: Global,
+    plan: &Plan,
+    shape: &C::Shape,
+) -> Result<Cluster<C>, AllocError>
+    ensures { IfOk result (λ cluster. cluster ≡ at_rest C.core plan.now shape.now) }
+{
+    Cluster::start(
+        alloc,
+        shape,
+        plan.origin(),
+        plan.sections(),
+        plan.registers(),
+    )
+}
 
 /// Starts the cluster of a plan, by the plan's algorithm, and evaluates an expression on it, as in
 /// `by_shape!(alloc, plan, |cluster| run(alloc, plan, cluster, events, out))`. The expression is

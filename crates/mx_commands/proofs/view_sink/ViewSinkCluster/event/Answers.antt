@@ -1,6 +1,6 @@
 use Rattle.std.proofs.Common.{string_bytes}
 use Rattle.mx_commands.proofs.ShownLemmas.{newest_shown}
-use Rattle.mx_commands.proofs.lines.ViewSinkCluster.event.Goals as goal
+use Rattle.mx_commands.proofs.view_sink.ViewSinkCluster.event.Goals as goal
 
 pub returns-clause-text : goal.returns-clause-text
 returns-clause-text g c = λ old entry trace before.
