@@ -1,9 +1,9 @@
 -- The texts of events, one after another.
-use Rattle.std.proofs.Common.{◌≡◌, ◌∙◌, ℕ, zero, suc, ◌+◌, ◌<◌, ◌≤◌, Bool, true, false, List, [], ◌∷◌, ◌++◌, length, take, drop, get_or, slice_get, ap, ap₂, sym, refl, append_assoc, Result, Ok, Err, OnOk, Option, Some, None, subst, inl, inr, arith}
+use Rattle.std.proofs.Common.{◌≡◌, ◌∙◌, ℕ, zero, suc, ◌+◌, ◌<◌, ◌≤◌, Bool, true, false, List, [], ◌∷◌, ◌++◌, length, take, drop, get_or, slice_get, ap, sym, refl, append_assoc, Result, Ok, Err, Option, Some, None, subst, inl, inr, arith}
 use Rattle.std.specs.Bool.{⊤}
 use Rattle.std.specs.Io.KnownBytes.{Appends, Keeps}
 use Rattle.std.specs.List.{concat}
-use Rattle.std.proofs.lemmas.List.{at_drop_all, at_drop_more, drop_all, drop_at, drop_more, take_at, length-append}
+use Rattle.std.proofs.lemmas.List.{at_drop_all, at_drop_more, drop_all, drop_more, take_at, length-append}
 use Rattle.mx_stamps.proofs.Lists.{append_nil, length_set, length_each_below}
 use Rattle.mx_nodelaws.specs.World.{sent_by}
 use Rattle.mx_nodelaws.specs.Core.{Core}
@@ -23,10 +23,10 @@ use Rattle.mx_cli.specs.declared.stop.Stop.TheVariants as stop
 use Rattle.mx_cli.specs.declared.faults.Fault.TheVariants.{NoParcel}
 use Rattle.mx_io.specs.declared.output.OutputFault.{OutputFault}
 use Rattle.mx_io.specs.declared.output.OutputFault.TheVariants as output_fault
-use Rattle.mx_cli.proofs.OutputLemmas.{some_keeps}
+use Rattle.mx_cli.proofs.OutputLemmas.{appends_more, some_keeps}
 use Rattle.mx_commands.specs.Runs.{AllNameNodes, NamesNodes, StopsAt, Texts, after_texts, at_rest, report_from, stepped}
 use Rattle.mx_commands.specs.Sinks.{IsTold, Tells}
-use Rattle.mx_io.specs.Outputs.{Held, refused_by}
+use Rattle.mx_io.specs.Outputs.{refused_by}
 use Rattle.mx_cli.specs.Printing.{AppendsSome, Course, End, IsReport, Prints, Report, ShowsOne, Sight, comes_to, course_of, ends, has_fault, refused_on, stop_of, whole}
 
 -- ---- one event
@@ -81,7 +81,7 @@ has_newest xs front x is = omega (arith, simp length-append at (ap length is))
 
 -- ---- a run
 
-pub after_after : (a b : List Text) (r : Report) → after_texts a (after_texts b r) ≡ after_texts (a ++ b) r
+after_after : (a b : List Text) (r : Report) → after_texts a (after_texts b r) ≡ after_texts (a ++ b) r
 after_after a b r = ap (λ l. let q : Report = record { texts = l; end = r.end } in q) (sym (append_assoc a b r.texts))
 
 module _ {H S M : Type 0} (core : Core H S M) (texts : Texts S M) (es : List Event) where
@@ -108,14 +108,13 @@ module _ {H S M : Type 0} (core : Core H S M) (texts : Texts S M) (es : List Eve
 
 -- ---- what the driver has printed
 
--- the report is that of these texts and of what is left
-abbrev pub IsSoFar : Report → List Text → Report → Type 0
-IsSoFar r done more = r ≡ after_texts done more
-
--- these texts are some of the whole
-done_some : (a b : Held) (r more : Report) (done : List Text) → IsSoFar r done more → Appends a b (concat done) → AppendsSome a b r.texts
-done_some a b r more done e h =
-    (length done, subst (λ (l : List Text). Appends a b (concat l)) (sym (ap (λ (q : Report). take (length done) q.texts) e ∙ take_at done more.texts (length done) refl)) h)
+-- of a report, these texts were printed, and `more` is left
+pub record Printed (o m : Sight) (r more : Report) : Type 0 where
+  pub done : List Text
+  pub held : Appends o.held m.held (concat done)
+  pub splits : r ≡ after_texts done more
+  pub refused : m.refused ≡ o.refused
+  pub stays : m.takes_all ≡ o.takes_all
 
 is_false : (b : Bool) → (b ≡ true → ⊥) → b ≡ false
 is_false true h = absurd (h refl)
@@ -124,39 +123,56 @@ is_false false h = refl
 refused_not_memory : output_fault.Refused ≡ output_fault.Memory → ⊥
 refused_not_memory e = cc
 
-module _ (o m : Sight) (r : Report) (done : List Text) (printed : Appends o.held m.held (concat done)) (refused : m.refused ≡ o.refused) (stays : m.takes_all ≡ o.takes_all) where
-  -- a run that comes to its end
-  pub run_ends : (end : End) (res : Result ℕ Stop) → course_of res ≡ comes_to end → IsSoFar r done (ends end) → Prints (IsReport r) o m res
-  run_ends end res is so_far = record {
-    shows = subst (λ (c : Course). ShowsOne (IsReport r) o.takes_all o.held m.held c) (sym is) (inr (r, refl, (ap (λ (q : Report). q.end) so_far, subst (λ (l : List Text). Appends o.held m.held (concat l)) (sym (ap (λ (q : Report). q.texts) so_far ∙ append_nil done)) printed)));
-    refused = refused ∙ ap (λ (c : Course). refused_on c o.refused) (sym is);
-    stays = stays;
+module _ {o m : Sight} {r more : Report} (p : Printed o m r more) where
+  -- these texts are some of the whole
+  done_some : AppendsSome o.held m.held r.texts
+  done_some =
+      (length p.done, subst (λ (l : List Text). Appends o.held m.held (concat l)) (sym (ap (λ (q : Report). take (length p.done) q.texts) p.splits ∙ take_at p.done more.texts (length p.done) refl)) p.held)
+
+  -- one more text
+  pub run_goes_on : (n : Sight) (text : Text) (rest : Report) → Appends m.held n.held text → n.refused ≡ m.refused → n.takes_all ≡ m.takes_all → more ≡ after_texts (text ∷ []) rest → Printed o n r rest
+  run_goes_on n text rest put refused stays is = record {
+    done = p.done ++ text ∷ [];
+    held = appends_more o.held m.held n.held p.done text p.held put;
+    splits = p.splits ∙ ap (after_texts p.done) is ∙ after_after p.done (text ∷ []) rest;
+    refused = refused ∙ p.refused;
+    stays = stays ∙ p.stays;
   }
+
+  -- a run that comes to its end
+  pub run_ends : (end : End) (res : Result ℕ Stop) → course_of res ≡ comes_to end → more ≡ ends end → Prints (IsReport r) o m res
+  run_ends end res is ended =
+      let so_far : r ≡ after_texts p.done (ends end) = p.splits ∙ ap (after_texts p.done) ended in
+      record {
+        shows = subst (λ (c : Course). ShowsOne (IsReport r) o.takes_all o.held m.held c) (sym is)
+            (inr (r, refl, (ap (λ (q : Report). q.end) so_far, subst (λ (l : List Text). Appends o.held m.held (concat l)) (sym (ap (λ (q : Report). q.texts) so_far ∙ append_nil p.done)) p.held)));
+        refused = p.refused ∙ ap (λ (c : Course). refused_on c o.refused) (sym is);
+        stays = p.stays;
+      }
 
   -- a run that lacks memory
-  pub run_lacks : (more : Report) → IsSoFar r done more → Prints (IsReport r) o m (Err stop.Memory)
-  run_lacks more so_far = record { shows = inr (r, refl, done_some o.held m.held r more done so_far printed); refused = refused; stays = stays }
+  pub run_lacks : Prints (IsReport r) o m (Err stop.Memory)
+  run_lacks = record { shows = inr (r, refl, done_some); refused = p.refused; stays = p.stays }
 
   -- a run that stops at its output
-  pub run_refused : (n : Sight) (more : Report) (f : OutputFault) → IsSoFar r done more → Keeps m.held n.held → n.refused ≡ refused_by {T = ⊤} (Err f) m.refused → n.takes_all ≡ m.takes_all → (m.takes_all ≡ true → f ≡ output_fault.Memory)
+  pub run_refused : (n : Sight) (f : OutputFault) → Keeps m.held n.held → n.refused ≡ refused_by {T = ⊤} (Err f) m.refused → n.takes_all ≡ m.takes_all → (m.takes_all ≡ true → f ≡ output_fault.Memory)
       → Prints (IsReport r) o n (Err (stop_of f))
-  run_refused n more output_fault.Refused so_far keeps answered same takes = record {
-    shows = inr (r, refl, (sym stays ∙ is_false m.takes_all (λ e. refused_not_memory (takes e)), some_keeps o.held m.held n.held r.texts (done_some o.held m.held r more done so_far printed) keeps));
+  run_refused n output_fault.Refused keeps answered same takes = record {
+    shows = inr (r, refl, (sym p.stays ∙ is_false m.takes_all (λ e. refused_not_memory (takes e)), some_keeps o.held m.held n.held r.texts done_some keeps));
     refused = answered;
-    stays = same ∙ stays;
+    stays = same ∙ p.stays;
   }
-  run_refused n more output_fault.Memory so_far keeps answered same takes = record {
-    shows = inr (r, refl, some_keeps o.held m.held n.held r.texts (done_some o.held m.held r more done so_far printed) keeps);
-    refused = answered ∙ refused;
-    stays = same ∙ stays;
+  run_refused n output_fault.Memory keeps answered same takes = record {
+    shows = inr (r, refl, some_keeps o.held m.held n.held r.texts done_some keeps);
+    refused = answered ∙ p.refused;
+    stays = same ∙ p.stays;
   }
 
-  -- a run that stops at an event
-  pub run_stops : {H S M : Type 0} (core : Core H S M) (texts : Texts S M) (es : List Event) (k : ℕ) (g : ClusterState S M) (d : Event) (s : Stop) → k < length es → IsSoFar r done (remaining core texts es k g)
-      → StopsAt k (step_of core g (get_or es k d)) s → Prints (IsReport r) o m (Err s)
-  run_stops core texts es k g d s lt so_far (inl memory) = rw memory (run_lacks (remaining core texts es k g) so_far)
-  run_stops core texts es k g d s lt so_far (inr none) =
-      rw none.0 (run_ends (has_fault (NoParcel k)) (Err (stop.Fault (NoParcel k))) refl (so_far ∙ ap (after_texts done) (remaining_err core texts es k g step_fault.NoParcel d lt none.1)))
+-- a run that stops at an event
+pub run_stops : {H S M : Type 0} (core : Core H S M) (texts : Texts S M) (es : List Event) (k : ℕ) (g : ClusterState S M) (o m : Sight) (r : Report) → Printed o m r (remaining core texts es k g)
+    → (d : Event) (s : Stop) → k < length es → StopsAt k (step_of core g (get_or es k d)) s → Prints (IsReport r) o m (Err s)
+run_stops core texts es k g o m r p d s lt (inl memory) = rw memory (run_lacks p)
+run_stops core texts es k g o m r p d s lt (inr none) = rw none.0 (run_ends p (has_fault (NoParcel k)) (Err (stop.Fault (NoParcel k))) refl (remaining_err core texts es k g step_fault.NoParcel d lt none.1))
 
 -- a cluster at rest has the members of its shape
 pub members_at_rest : {H S M : Type 0} (core : Core H S M) (p : Fields) (shape : H) (n : ℕ) (g : ClusterState S M) → g ≡ at_rest core p shape → core.count shape ≡ n → length g.members ≡ n

@@ -4,21 +4,19 @@ use Rattle.mx_network.specs.Step.{step_of}
 use Rattle.mx_events.specs.declared.event.Event.{Event}
 use Rattle.mx_plan.specs.Text.{Text}
 use Rattle.mx_plan.specs.Fields.{Fields}
-use Rattle.mx_commands.specs.Runs.{NamesNodes, StopsAt, Texts, after_texts, report_from}
+use Rattle.mx_commands.specs.Runs.{NamesNodes, StopsAt, Texts, report_from}
 use Rattle.mx_cli.specs.Printing.{comes_to, ends, has_status, sight, stop_of}
 use Rattle.mx_cli.specs.declared.stop.Stop.TheVariants as stop
-use Rattle.mx_cli.proofs.OutputLemmas.{Appends-nil, appends_more}
+use Rattle.mx_cli.proofs.OutputLemmas.{Appends-nil}
 use Rattle.mx_cli.proofs.ReadLemmas.{err_is}
-use Rattle.mx_commands.proofs.RunLemmas.{after_after, grows, named_at, remaining, remaining_end, remaining_ok, run_ends, run_lacks, run_refused, run_stops, told_end, told_more}
+use Rattle.mx_commands.proofs.RunLemmas.{grows, named_at, remaining, remaining_end, remaining_ok, run_ends, run_goes_on, run_lacks, run_refused, run_stops, told_end, told_more}
 use Rattle.mx_commands.proofs.driver.drive_events.Goals as goal
 
 pub loop-index-init : goal.loop-index-init
 loop-index-init g c = record {
-  stays = refl;
-  refused = refl;
   sink = refl;
   members = c.requires.members;
-  written = ([], Appends-nil (g.O.Output.written c.args.out.now), refl);
+  printed = record { done = []; held = Appends-nil (g.O.Output.written c.args.out.now); splits = refl; refused = refl; stays = refl };
   told = λ last told. told;
 }
 
@@ -33,54 +31,33 @@ drive_event-requires g c =
 
 pub returns-in_err-drive_event : goal.returns-in_err-drive_event
 returns-in_err-drive_event g c =
-    let i = c.loop-index.invariant in
     let core = g.C.Exclusion.core in
     let texts = g.K.Sink.texts c.args.sink.now c.args.plan.now in
     let es = c.args.events.now in
     let k = c.loop-index.index in
-    let o = sight g.O.Output c.args.out.now in
-    let m = sight g.O.Output c.loop-index.out in
     let r = report_from core texts 0 c.args.cluster es in
     let s = c.in_err-drive_event.field-0.0 in
     let at_event = subst (λ (x : Event). StopsAt k (step_of core c.loop-index.cluster x) s) c.index-events-index.is c.in_err-drive_event.ensures.err in
     let is : c.from_residual.result ≡ Err s = err_is c.from_residual.result s c.from_residual.ensures.1 in
-    record { prints = rw is (run_stops o m r i.written.0 i.written.1 i.refused i.stays core texts es k c.loop-index.cluster c.index-events-index.result s c.loop-index-test.true i.written.2 at_event); told = rw is tt }
+    record {
+      prints = rw is (run_stops core texts es k c.loop-index.cluster (sight g.O.Output c.args.out.now) (sight g.O.Output c.loop-index.out) r c.loop-index.invariant.printed
+          c.index-events-index.result s c.loop-index-test.true at_event);
+      told = rw is tt;
+    }
 
 pub returns-in_err-put : goal.returns-in_err-put
 returns-in_err-put g c =
-    let i = c.loop-index.invariant in
-    let core = g.C.Exclusion.core in
-    let texts = g.K.Sink.texts c.args.sink.now c.args.plan.now in
-    let es = c.args.events.now in
-    let k = c.loop-index.index in
-    let o = sight g.O.Output c.args.out.now in
-    let m = sight g.O.Output c.loop-index.out in
-    let r = report_from core texts 0 c.args.cluster es in
     let f = c.in_err-put.field-0.0 in
     let put = c.in_err-put.ensures in
     let is : c.from_residual-in_err-put.result ≡ Err (stop_of f) = err_is c.from_residual-in_err-put.result (stop_of f) c.from_residual-in_err-put.ensures.1 in
-    record {
-      prints = rw is (run_refused o m r i.written.0 i.written.1 i.refused i.stays (sight g.O.Output c.put.new.self) (remaining core texts es k c.loop-index.cluster) f i.written.2 put.err put.refused put.stays put.takes);
-      told = rw is tt;
-    }
+    record { prints = rw is (run_refused c.loop-index.invariant.printed (sight g.O.Output c.put.new.self) f put.err put.refused put.stays put.takes); told = rw is tt }
 
 pub returns-in_err-put-2 : goal.returns-in_err-put-2
 returns-in_err-put-2 g c =
-    let i = c.loop-index.invariant in
-    let core = g.C.Exclusion.core in
-    let texts = g.K.Sink.texts c.args.sink.now c.args.plan.now in
-    let es = c.args.events.now in
-    let k = c.loop-index.index in
-    let o = sight g.O.Output c.args.out.now in
-    let m = sight g.O.Output c.loop-index.out in
-    let r = report_from core texts 0 c.args.cluster es in
     let f = c.in_err-put-2.field-0.0 in
     let put = c.in_err-put-2.ensures in
     let is : c.from_residual-in_err-put-2.result ≡ Err (stop_of f) = err_is c.from_residual-in_err-put-2.result (stop_of f) c.from_residual-in_err-put-2.ensures.1 in
-    record {
-      prints = rw is (run_refused o m r i.written.0 i.written.1 i.refused i.stays (sight g.O.Output c.put-2.new.self) (remaining core texts es k c.loop-index.cluster) f i.written.2 put.err put.refused put.stays put.takes);
-      told = rw is tt;
-    }
+    record { prints = rw is (run_refused c.loop-index.invariant.printed (sight g.O.Output c.put-2.new.self) f put.err put.refused put.stays put.takes); told = rw is tt }
 
 pub loop-index-preserved : goal.loop-index-preserved
 loop-index-preserved g c =
@@ -96,18 +73,13 @@ loop-index-preserved g c =
     let text : Text = texts.event k old new in
     let bytes : c.as_bytes.result.now ≡ text = c.as_bytes.ensures.value ∙ c.in_ok-drive_event.ensures.text
     ∙ ap (λ (x : Fields → Texts g.row.C.Denot g.row.C-Msg.Denot). (x p).event k old new) i.sink in
-    let put = subst (λ (l : List ℕ). Appends (g.O.Output.written c.loop-index.out) (g.O.Output.written c.put.new.self) l) bytes c.in_ok-put.ensures.ok in
+    let put = c.in_ok-put.ensures in
+    let appended = subst (λ (l : List ℕ). Appends (g.O.Output.written c.loop-index.out) (g.O.Output.written c.put.new.self) l) bytes put.ok in
     let stepped = ap (step_of core old) (sym c.index-events-index.is) ∙ c.in_ok-drive_event.ensures.ok in
     record {
-      stays = c.in_ok-put.ensures.stays ∙ i.stays;
-      refused = c.in_ok-put.ensures.refused ∙ i.refused;
       sink = c.in_ok-drive_event.ensures.stays ∙ i.sink;
       members = (grows core old new event c.in_ok-drive_event.ensures.ok).0 ∙ i.members;
-      written = (
-        i.written.0 ++ text ∷ [],
-        appends_more (g.O.Output.written c.args.out.now) (g.O.Output.written c.loop-index.out) (g.O.Output.written c.put.new.self) i.written.0 text i.written.1 put,
-        i.written.2 ∙ ap (after_texts i.written.0) (remaining_ok core texts es k old new event c.loop-index-test.true stepped) ∙ after_after i.written.0 (text ∷ []) (remaining core texts es (k + 1) new),
-      );
+      printed = run_goes_on i.printed (sight g.O.Output c.put.new.self) text (remaining core texts es (k + 1) new) appended put.refused put.stays (remaining_ok core texts es k old new event c.loop-index-test.true stepped);
       told = λ last rest. i.told last (told_more core (g.K.Sink.tells p) es k old c.loop-index.sink last event c.loop-index-test.true (new, stepped, c.drive_event.new.sink, c.in_ok-drive_event.ensures.heard, rest));
     }
 
@@ -116,39 +88,25 @@ end-requires g c = record { members = c.loop-index.invariant.members }
 
 pub returns-in_err-status : goal.returns-in_err-status
 returns-in_err-status g c =
-    let i = c.loop-index.invariant in
-    let core = g.C.Exclusion.core in
-    let texts = g.K.Sink.texts c.args.sink.now c.args.plan.now in
-    let es = c.args.events.now in
-    let k = c.loop-index.index in
-    let o = sight g.O.Output c.args.out.now in
-    let m = sight g.O.Output c.loop-index.out in
-    let r = report_from core texts 0 c.args.cluster es in
     let is : c.from_residual-in_err-status.result ≡ Err stop.Memory = err_is c.from_residual-in_err-status.result stop.Memory c.from_residual-in_err-status.ensures.1 in
-    record { prints = rw is (run_lacks o m r i.written.0 i.written.1 i.refused i.stays (remaining core texts es k c.loop-index.cluster) i.written.2); told = rw is tt }
+    record { prints = rw is (run_lacks c.loop-index.invariant.printed); told = rw is tt }
 
 pub returns : goal.returns
 returns g c =
     let i = c.loop-index.invariant in
     let core = g.C.Exclusion.core in
-    let texts = g.K.Sink.texts c.args.sink.now c.args.plan.now in
+    let p = c.args.plan.now in
+    let texts = g.K.Sink.texts c.args.sink.now p in
     let es = c.args.events.now in
     let k = c.loop-index.index in
-    let o = sight g.O.Output c.args.out.now in
-    let m = sight g.O.Output c.loop-index.out in
-    let r = report_from core texts 0 c.args.cluster es in
-    let p = c.args.plan.now in
-    let n = sight g.O.Output c.put-2.new.self in
     let put = c.in_ok-put-2.ensures in
     let text : Text = texts.closing c.loop-index.cluster in
     let bytes : c.as_bytes-2.result.now ≡ text = c.as_bytes-2.ensures.value ∙ c.in_ok-status.ensures.text
     ∙ ap (λ (x : Fields → Texts g.row.C.Denot g.row.C-Msg.Denot). string_bytes c.clear-2.new.self ++ (x p).closing c.loop-index.cluster) i.sink
     ∙ ap (λ (l : Text). l ++ text) c.clear-2.ensures.bytes in
-    let appended = subst (λ (l : List ℕ). Appends m.held n.held l) bytes put.ok in
-    let so_far = i.written.2 ∙ ap (after_texts i.written.0) (remaining_end core texts es k c.loop-index.cluster c.loop-index-test.false)
-    ∙ after_after i.written.0 (text ∷ []) (ends (has_status 0)) in
+    let appended = subst (λ (l : List ℕ). Appends (g.O.Output.written c.loop-index.out) (g.O.Output.written c.put-2.new.self) l) bytes put.ok in
+    let printed = run_goes_on i.printed (sight g.O.Output c.put-2.new.self) text (ends (has_status 0)) appended put.refused put.stays (remaining_end core texts es k c.loop-index.cluster c.loop-index-test.false) in
     record {
-      prints = run_ends o n r (i.written.0 ++ text ∷ []) (appends_more o.held m.held n.held i.written.0 text i.written.1 appended) (put.refused ∙ i.refused) (put.stays ∙ i.stays) (has_status 0) _
-          (ap (λ (status : ℕ). comes_to (has_status status)) c.in_ok-status.ensures.zero) so_far;
+      prints = run_ends printed (has_status 0) _ (ap (λ (status : ℕ). comes_to (has_status status)) c.in_ok-status.ensures.zero) refl;
       told = i.told c.end.new.self (told_end core (g.K.Sink.tells p) es k c.loop-index.cluster c.loop-index.sink c.end.new.self c.loop-index-test.false c.in_ok-status.ensures.closed);
     }
