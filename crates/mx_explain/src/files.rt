@@ -64,6 +64,8 @@ fn explanation<S: Source>(
     report.into_text(is_well)
 }
 
+/// Explains a plan, and what comes with it, if that is named: another file, or what stands below
+/// the first line of standard input, which then is the plan.
 fn explain_files<S: Source>(
     report: &mut Report,
     asked: &Asked<'_>,
@@ -71,43 +73,18 @@ fn explain_files<S: Source>(
     source: &mut S,
 ) -> ReportResult {
     let names = asked.names();
-    match fetched(report, names.plan, source)? {
-        Some(text) if are_dashes(&names) && asked.second.is_some() => {
-            explain_one(report, asked, notes, text.as_slice())
-        }
-        Some(text) => {
-            let part = Part::of(names.plan, text.as_slice(), 0);
-            explain_each(report, asked, notes, part, source)
-        }
-        None => Ok(()),
-    }
-}
-
-/// Explains a text whose first line is the plan, and whose rest is what comes with it.
-fn explain_one(report: &mut Report, asked: &Asked<'_>, notes: &Notes, text: &[u8]) -> ReportResult {
-    let names = asked.names();
-    let (line, rest) = split_line(text);
-    match explain_plan(report, Part::of(names.plan, line, 0))? {
-        Some(plan) => {
+    let Some(text) = fetched(report, names.plan, source)? else {
+        return Ok(());
+    };
+    let is_one = are_dashes(&names) && asked.second.is_some();
+    let (line, rest) = split_line(text.as_slice());
+    let plan = if is_one { line } else { text.as_slice() };
+    match explain_plan(report, Part::of(names.plan, plan, 0))? {
+        Some(plan) if is_one => {
             let part = Part::of(names.events, rest, 1);
             explain_second(report, asked, notes, &plan, part)
         }
-        None => Ok(()),
-    }
-}
-
-/// Explains a plan, and the file that comes with it, if one is named.
-fn explain_each<S: Source>(
-    report: &mut Report,
-    asked: &Asked<'_>,
-    notes: &Notes,
-    part: Part<'_>,
-    source: &mut S,
-) -> ReportResult {
-    match explain_plan(report, part)? {
-        Some(plan) if asked.second.is_some() => {
-            explain_file(report, asked, notes, &plan, source)
-        }
+        Some(plan) if asked.second.is_some() => explain_file(report, asked, notes, &plan, source),
         _ => Ok(()),
     }
 }
@@ -119,10 +96,10 @@ fn explain_file<S: Source>(
     plan: &Plan,
     source: &mut S,
 ) -> ReportResult {
-    let names = asked.names();
-    match fetched(report, names.events, source)? {
+    let name = asked.names().events;
+    match fetched(report, name, source)? {
         Some(text) => {
-            let part = Part::of(names.events, text.as_slice(), 0);
+            let part = Part::of(name, text.as_slice(), 0);
             explain_second(report, asked, notes, plan, part)
         }
         None => Ok(()),
