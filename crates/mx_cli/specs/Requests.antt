@@ -10,8 +10,8 @@ use Rattle.mx_cli.specs.Words.{asked_of, is_given, names_of, number_at}
 use Rattle.mx_cli.specs.declared.request.Conditions.{Conditions}
 use Rattle.mx_cli.specs.declared.request.LiveRequest.{LiveRequest as GivenLive}
 use Rattle.mx_cli.specs.declared.request.Misfit.{Misfit}
-use Rattle.mx_cli.specs.declared.request.Misfit.TheVariants.{DrawWithoutWalk, ExploreWithoutWalk, WalkWithCount, WalkWithJson}
-use Rattle.mx_cli.specs.declared.request.PictureOptions.{PictureOptions}
+use Rattle.mx_cli.specs.declared.request.Misfit.TheVariants.{DrawWithoutWalk, ExploreWithoutWalk, TraceWithLetters, TraceWithScript, WalkWithCount, WalkWithJson}
+use Rattle.mx_cli.specs.declared.request.PicturePart.{PicturePart}
 use Rattle.mx_cli.specs.declared.request.RandomRun.{RandomRun}
 use Rattle.mx_cli.specs.declared.request.ViewOptions.{ViewOptions}
 use Rattle.mx_cli.specs.declared.request.Request.{Request as Given}
@@ -24,12 +24,11 @@ pub record View : Type 0 where
   pub is_json : Bool
   pub has_state : Bool
 
--- the part of a run that a picture shows
+-- the events that a picture shows: from an index to an index, of all nodes or of the named one
 pub record Part : Type 0 where
   pub from : ℕ
   pub to : ℕ
   pub node : Option Text
-  pub only_letters : Bool
 
 -- the name of the plan, how many sections each node enters, the seed, how many turns each may
 -- take, after how many of its sections it settles its journal (0 for never), and whether progress
@@ -52,7 +51,8 @@ pub data Request : Type 0 where
   draw : Text → RandomRun → Request
   script : Text × Text → Request
   play : Text → Option Text → Request
-  picture : Text × Text → Part → Bool → Request
+  picture : Text × Text → Part → Bool → Bool → Request
+  picture_trace : Text × Text → Part → Request
   count : Text × Text → Bool → Bool → Request
   judge : Text × Text → Bool → Request
   explain : Text → Option Text → Bool → Request
@@ -70,9 +70,8 @@ view_of v =
       has_state = v.has_state;
     }
 
-abbrev pub part_of : PictureOptions → Part
-part_of o =
-    record { from = o.from; to = o.to; node = text_of o.node; only_letters = o.only_letters }
+abbrev pub part_of : PicturePart → Part
+part_of part = record { from = part.from; to = part.to; node = text_of part.node }
 
 abbrev pub live_request_of : GivenLive → LiveRequest
 live_request_of run =
@@ -93,7 +92,9 @@ request_of (given.Live run) = live (live_request_of run)
 request_of (given.Draw plan run) = draw plan.now run
 request_of (given.Script names) = script (names_of names)
 request_of (given.Play plan first) = play plan.now (text_of first)
-request_of (given.Picture names part is_script) = picture (names_of names) (part_of part) is_script
+request_of (given.Picture names part only_letters is_script) =
+    picture (names_of names) (part_of part) only_letters is_script
+request_of (given.PictureTrace names part) = picture_trace (names_of names) (part_of part)
 request_of (given.Count names is_json is_script) = count (names_of names) is_json is_script
 request_of (given.Judge names is_json) = judge (names_of names) is_json
 request_of (given.Explain plan second is_script) = explain plan.now (text_of second) is_script
@@ -223,13 +224,23 @@ part_in rows =
       from = number_or (codes "from") 0 rows;
       to = number_or (codes "to") 18446744073709551615 rows;
       node = first_of (codes "node") rows;
-      only_letters = is_given (codes "letters") rows;
     }
 
+-- `picture` with `--trace`, which goes neither with `--letters` nor with `--script`
+abbrev pub picture_trace_in : List Row → Text × Text → Request
+picture_trace_in rows names =
+    if is_given (codes "letters") rows then misfit TraceWithLetters
+    else if is_given (codes "script") rows then misfit TraceWithScript
+    else picture_trace names (part_in rows)
+
+abbrev pub picturing : List Row → Text × Text → Request
+picturing rows names =
+    if is_given (codes "trace") rows then picture_trace_in rows names
+    else picture names (part_in rows) (is_given (codes "letters") rows)
+    (is_given (codes "script") rows)
+
 abbrev pub picture_in : List Row → Option Request
-picture_in rows =
-    option_map (λ names. picture names (part_in rows) (is_given (codes "script") rows))
-    (names_in (codes "EVENTS") rows)
+picture_in rows = option_map (picturing rows) (names_in (codes "EVENTS") rows)
 
 -- `count`
 abbrev pub count_in : List Row → Option Request

@@ -128,12 +128,14 @@ script_app = app_with (codes "script") (plan_rule ∷ file_rule (codes "SCRIPT")
 abbrev pub play_app : App
 play_app = app_with (codes "play") (plan_rule ∷ new_rule (codes "SCRIPT") ∷ [])
 
--- `picture PLAN EVENTS`, and perhaps `--from K`, `--to K`, `--node NAME`, `--letters` and `--script`
+-- `picture PLAN EVENTS`, and perhaps `--from K`, `--to K`, `--node NAME`, `--letters`, `--script`
+-- and `--trace`
 abbrev pub picture_app : App
 picture_app =
     app_with (codes "picture")
     (plan_rule ∷ events_rule ∷ wide_rule (codes "from") ∷ wide_rule (codes "to")
-    ∷ text_rule (codes "node") ∷ flag_rule (codes "letters") ∷ flag_rule (codes "script") ∷ [])
+    ∷ text_rule (codes "node") ∷ flag_rule (codes "letters") ∷ flag_rule (codes "script")
+    ∷ flag_rule (codes "trace") ∷ [])
 
 -- `count PLAN EVENTS`, and perhaps `--json` and `--script`
 abbrev pub count_app : App

@@ -236,6 +236,14 @@ pub(crate) const IS_SCRIPT: Argument = Argument {
     help: "Reads a script, as `mx script` does, in place of events",
 };
 
+/// That a trace comes in place of events.
+pub(crate) const IS_TRACE: Argument = Argument {
+    name: "trace",
+    kind: ArgumentKind::Flag,
+    is_required: false,
+    help: "Reads a trace, as `mx judge` does, in place of events",
+};
+
 pub(crate) fn clap_argument<'a>(alloc: Global, argument: &Argument) -> Arg<'a>
     ensures { IsArgument (rule_of_argument argument.now) result }
 {

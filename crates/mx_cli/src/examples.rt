@@ -82,6 +82,7 @@ pub(crate) const PICTURE: &str = "Example: the events of one section, in a clust
                 [\"enter\",\"a\"],[\"leave\",\"a\"]]
 
   mx picture plan.json events.json > picture.svg
+  mx picture --trace plan.json trace.json > picture.svg
 
 Each node has a line, and each event a row with its index at the left and what came of it beside
 its node. A parcel is an arrow from the event that sent it to its delivery, with its number and
@@ -90,7 +91,13 @@ dashed where it was delivered before. Those of an event that are never delivered
 below it: a ring marks those under way at the end, and a cross those that a later parcel from the
 same node to the same overtook. A blue bar stands where a node waits, and a yellow box where it is
 inside, with the number of the section. `mx replay --help` tells what events are, and its faults
-are those of `picture`; docs/FORMATS.md has all formats.";
+are those of `picture`.
+
+With --trace a trace comes in place of events, as `mx judge` reads it; it has no parcels, so there
+are no arrows. If it is broken, an orange triangle points to the event that breaks a rule, and the
+row below says which rule and why. The faults of a trace and the status are those of `mx judge`:
+0 if the trace is sound, and 4 if it is broken. --letters and --script do not go with --trace.
+docs/FORMATS.md has all formats.";
 
 pub(crate) const COUNT: &str =
     "Example: what the events of one section cost, in a cluster of three nodes.

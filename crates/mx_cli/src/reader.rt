@@ -8,7 +8,7 @@ ghost use Rattle.mx_cli.specs.Requests as spec;
 
 use crate::line::{matches_of, whole_line};
 use crate::request::{
-    Conditions, LiveRequest, Misfit, Names, PictureOptions, RandomRun, Request, ViewOptions,
+    Conditions, LiveRequest, Misfit, Names, PicturePart, RandomRun, Request, ViewOptions,
 };
 use clap::{ArgMatches, Error};
 use std::alloc::Global;
@@ -210,17 +210,39 @@ fn picture_in<'a>(matches: &ArgMatches<'a>) -> Option<Request<'a>>
     ensures { option_map spec.request_of result ≡ spec.picture_in (rows_of (found_of matches.now)) }
 {
     let names = names_in(matches, "EVENTS")?;
-    let part = PictureOptions {
+    if is_given(matches, "trace") {
+        return Some(picture_trace_in(matches, names));
+    }
+    Some(Request::Picture {
+        names,
+        part: part_in(matches),
+        only_letters: is_given(matches, "letters"),
+        is_script: is_given(matches, "script"),
+    })
+}
+
+fn picture_trace_in<'a>(matches: &ArgMatches<'a>, names: Names<'a>) -> Request<'a>
+    ensures { spec.request_of result
+        ≡ spec.picture_trace_in (rows_of (found_of matches.now)) (names_of names.entry) }
+{
+    if is_given(matches, "letters") {
+        return Request::Misfit(Misfit::TraceWithLetters);
+    }
+    if is_given(matches, "script") {
+        return Request::Misfit(Misfit::TraceWithScript);
+    }
+    Request::PictureTrace(names, part_in(matches))
+}
+
+/// Returns the part that the arguments of a picture give: all events, without such arguments.
+fn part_in<'a>(matches: &ArgMatches<'a>) -> PicturePart<'a>
+    ensures { spec.part_of result ≡ spec.part_in (rows_of (found_of matches.now)) }
+{
+    PicturePart {
         from: number_or(matches, "from", 0),
         to: number_or(matches, "to", u64::MAX),
         node: text_at(matches, "node"),
-        only_letters: is_given(matches, "letters"),
-    };
-    Some(Request::Picture {
-        names,
-        part,
-        is_script: is_given(matches, "script"),
-    })
+    }
 }
 
 fn count_in<'a>(matches: &ArgMatches<'a>) -> Option<Request<'a>>

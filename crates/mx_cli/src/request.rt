@@ -41,14 +41,13 @@ pub struct ViewOptions<'a> {
     pub has_state: bool,
 }
 
-/// The part of a run that a picture shows.
+/// The events that a picture shows: from an index to an index, which is included, and of all nodes
+/// or of the named one.
 #[derive(Clone, Copy)]
-pub struct PictureOptions<'a> {
-    /// The first index and the last one of the events.
+pub struct PicturePart<'a> {
     pub from: u64,
     pub to: u64,
     pub node: Option<&'a str>,
-    pub only_letters: bool,
 }
 
 /// What `live` is to run: the name of a plan, how many sections each node enters, the seed of
@@ -75,24 +74,34 @@ pub enum Misfit {
     WalkWithCount,
     /// `explore` with `--walk` and `--json`.
     WalkWithJson,
+    /// `picture` with `--trace` and `--letters`.
+    TraceWithLetters,
+    /// `picture` with `--trace` and `--script`.
+    TraceWithScript,
 }
 
 const LACKS_WALK: &str = "error: the following required arguments were not provided:\n  --walk";
 
+const DRAW_USAGE: &str = "draw --seed <seed> --steps <steps> --walk <PLAN>";
+
+const EXPLORE_USAGE: &str = "explore --seed <seed> --steps <steps> --walk <PLAN>";
+
+const TRACE_USAGE: &str = "picture --trace <PLAN> <EVENTS>";
+
 /// The message, in the form of those of `clap`.
 impl fmt::Display for Misfit {
     fn fmt<W: fmt::Write>(&self, f: &mut fmt::Formatter<W>) -> fmt::Result {
-        let (error, command) = match self {
-            Misfit::DrawWithoutWalk => (LACKS_WALK, "draw"),
-            Misfit::ExploreWithoutWalk => (LACKS_WALK, "explore"),
-            Misfit::WalkWithCount => ("error: unexpected argument '--count' found", "explore"),
-            Misfit::WalkWithJson => ("error: unexpected argument '--json' found", "explore"),
+        let (error, usage) = match self {
+            Misfit::DrawWithoutWalk => (LACKS_WALK, DRAW_USAGE),
+            Misfit::ExploreWithoutWalk => (LACKS_WALK, EXPLORE_USAGE),
+            Misfit::WalkWithCount => ("error: unexpected argument '--count' found", EXPLORE_USAGE),
+            Misfit::WalkWithJson => ("error: unexpected argument '--json' found", EXPLORE_USAGE),
+            Misfit::TraceWithLetters => {
+                ("error: unexpected argument '--letters' found", TRACE_USAGE)
+            }
+            Misfit::TraceWithScript => ("error: unexpected argument '--script' found", TRACE_USAGE),
         };
-        writeln!(f, "{error}\n")?;
-        writeln!(
-            f,
-            "Usage: mx {command} --seed <seed> --steps <steps> --walk <PLAN>\n"
-        )?;
+        writeln!(f, "{error}\n\nUsage: mx {usage}\n")?;
         writeln!(f, "For more information, try '--help'.")
     }
 }
@@ -130,9 +139,13 @@ pub enum Request<'a> {
     },
     Picture {
         names: Names<'a>,
-        part: PictureOptions<'a>,
+        part: PicturePart<'a>,
+        /// Whether only letters are shown.
+        only_letters: bool,
         is_script: bool,
     },
+    /// `picture` with `--trace`. The second name is that of the trace.
+    PictureTrace(Names<'a>, PicturePart<'a>),
     Count {
         names: Names<'a>,
         is_json: bool,

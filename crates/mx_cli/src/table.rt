@@ -5,8 +5,8 @@ ghost use Rattle.mx_cli.specs.Table.{app_of_row, command_app};
 
 use crate::arguments::{
     ASKS, Argument, COUNT_TOO, EVENTS, EVENTS_OR_SCRIPT, FIRST_SCRIPT, FROM, IN_ORDER, IS_SCRIPT,
-    JSON, LETTERS, LINK_SEED, LOSS, NODE, PICTURE_NODE, PLAN, PROGRESS, QUIET, REPEAT, SCRIPT,
-    SECTIONS, SEED, SETTLE, STATE, STEPS, TO, TRACE, TURNS, WALK,
+    IS_TRACE, JSON, LETTERS, LINK_SEED, LOSS, NODE, PICTURE_NODE, PLAN, PROGRESS, QUIET, REPEAT,
+    SCRIPT, SECTIONS, SEED, SETTLE, STATE, STEPS, TO, TRACE, TURNS, WALK,
 };
 use crate::{examples, help};
 
@@ -110,8 +110,17 @@ static PLAY: CommandRow = CommandRow {
 
 static PICTURE: CommandRow = CommandRow {
     name: "picture",
-    about: "Draws a run as an SVG, in which time runs downward",
-    arguments: &[PLAN, EVENTS, FROM, TO, PICTURE_NODE, LETTERS, IS_SCRIPT],
+    about: "Draws a run or a trace as an SVG, in which time runs downward",
+    arguments: &[
+        PLAN,
+        EVENTS,
+        FROM,
+        TO,
+        PICTURE_NODE,
+        LETTERS,
+        IS_SCRIPT,
+        IS_TRACE,
+    ],
     example: examples::PICTURE,
     is_explained: true,
 };

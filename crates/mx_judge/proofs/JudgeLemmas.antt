@@ -11,10 +11,10 @@ use Rattle.mx_cli.specs.declared.stop.Stop.{Stop}
 use Rattle.mx_cli.specs.declared.stop.Stop.TheVariants as stop
 use Rattle.mx_cli.proofs.FrameLemmas.{line_prints, memory_prints}
 use Rattle.mx_judge.specs.Faults.{trace_line}
-use Rattle.mx_judge.specs.Judged.{IsJudged, IsJudgement, place_word}
+use Rattle.mx_judge.specs.Judged.{IsJudged, IsJudgement}
 use Rattle.mx_judge.specs.Listed.{Listed}
 use Rattle.mx_judge.specs.Reasons.{reason_at, reason_of}
-use Rattle.mx_judge.specs.Traces.{trace_at}
+use Rattle.mx_judge.specs.Traces.{Reads, place_word, trace_at}
 use Rattle.mx_judge.specs.declared.faults.TraceFault.{TraceFault}
 use Rattle.mx_judge.specs.declared.faults.TraceFault.TheVariants as fault
 
@@ -40,10 +40,18 @@ module _ (j : Bool) (p : Fields) (text : Text) where
   judged_read word t read same r h =
       subst (λ (x : Result Listed TraceFault). IsJudged j p (place_word text) x r) (sym read) (subst (λ (w : Text). IsJudged j p w (Ok t) r) same h)
 
-  -- a text that lists no trace
-  pub stops : (bad : TraceFault) (o : Sight) (s : Stop) → (trace_at p text ≡ Err bad) ⊎ (bad ≡ fault.Memory) → IsStopWith (trace_line bad) s → (bad ≡ fault.Memory → s ≡ stop.Memory)
-      → Prints (IsJudgement j p text) o o (Err s)
-  stops bad o s (inl read) line memory =
-      line_prints (IsJudgement j p text) (trace_line bad) o s
-      (subst (λ (t : Result Listed TraceFault). IsJudged j p (place_word text) t (ends (has_line (trace_line bad)))) (sym read) refl) line
-  stops bad o s (inr out) line memory = rw (memory out) (memory_prints (IsJudgement j p text) o)
+  -- a report on a text that lists no trace
+  pub judged_fault : (bad : TraceFault) → trace_at p text ≡ Err bad → IsJudgement j p text (ends (has_line (trace_line bad)))
+  judged_fault bad read = subst (λ (t : Result Listed TraceFault). IsJudged j p (place_word text) t (ends (has_line (trace_line bad)))) (sym read) refl
+
+-- a trace is wanted that has a fault, or memory ran out
+pub fault_read : (wanted : Result Listed TraceFault) (bad : TraceFault) (s : Stop) → (wanted ≡ Err bad) ⊎ (bad ≡ fault.Memory) → IsStopWith (trace_line bad) s → (bad ≡ fault.Memory → s ≡ stop.Memory)
+    → Reads wanted (Err s)
+fault_read wanted bad s (inl read) line memory = inl (bad, read, line)
+fault_read wanted bad s (inr out) line memory = inr (memory out)
+
+-- a trace is wanted that is at fault, whose line is the report; or memory ran out
+pub stops : (IsReport : Report → Type 0) (wanted : Result Listed TraceFault) (o : Sight) (s : Stop) → ((bad : TraceFault) → wanted ≡ Err bad → IsReport (ends (has_line (trace_line bad))))
+    → Reads wanted (Err s) → Prints IsReport o o (Err s)
+stops IsReport wanted o s told (inl known) = line_prints IsReport (trace_line known.0) o s (told known.0 known.1) known.2
+stops IsReport wanted o s told (inr out) = rw out (memory_prints IsReport o)

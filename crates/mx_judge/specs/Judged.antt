@@ -15,7 +15,7 @@ use Rattle.mx_judge.specs.EntryJson.{entry_json}
 use Rattle.mx_judge.specs.Faults.{trace_line}
 use Rattle.mx_judge.specs.Listed.{Listed, place_of}
 use Rattle.mx_judge.specs.Reasons.{entered_in, reason_for}
-use Rattle.mx_judge.specs.Traces.{begins_array, trace_at}
+use Rattle.mx_judge.specs.Traces.{place_word, trace_at}
 use Rattle.mx_judge.specs.declared.faults.TraceFault.{TraceFault}
 
 -- the verdict on a trace: sound exactly if the trace is; otherwise the first item that breaks a
@@ -30,10 +30,6 @@ abbrev pub counts_line : List Entry → Text
 counts_line trace =
     codes "events " ++ decimal (length trace) ++ codes ", sections " ++ decimal (entered_in trace)
     ++ line_feed
-
--- an event has its own line; in an array it is an item
-abbrev pub place_word : Text → Text
-place_word text = if begins_array text then codes "item" else codes "line"
 
 -- the start of the object of a verdict
 abbrev pub broken_start : ℕ → Clause → Text

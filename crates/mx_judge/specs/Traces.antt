@@ -8,8 +8,11 @@ use Rattle.mx_plan.specs.Fields.{Fields}
 use Rattle.mx_plan.specs.Values.{list_in, value_of}
 use Rattle.mx_stamps.specs.declared.limits.TheConstants.{MAX_EVENTS}
 use Rattle.mx_trace.specs.declared.outcome.Entry.{Entry}
+use Rattle.mx_cli.specs.Printing.{IsStopWith}
+use Rattle.mx_cli.specs.declared.stop.Stop.{Stop}
+use Rattle.mx_cli.specs.declared.stop.Stop.TheVariants as stop
 use Rattle.mx_judge.specs.Entries.{is_passed_over, item_of}
-use Rattle.mx_judge.specs.Faults.{line_fault, list_fault}
+use Rattle.mx_judge.specs.Faults.{line_fault, list_fault, trace_line}
 use Rattle.mx_judge.specs.Listed.{Listed, listed, nothing}
 use Rattle.mx_judge.specs.Members.{has_member}
 use Rattle.mx_judge.specs.declared.faults.ItemFault.{ItemFault}
@@ -30,6 +33,13 @@ Refuses wanted fault = (wanted ≡ Err fault) ⊎ (fault ≡ item.Memory)
 abbrev pub Gives : Result Listed TraceFault → Result Trace TraceFault → Type 0
 Gives wanted (Ok trace) = wanted ≡ Ok (listed trace)
 Gives wanted (Err fault) = (wanted ≡ Err fault) ⊎ (fault ≡ Memory)
+
+-- the result has the trace that is wanted; or the line of the fault that is wanted, or memory ran out
+abbrev pub Reads : Result Listed TraceFault → Result Trace Stop → Type 0
+Reads wanted (Ok trace) = wanted ≡ Ok (listed trace)
+Reads wanted (Err end) =
+    ((fault : TraceFault) × (wanted ≡ Err fault) × IsStopWith (trace_line fault) end)
+    ⊎ (end ≡ stop.Memory)
 
 -- a space, a tab, a line feed or a carriage return
 abbrev pub is_blank : ℕ → Bool
@@ -90,6 +100,10 @@ first_mark text = find (λ b. not (is_blank b)) text
 -- the first byte that is not blank starts an array
 abbrev pub begins_array : Text → Bool
 begins_array text = option_map_or (λ b. b == 91) (first_mark text) false
+
+-- an event has its own line; in an array it is an item
+abbrev pub place_word : Text → Text
+place_word text = if begins_array text then codes "item" else codes "line"
 
 -- the object is a plan: it has `algorithm`, and is neither an event nor passed over
 abbrev pub is_plan_object : Data → Bool

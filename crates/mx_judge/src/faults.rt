@@ -1,9 +1,12 @@
 //! The faults of a trace.
 
 ghost use Rattle.std.specs.Prelude.{◌≡◌, Some};
+ghost use Rattle.mx_cli.specs.Printing.{IsStopWith};
 ghost use Rattle.mx_judge.specs.Faults.{item_text, line_fault, list_fault, trace_line};
 
 use crate::members::Member;
+use mx_cli::{Stop, stop_with};
+use std::alloc::Global;
 use std::fmt;
 
 /// The fault of a line of a trace, or of an item of an array.
@@ -80,5 +83,16 @@ impl fmt::Display for TraceFault {
             TraceFault::Item(number, fault) => writeln!(f, "mx: trace: item {number}: {fault}"),
             TraceFault::Memory => f.write_str("mx: trace: out of memory\n"),
         }
+    }
+}
+
+/// Returns the reason to stop that has the line of a fault.
+pub(crate) fn stop_at(alloc: Global, fault: TraceFault) -> Stop
+    ensures line { IsStopWith (trace_line fault) result }
+    ensures memory { fault ≡ TraceFault.Memory → result ≡ Stop.Memory }
+{
+    match fault {
+        TraceFault::Memory => Stop::Memory,
+        _ => stop_with(alloc, fault),
     }
 }

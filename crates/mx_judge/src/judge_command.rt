@@ -1,16 +1,14 @@
 //! `judge`: the verdict on a trace.
 
-ghost use Rattle.std.specs.Prelude.{◌≡◌, Ok};
-ghost use Rattle.mx_cli.specs.Printing.{IsStopWith, Prints, sight};
-ghost use Rattle.mx_judge.specs.Faults.{trace_line};
-ghost use Rattle.mx_judge.specs.Judged.{IsJudged, IsJudgement, place_word};
+ghost use Rattle.std.specs.Prelude.{Ok};
+ghost use Rattle.mx_cli.specs.Printing.{Prints, sight};
+ghost use Rattle.mx_judge.specs.Judged.{IsJudged, IsJudgement};
 ghost use Rattle.mx_judge.specs.Listed.{listed};
 
-use crate::faults::TraceFault;
 use crate::judgement::judgement_of;
 use crate::trace::Trace;
-use crate::trace_reader::{begins_array, read_trace};
-use mx_cli::{Command, Stop, print, stop_with};
+use crate::trace_reader::{place_word, trace_in};
+use mx_cli::{Command, Stop, print};
 use mx_commands::verdict_status;
 use mx_explorer::judge;
 use mx_io::Output;
@@ -34,12 +32,12 @@ impl Command for Judge {
         text: &[u8],
         out: &mut O,
     ) -> Result<u8, Stop> {
-        match read_trace(alloc, text, plan) {
+        match trace_in(alloc, plan, text) {
             Ok(trace) => {
                 let word = place_word(text);
                 print_judgement(alloc, plan, word, &trace, self.is_json, out)
             }
-            Err(fault) => Err(stop_at(alloc, fault)),
+            Err(stop) => Err(stop),
         }
     }
 }
@@ -59,22 +57,5 @@ fn print_judgement<O: Output>(
     match judgement_of(alloc, is_json, plan, word, trace, verdict) {
         Ok(text) => print(text.as_bytes(), verdict_status(verdict), out),
         Err(_) => Err(Stop::Memory),
-    }
-}
-
-/// Returns what a place in the text of a trace is called.
-fn place_word(text: &[u8]) -> &'static str
-    ensures { result.now ≡ place_word text.now }
-{
-    if begins_array(text) { "item" } else { "line" }
-}
-
-fn stop_at(alloc: Global, fault: TraceFault) -> Stop
-    ensures line { IsStopWith (trace_line fault) result }
-    ensures memory { fault ≡ TraceFault.Memory → result ≡ Stop.Memory }
-{
-    match fault {
-        TraceFault::Memory => Stop::Memory,
-        _ => stop_with(alloc, fault),
     }
 }

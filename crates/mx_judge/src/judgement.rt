@@ -15,9 +15,13 @@ use mx_plan::Plan;
 use mx_trace::Entry;
 use std::alloc::{AllocError, Global};
 
-/// Returns what is printed of a trace with this verdict. `word` is what a place in its text is
+/// Returns what `judge` prints of a trace with this verdict. `word` is what a place in its text is
 /// called.
-pub(crate) fn judgement_of(
+///
+/// # Errors
+///
+/// Returns `AllocError` if memory runs out.
+pub fn judgement_of(
     alloc: Global,
     is_json: bool,
     plan: &Plan,
@@ -155,10 +159,11 @@ fn start_broken(index: u64, clause: Clause, text: &mut String) -> Result<(), All
 {
     start_word("verdict", "broken", text)?;
     add_number("index", index, text)?;
-    add_word("clause", word_of(clause), text)
+    add_word("clause", clause_word(clause), text)
 }
 
-fn word_of(clause: Clause) -> &'static str
+/// Returns the word of a clause in a verdict.
+pub fn clause_word(clause: Clause) -> &'static str
     ensures { result.now ≡ clause_text clause }
 {
     match clause {

@@ -1,4 +1,5 @@
-//! `mx judge`: the verdict on a trace from any source.
+//! `mx judge`: the verdict on a trace from any source. A command that shows a trace in another way
+//! reads it here too (`trace_in`).
 #![tactic(auto)]
 
 mod entry_json;
@@ -14,3 +15,7 @@ mod trace;
 mod trace_reader;
 
 pub use judge_command::Judge;
+pub use judgement::{clause_word, judgement_of};
+pub use reasons::reason_for;
+pub use trace::Trace;
+pub use trace_reader::{place_word, trace_in};

@@ -15,7 +15,11 @@ use mx_trace::{Entry, Outcome};
 use std::alloc::{AllocError, Global};
 
 /// Returns why a trace with this verdict is broken; nothing, if it is sound.
-pub(crate) fn reason_for(
+///
+/// # Errors
+///
+/// Returns `AllocError` if memory runs out.
+pub fn reason_for(
     alloc: Global,
     plan: &Plan,
     entries: &[Entry],

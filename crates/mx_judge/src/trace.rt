@@ -10,10 +10,10 @@ use std::alloc::Global;
 
 /// A trace that is read from a text.
 #[derive(Drop)]
-pub(crate) struct Trace {
-    pub(crate) entries: Vec<Entry>,
-    /// For each entry the number of its line or, in an array, of its item.
-    pub(crate) places: Vec<u64>,
+pub struct Trace {
+    pub entries: Vec<Entry>,
+    /// For each entry the number of its line or, in an array, of its item, from 1 on.
+    pub places: Vec<u64>,
 }
 
 impl Trace {
@@ -48,8 +48,9 @@ impl Trace {
         }
     }
 
-    /// Returns the number of the line or item of the entry with this index.
-    pub(crate) fn place_of(&self, index: u64) -> u64
+    /// Returns the number of the line or item of the entry with this index, or 0 if there is no such
+    /// entry.
+    pub fn place_of(&self, index: u64) -> u64
         ensures { result ≡ place_of (listed self.now) index }
     {
         match self.places.get(index as usize) {

@@ -10,10 +10,10 @@ ghost use Rattle.mx_judge.specs.Listed.{listed, nothing};
 ghost use Rattle.mx_judge.specs.Traces as spec;
 
 use crate::entry_reader::{is_passed_over, item_in, items_in};
-use crate::faults::{ItemFault, TraceFault};
+use crate::faults::{ItemFault, TraceFault, stop_at};
 use crate::members::has_member;
 use crate::trace::Trace;
-use mx_cli::split_line;
+use mx_cli::{Stop, split_line};
 use mx_plan::Plan;
 use mx_stamps::MAX_EVENTS;
 use mx_trace::Entry;
@@ -22,7 +22,27 @@ use std::alloc::{AllocError, Global};
 
 /// Reads a trace of at most 1,000,000 events: a JSON array if the text begins with `[`, perhaps
 /// after blanks, and otherwise lines, each a JSON object or blank.
-pub(crate) fn read_trace(alloc: Global, text: &[u8], plan: &Plan) -> Result<Trace, TraceFault>
+///
+/// # Errors
+///
+/// Returns the line of the first fault, and `Memory` if memory runs out.
+pub fn trace_in(alloc: Global, plan: &Plan, text: &[u8]) -> Result<Trace, Stop>
+    ensures { spec.Reads (spec.trace_at plan.now text.now) result }
+{
+    match read_trace(alloc, text, plan) {
+        Ok(trace) => Ok(trace),
+        Err(fault) => Err(stop_at(alloc, fault)),
+    }
+}
+
+/// Returns what a place in the text of a trace is called.
+pub fn place_word(text: &[u8]) -> &'static str
+    ensures { result.now ≡ spec.place_word text.now }
+{
+    if begins_array(text) { "item" } else { "line" }
+}
+
+fn read_trace(alloc: Global, text: &[u8], plan: &Plan) -> Result<Trace, TraceFault>
     ensures { spec.Gives (spec.trace_at plan.now text.now) result }
 {
     if begins_array(text) {
@@ -52,7 +72,7 @@ fn is_plan_object(value: &Value) -> bool
     has_member(value, "algorithm") && !(has_member(value, "act") || is_passed_over(value))
 }
 
-pub(crate) fn begins_array(text: &[u8]) -> bool
+fn begins_array(text: &[u8]) -> bool
     ensures { result ≡ spec.begins_array text.now }
 {
     match first_mark(text) {

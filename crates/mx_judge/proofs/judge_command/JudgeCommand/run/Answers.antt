@@ -3,7 +3,8 @@ use Rattle.mx_cli.specs.Printing.{sight}
 use Rattle.mx_cli.proofs.FrameLemmas.{prints_as}
 use Rattle.mx_judge.specs.Judged.{IsJudged, IsJudgement}
 use Rattle.mx_judge.specs.Listed.{listed}
-use Rattle.mx_judge.proofs.JudgeLemmas.{judged_read, stops}
+use Rattle.mx_judge.specs.Traces.{trace_at}
+use Rattle.mx_judge.proofs.JudgeLemmas.{judged_fault, judged_read, stops}
 use Rattle.mx_judge.proofs.judge_command.JudgeCommand.run.Goals as goal
 
 pub returns-in-Ok : goal.returns-in-Ok
@@ -19,6 +20,8 @@ returns-in-Ok g c =
     }
 
 pub returns-in-Err : goal.returns-in-Err
-returns-in-Err g c = record {
-  prints = stops c.args.self.now.is_json c.args.plan.now c.args.text.now c.in-Err.fault (sight g.O.Output c.args.out.now) c.stop_at.result c.in-Err.ensures c.stop_at.ensures.line c.stop_at.ensures.memory;
-}
+returns-in-Err g c =
+    let j = c.args.self.now.is_json in
+    let p = c.args.plan.now in
+    let text = c.args.text.now in
+    record { prints = stops (IsJudgement j p text) (trace_at p text) (sight g.O.Output c.args.out.now) c.in-Err.stop (judged_fault j p text) c.in-Err.ensures }
