@@ -18,6 +18,10 @@ number_start key number = codes "{\"" ++ key ++ codes "\":" ++ decimal number
 abbrev pub node_start : Fields → ℕ → Text
 node_start p node = word_start (codes "node") (name_of p node)
 
+-- the start of an object, whose first member is an array
+abbrev pub array_start : {X : Type 0} → Text → (X → Text) → List X → Text
+array_start key f xs = codes "{\"" ++ key ++ codes "\":[" ++ joined (codes ",") f xs ++ codes "]"
+
 -- a member whose value is a text, after a comma
 abbrev pub word_member : Text → Text → Text
 word_member key word = codes ",\"" ++ key ++ codes "\":\"" ++ word ++ codes "\""

@@ -2,7 +2,7 @@
 //! `mx` writes have no character that needs it.
 
 ghost use Rattle.std.specs.Prelude.{◌≡◌, ◌++◌, OnOk, string_bytes, true};
-ghost use Rattle.mx_format.specs.Members.{array_member, node_member, node_pair, node_start, number_member, number_start, register_member, word_member, word_start};
+ghost use Rattle.mx_format.specs.Members.{array_member, array_start, node_member, node_pair, node_start, number_member, number_start, register_member, word_member, word_start};
 
 use crate::events::{name_of, register_name_of};
 use crate::lists::{Listed, add_joined};
@@ -101,6 +101,21 @@ pub(crate) fn add_array<V: Listed>(
         ++ array_member key.now (V.written true plan.now) values.now) }
 {
     write!(text, ",\"{key}\":[")?;
+    add_joined(plan, true, ",", values, text)?;
+    text.push_str("]")
+}
+
+/// Appends the start of an object: the brace, and the first member, whose value is an array.
+pub(crate) fn start_array<V: Listed>(
+    plan: &Plan,
+    key: &str,
+    values: &[V],
+    text: &mut String,
+) -> Result<(), AllocError>
+    ensures { OnOk result (string_bytes text.new ≡ string_bytes text.old
+        ++ array_start key.now (V.written true plan.now) values.now) }
+{
+    write!(text, "{{\"{key}\":[")?;
     add_joined(plan, true, ",", values, text)?;
     text.push_str("]")
 }

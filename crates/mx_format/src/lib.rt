@@ -16,6 +16,7 @@ mod peers;
 mod plan_lines;
 mod plans;
 mod standings;
+mod stuck;
 mod words;
 
 pub use event_arrays::add_event_array;
@@ -30,3 +31,4 @@ pub use parts::{LetterParts, Numbers, Style, Subject};
 pub use peers::add_asks;
 pub use plan_lines::ExploredLine;
 pub use plans::add_plan;
+pub use stuck::{Waiter, add_stuck};
