@@ -1,5 +1,6 @@
 """A model of a session of `mx play`, over tests/oracle.py: what each line prints, as docs/FORMATS.md says it. It
-knows no faults but those of lines that find no parcel or a link that is cut, or have nothing to take back.
+knows no faults but those of lines that find no parcel or a link that is cut, have nothing to take back, or expect another
+outcome.
 """
 import json
 
@@ -25,6 +26,7 @@ class Session:
         self.put = []
         self.cluster = oracle.Replay(self.plan, self.put.append)
         self.events = []
+        self.outcome = None  # of the last event
         self.gone = set()  # the parcels that are no longer under way
         self.last = {}  # of each link, the parcel that was delivered last
         self.cut = set()  # the links that are cut, as sets of one node or two
@@ -52,7 +54,9 @@ class Session:
                 raise Fault("the link is cut")
             self.gone.add(number)
             self.last[self.cluster.parcels[number][:2]] = number
+        before = len(self.put)
         self.cluster.happen(len(self.events), happening)
+        self.outcome = self.put[before].split(": ", 1)[1]
         self.events.append(happening)
 
     def begin_again(self):
@@ -84,6 +88,8 @@ class Session:
             yield from self.happenings_of_all(word, others[1:])
         elif word == "cut":
             yield ["cut", *(self.names.index(name) for name in others)]
+        elif word == "partition":
+            yield from self.happenings_of_partition(others)
         elif word == "heal":
             yield ["heal"]
         elif word == "deliver" and len(words) == 2:
@@ -106,6 +112,21 @@ class Session:
             return
         while found := [number for number in self.between(names) if not self.is_held(number)]:
             yield ["deliver", found[0]]
+
+    def happenings_of_partition(self, words):
+        bar = words.index("|")
+        left, right = ({self.names.index(name) for name in side} for side in (words[:bar], words[bar + 1 :]))
+        for one in sorted(left):
+            for other in sorted(right):
+                if frozenset((one, other)) not in self.cut:
+                    yield ["cut", one, other]
+
+    def expect(self, outcome):
+        if self.outcome is None:
+            raise Fault("no event yet")
+        if self.outcome != outcome:
+            raise Fault(f'other outcome: found "{self.outcome}", expected "{outcome}"')
+        return []
 
     def do(self, words):
         """Does a line of a script; gives what is printed, or raises a fault, and then nothing has changed."""
@@ -169,6 +190,18 @@ class Session:
         texts = [json.dumps(event, separators=(",", ":")) for event in self.events]
         return ["[", *(text + "," for text in texts[:-1]), texts[-1], "]"]
 
+    def scripted(self):
+        """The script of what has happened: a line for each happening."""
+        return [self.words_of(happening) for line in self.done for happening in line]
+
+    def words_of(self, happening):
+        word, *others = happening
+        if word == "lost":
+            word, others = "lose", self.cluster.parcels[others[0]][:2]
+        if word in ("lose", "cut"):
+            others = [self.names[node] for node in others]
+        return " ".join([word, *map(str, others)])
+
     def answer(self, line):
         """The lines that a line prints."""
         words = line.split("#")[0].split()
@@ -184,6 +217,10 @@ class Session:
             return [" ".join(words)]
         if words[0] == "events":
             return self.listed()
+        if words[0] == "script":
+            return self.scripted()
+        if words[0] == "expect":
+            return self.expect(" ".join(words[1:]))
         return self.do(words)
 
     def close(self):

@@ -46,8 +46,13 @@ neither delivered nor lost:
   cut N M        the link between N and M is cut: `deliver` finds no parcel on it
   cut N          all links of N are cut
   heal           all links heal
+  partition N .. | M ..
+                 each link between a node left of | and one right of it is cut
 
 After `all`, N M means those from N to M.
+
+`expect OUTCOME` makes no event: the line is at fault if the last event has another outcome than
+this, as `mx replay` prints it.
 
 `times T` before a line does it T times. What follows a # is a comment. A fault names its line.
 Where both names are -, the first line of standard input is the plan and the rest is the script.
@@ -69,11 +74,11 @@ A line of standard input is one of a script, as `mx script --help` tells them, a
 of it is what `mx replay` prints of its events. `show` prints the line of each node, and of each
 parcel under way; `show N` those of node N. `undo` takes back the last line that was done,
 `undo K` the last K of them, and `redo` the last undo. `events` prints the events so far, as a
-file that `mx replay` reads, `mark WORD` itself, and `help` the words. What is wrong in a line is
-told on standard error, and nothing changes. `end`, `quit`, `exit` or the end of standard input
-prints the closing lines and the verdict. Where a script is named, its lines come first. Where the
-plan is -, it is the first line of standard input. `rlwrap mx play plan.json` keeps a history of
-the lines typed.";
+file that `mx replay` reads, `script` all that has happened, as a script, `mark WORD` itself, and
+`help` the words. What is wrong in a line is told on standard error, and nothing changes. `end`,
+`quit`, `exit` or the end of standard input prints the closing lines and the verdict. Where a
+script is named, its lines come first. Where the plan is -, it is the first line of standard
+input. `rlwrap mx play plan.json` keeps a history of the lines typed.";
 
 pub(crate) const PICTURE: &str = "Example: the events of one section, in a cluster of three nodes.
 

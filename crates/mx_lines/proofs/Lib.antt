@@ -1,2 +1,3 @@
 pub mod EscapeLemmas
 mod NumberLemmas
+mod SideLemmas

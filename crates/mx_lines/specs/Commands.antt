@@ -6,15 +6,16 @@ use Rattle.mx_plan.specs.Text.{Text}
 use Rattle.mx_lines.specs.Lines.{line_of}
 use Rattle.mx_lines.specs.Names.{Known}
 use Rattle.mx_lines.specs.Numbers.{number_of}
-use Rattle.mx_lines.specs.Orders.{and_then, refused}
+use Rattle.mx_lines.specs.Refusals.{and_then, refused}
 use Rattle.mx_lines.specs.declared.commands.SessionCommand.{SessionCommand}
 use Rattle.mx_lines.specs.declared.commands.SessionCommand.TheVariants as command
 use Rattle.mx_lines.specs.declared.errors.Expected.TheVariants as expected
 use Rattle.mx_lines.specs.declared.errors.LineError.{LineError}
 use Rattle.mx_lines.specs.declared.errors.LineFault.TheVariants as fault
 use Rattle.mx_lines.specs.declared.errors.OwnWord.{OwnWord}
-use Rattle.mx_lines.specs.declared.errors.OwnWord.TheVariants.{Show, Undo, Redo, Events, Mark, Help, End}
-use Rattle.mx_lines.specs.declared.line.Line.{Line}
+use Rattle.mx_lines.specs.declared.errors.OwnWord.TheVariants.{Show, Undo, Redo, Events, Script, Mark, Help, End}
+use Rattle.mx_lines.specs.declared.line.ScriptLine.{ScriptLine}
+use Rattle.mx_lines.specs.declared.line.ScriptLine.TheVariants as line
 
 abbrev pub is_end : Text → Bool
 is_end text =
@@ -27,6 +28,7 @@ own_word text =
     else if bytes_eq text (codes "undo") then Some Undo
     else if bytes_eq text (codes "redo") then Some Redo
     else if bytes_eq text (codes "events") then Some Events
+    else if bytes_eq text (codes "script") then Some Script
     else if bytes_eq text (codes "mark") then Some Mark
     else if bytes_eq text (codes "help") then Some Help
     else if is_end text then Some End
@@ -38,6 +40,7 @@ alone Show = Ok (command.Show None)
 alone Undo = Ok (command.Undo 1)
 alone Redo = Ok command.Redo
 alone Events = Ok command.Events
+alone Script = Ok command.Script
 alone Mark = refused fault.WordCount 0 (expected.OwnArguments Mark)
 alone Help = Ok command.Help
 alone End = Ok command.End
@@ -68,10 +71,11 @@ module _ (names : Known) where
   own_command word [] = alone word
   own_command word (text ∷ more) = with_one word text (length more == 0)
 
--- the command that does a script line, or `Nothing` if the line has no words
-abbrev pub doing : Option Line → SessionCommand
-doing None = command.Nothing
-doing (Some line) = command.Does line
+-- the command that does a script line
+abbrev pub doing : ScriptLine → SessionCommand
+doing (line.Does line) = command.Does line
+doing line.Expects = command.Expects
+doing line.Nothing = command.Nothing
 
 module _ (names : Known) where
   -- what a line asks for: if its first word is one of a session (and not of a script), what that

@@ -1,12 +1,14 @@
 -- What the words of a line ask for, apart from how often, or which word is wrong. Words have
 -- numbers from 0, which are their places in the line.
-use Rattle.std.specs.Prelude.{◌==◌, ℕ, ◌+◌, List, [], ◌∷◌, Option, Some, None, Result, Ok, Err, codes, length, position, if◌then◌else◌, option_map, option_and_then}
+use Rattle.std.specs.Prelude.{◌==◌, ℕ, ◌+◌, List, [], ◌∷◌, Option, Some, None, Result, Ok, codes, length, position, if◌then◌else◌, option_map, option_and_then}
 use Rattle.std.specs.Option.{option_map_or}
 use Rattle.std.specs.Str.{bytes_eq}
 use Rattle.mx_plan.specs.Text.{Text}
 use Rattle.mx_events.specs.Arguments.{event_of, node_in}
 use Rattle.mx_lines.specs.Names.{Known}
 use Rattle.mx_lines.specs.Numbers.{number_of}
+use Rattle.mx_lines.specs.Refusals.{and_then, refused}
+use Rattle.mx_lines.specs.Sides.{sides_of}
 use Rattle.mx_lines.specs.Verbs.{kinds_of, verb_of, verb_of_all}
 use Rattle.mx_events.specs.declared.argument.Argument.{Argument}
 use Rattle.mx_events.specs.declared.argument.Argument.TheVariants as argument
@@ -15,24 +17,13 @@ use Rattle.mx_events.specs.declared.argument.ArgumentKind.TheVariants as kind
 use Rattle.mx_lines.specs.declared.errors.Expected.{Expected}
 use Rattle.mx_lines.specs.declared.errors.Expected.TheVariants as expected
 use Rattle.mx_lines.specs.declared.errors.LineError.{LineError}
-use Rattle.mx_lines.specs.declared.errors.LineFault.{LineFault}
 use Rattle.mx_lines.specs.declared.errors.LineFault.TheVariants as fault
 use Rattle.mx_lines.specs.declared.orders.Order.{Order}
-use Rattle.mx_lines.specs.declared.orders.Order.TheVariants.{Happens, Arrives, AllArrive, IsLost, AllAreLost, ArrivesAgain, LinksChange}
+use Rattle.mx_lines.specs.declared.orders.Order.TheVariants.{Happens, Arrives, AllArrive, IsLost, AllAreLost, ArrivesAgain, LinksChange, Parts}
 use Rattle.mx_lines.specs.declared.orders.LinkChange.TheVariants as change
 use Rattle.mx_lines.specs.declared.orders.Scope.TheVariants as scope
 use Rattle.mx_lines.specs.declared.verbs.Verb.{Verb}
 use Rattle.mx_lines.specs.declared.verbs.Verb.TheVariants as verb
-
--- the error that the word of this number is wrong
-abbrev pub refused : {T : Type 0} → LineFault → ℕ → Expected → Result T LineError
-refused fault word expected = Err (record { fault = fault; word = word; expected = expected })
-
--- continues if nothing was wrong
-abbrev pub and_then : {A B : Type 0} → Result A LineError → (A → Result B LineError)
-    → Result B LineError
-and_then (Ok a) f = f a
-and_then (Err e) f = Err e
 
 -- the number that the word at this place of its line is, or the error that it is none
 abbrev pub number_at : ℕ → Text → Expected → Result Argument LineError
@@ -118,4 +109,6 @@ module _ (names : Known) where
   abbrev pub order_at : ℕ → Text → List Text → Result Order LineError
   order_at place word arguments =
       if bytes_eq word (codes "times") then refused fault.WordCount place expected.Single
+      else if bytes_eq word (codes "partition")
+      then and_then (sides_of names place arguments) (λ sides. Ok (Parts sides))
       else order_before place word arguments

@@ -3,7 +3,7 @@ ghost use Rattle.mx_lines.specs.Commands.{alone, command_of, is_end, own_command
 ghost use Rattle.mx_lines.specs.Names.{texts_of};
 
 use crate::errors::{Expected, LineError, LineFault, OwnWord, refuse};
-use crate::line::{Line, read_line};
+use crate::line::{Line, ScriptLine, read_line};
 use crate::names::Names;
 use crate::numbers::number_of;
 use mx_stamps::NodeId;
@@ -13,6 +13,8 @@ use mx_stamps::NodeId;
 pub enum SessionCommand {
     /// Does what this script line asks for.
     Does(Line),
+    /// Compares the outcome of the last event with the words after the first of this line.
+    Expects,
     /// Undoes this many lines, the last ones that were done.
     Undo(u64),
     /// Shows this node, or all nodes.
@@ -21,6 +23,8 @@ pub enum SessionCommand {
     Redo,
     /// Shows the events so far, as a file of events.
     Events,
+    /// Shows what has happened so far, as a script.
+    Script,
     /// Shows `mark` and the second word of this line.
     Mark,
     /// Shows which lines a session may have.
@@ -46,8 +50,9 @@ pub fn read_command<N: Names>(names: &N, words: &[&str]) -> Result<SessionComman
         return own_command(names, word, arguments);
     }
     match read_line(names, words)? {
-        Some(line) => Ok(SessionCommand::Does(line)),
-        None => Ok(SessionCommand::Nothing),
+        ScriptLine::Does(line) => Ok(SessionCommand::Does(line)),
+        ScriptLine::Expects => Ok(SessionCommand::Expects),
+        ScriptLine::Nothing => Ok(SessionCommand::Nothing),
     }
 }
 
@@ -65,6 +70,9 @@ fn own_word(text: &str) -> Option<OwnWord>
     }
     if text == "events" {
         return Some(OwnWord::Events);
+    }
+    if text == "script" {
+        return Some(OwnWord::Script);
     }
     if text == "mark" {
         return Some(OwnWord::Mark);
@@ -110,6 +118,7 @@ fn alone(word: OwnWord) -> Result<SessionCommand, LineError>
         OwnWord::Undo => Ok(SessionCommand::Undo(1)),
         OwnWord::Redo => Ok(SessionCommand::Redo),
         OwnWord::Events => Ok(SessionCommand::Events),
+        OwnWord::Script => Ok(SessionCommand::Script),
         OwnWord::Mark => refuse(LineFault::WordCount, 0, Expected::OwnArguments(word)),
         OwnWord::Help => Ok(SessionCommand::Help),
         OwnWord::End => Ok(SessionCommand::End),

@@ -1,5 +1,5 @@
 ghost use Rattle.std.specs.Prelude.{◌≡◌, Some};
-ghost use Rattle.mx_lines.specs.Orders.{refused};
+ghost use Rattle.mx_lines.specs.Refusals.{refused};
 ghost use Rattle.mx_lines.specs.Texts.{fault_text};
 
 use crate::verbs::Verb;
@@ -20,6 +20,8 @@ pub enum LineFault {
     NoRegister,
     /// The word is no whole number of 64 bits.
     NotNumber,
+    /// The node is on the other side of the partition too.
+    OnBothSides,
     /// No parcel of this number was sent.
     NoParcel,
     /// No parcel from the one node to the other is under way.
@@ -28,6 +30,10 @@ pub enum LineFault {
     NotDelivered,
     /// The link that bears the parcel is cut.
     LinkCut,
+    /// There is no event yet, so no outcome.
+    NoEvent,
+    /// The last event has another outcome.
+    OtherOutcome,
     /// The script has more than 1,000,000 events, or a line is to be done more often.
     TooMany,
 }
@@ -43,10 +49,13 @@ impl fmt::Display for LineFault {
             LineFault::NoNode => f.write_str("no such node"),
             LineFault::NoRegister => f.write_str("no such register"),
             LineFault::NotNumber => f.write_str("not a number"),
+            LineFault::OnBothSides => f.write_str("node on both sides"),
             LineFault::NoParcel => f.write_str("no such parcel"),
             LineFault::NotUnderWay => f.write_str("no such parcel under way"),
             LineFault::NotDelivered => f.write_str("no such parcel delivered"),
             LineFault::LinkCut => f.write_str("the link is cut"),
+            LineFault::NoEvent => f.write_str("no event yet"),
+            LineFault::OtherOutcome => f.write_str("other outcome"),
             LineFault::TooMany => f.write_str("more than 1000000"),
         }
     }
@@ -59,6 +68,7 @@ pub enum OwnWord {
     Undo,
     Redo,
     Events,
+    Script,
     Mark,
     Help,
     End,
@@ -73,6 +83,8 @@ pub enum Expected {
     Single,
     /// A node of the plan.
     Node,
+    /// A node that is not on the left side.
+    OtherNode,
     /// A register of the plan.
     Register,
     /// A whole number of 64 bits.
@@ -83,6 +95,10 @@ pub enum Expected {
     Times,
     /// After `times`: a number and a line.
     Repetition,
+    /// After `partition`: the nodes of both sides.
+    Sides,
+    /// After `expect`: an outcome.
+    Outcome,
     /// After a word of a script: its arguments.
     Arguments(Verb),
     /// After a word of a session: its arguments.

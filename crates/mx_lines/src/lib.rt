@@ -11,6 +11,7 @@ mod messages;
 mod names;
 mod numbers;
 mod orders;
+mod sides;
 mod verbs;
 mod words;
 
@@ -18,12 +19,13 @@ pub use commands::{SessionCommand, read_command};
 pub use edits::nearest;
 pub use errors::{Expected, LineError, LineFault, OwnWord};
 pub use escapes::add_escaped_text;
-pub use line::{Line, first_error, read_line};
+pub use line::{Line, ScriptLine, first_error, read_line};
 pub use messages::{
     FirstWords, Listed, Nearest, Quoted, message, message_of_line, message_of_unknown_node,
 };
 pub use names::Names;
 pub use numbers::number_of;
 pub use orders::{LinkChange, Order, Scope};
+pub use sides::{Side, Sides};
 pub use verbs::Verb;
 pub use words::{place_of_word, words_in};

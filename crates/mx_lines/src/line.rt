@@ -1,5 +1,5 @@
 ghost use Rattle.std.specs.Prelude.{◌≡◌, Err, IfNone, IfSome, IsOk};
-ghost use Rattle.mx_lines.specs.Lines.{line_of, repeated, times_of};
+ghost use Rattle.mx_lines.specs.Lines.{expects, line_of, repeated, times_of};
 ghost use Rattle.mx_lines.specs.Names.{texts_of};
 
 use crate::errors::{Expected, LineError, LineFault, refuse};
@@ -8,34 +8,56 @@ use crate::numbers::number_of;
 use crate::orders::{Order, order_at};
 use mx_stamps::MAX_EVENTS;
 
-/// A line: what it asks for, and how often.
+/// An order, and how often it is done.
 #[derive(Clone, Copy)]
 pub struct Line {
     pub times: u64,
     pub order: Order,
 }
 
-/// Parses the words of a line. Returns `None` for a line without words.
+/// What a line of a script asks for.
+#[derive(Clone, Copy)]
+pub enum ScriptLine {
+    Does(Line),
+    /// The outcome of the last event is the words after the first.
+    Expects,
+    /// The line has no words.
+    Nothing,
+}
+
+/// Parses the words of a line.
 ///
 /// # Errors
 ///
 /// Returns the first wrong word, from the left. A wrong number of arguments goes before a wrong
 /// argument, as an error of the word that takes the arguments; but after `times`, a wrong number
 /// goes before a missing line.
-pub fn read_line<N: Names>(names: &N, words: &[&str]) -> Result<Option<Line>, LineError>
+pub fn read_line<N: Names>(names: &N, words: &[&str]) -> Result<ScriptLine, LineError>
     ensures { result ≡ line_of (N.known names.now) (texts_of words.now) }
 {
     let Some((first, rest)) = words.split_first() else {
-        return Ok(None);
+        return Ok(ScriptLine::Nothing);
     };
     if *first == "times" {
         return repeated(names, rest);
     }
+    if *first == "expect" {
+        return expects(rest);
+    }
     let order = order_at(names, 0, first, rest)?;
-    Ok(Some(Line { times: 1, order }))
+    Ok(ScriptLine::Does(Line { times: 1, order }))
 }
 
-fn repeated<N: Names>(names: &N, words: &[&str]) -> Result<Option<Line>, LineError>
+fn expects(words: &[&str]) -> Result<ScriptLine, LineError>
+    ensures { result ≡ expects (texts_of words.now) }
+{
+    if words.is_empty() {
+        return refuse(LineFault::WordCount, 0, Expected::Outcome);
+    }
+    Ok(ScriptLine::Expects)
+}
+
+fn repeated<N: Names>(names: &N, words: &[&str]) -> Result<ScriptLine, LineError>
     ensures { result ≡ repeated (N.known names.now) (texts_of words.now) }
 {
     let Some((count, order)) = words.split_first() else {
@@ -46,7 +68,7 @@ fn repeated<N: Names>(names: &N, words: &[&str]) -> Result<Option<Line>, LineErr
         return refuse(LineFault::WordCount, 0, Expected::Repetition);
     };
     let order = order_at(names, 2, first, rest)?;
-    Ok(Some(Line { times, order }))
+    Ok(ScriptLine::Does(Line { times, order }))
 }
 
 fn times_of(text: &str) -> Result<u64, LineError>

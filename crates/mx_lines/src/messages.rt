@@ -18,11 +18,14 @@ use std::fmt::Display;
 /// A word of more bytes is not shown, only its length.
 const MAX_BYTES: usize = 40;
 
-/// The words with which lines of scripts may begin, beside the words of events.
-const SCRIPT_WORDS: [&str; 5] = ["lose", "again", "cut", "heal", "times"];
+/// The words with which orders may begin, beside the words of events.
+const ORDER_WORDS: [&str; 5] = ["lose", "again", "cut", "partition", "heal"];
 
-const SESSION_WORDS: [&str; 9] = [
-    "show", "undo", "redo", "events", "mark", "help", "end", "quit", "exit",
+/// The words with which lines of scripts may begin, beside those.
+const SCRIPT_WORDS: [&str; 2] = ["times", "expect"];
+
+const SESSION_WORDS: [&str; 10] = [
+    "show", "undo", "redo", "events", "script", "mark", "help", "end", "quit", "exit",
 ];
 
 /// With which words an event or a line may begin.
@@ -30,13 +33,25 @@ const SESSION_WORDS: [&str; 9] = [
 pub enum FirstWords {
     /// The words of events.
     OfEvents,
-    /// Those, and the words of scripts.
+    /// Those, and the words of other orders: what may be repeated.
+    OfOrders,
+    /// All those, and the words of scripts.
     OfScripts,
     /// All those, and the words of sessions.
     OfSessions,
 }
 
 impl FirstWords {
+    /// Returns the words beside those of events.
+    fn beside_events(self) -> &'static [&'static [&'static str]] {
+        match self {
+            FirstWords::OfEvents => &[],
+            FirstWords::OfOrders => &[&ORDER_WORDS],
+            FirstWords::OfScripts => &[&ORDER_WORDS, &SCRIPT_WORDS],
+            FirstWords::OfSessions => &[&ORDER_WORDS, &SCRIPT_WORDS, &SESSION_WORDS],
+        }
+    }
+
     /// Returns the words in the order in which a message lists them.
     ///
     /// # Errors
@@ -47,11 +62,8 @@ impl FirstWords {
         for kind in &EVENT_KINDS {
             words.push(kind.word())?;
         }
-        if self != FirstWords::OfEvents {
-            words.extend_from_slice(&SCRIPT_WORDS)?;
-        }
-        if self == FirstWords::OfSessions {
-            words.extend_from_slice(&SESSION_WORDS)?;
+        for more in self.beside_events() {
+            words.extend_from_slice(more)?;
         }
         Ok(words)
     }
@@ -68,7 +80,7 @@ pub fn message<N: Names>(
     let word = words.get(error.word).copied().unwrap_or("");
     let known = match error.expected {
         Expected::Word if error.word == 0 => first_words.listed(alloc)?,
-        Expected::Word => FirstWords::OfScripts.listed(alloc)?,
+        Expected::Word => FirstWords::OfOrders.listed(alloc)?,
         Expected::Node => names.node_names(alloc)?,
         Expected::Register => names.register_names(alloc)?,
         _ => Vec::new(alloc),
@@ -133,7 +145,11 @@ impl Display for UnknownNode<'_> {
 /// Returns how many words stand after the word of an error, if their number is what is wrong.
 fn words_after(words: &[&str], error: &LineError) -> Option<usize> {
     match error.expected {
-        Expected::Repetition | Expected::Arguments(_) | Expected::OwnArguments(_) => {
+        Expected::Repetition
+        | Expected::Sides
+        | Expected::Outcome
+        | Expected::Arguments(_)
+        | Expected::OwnArguments(_) => {
             Some(words.len().saturating_sub(error.word).saturating_sub(1))
         }
         _ => None,
@@ -147,11 +163,14 @@ fn expected_text(expected: Expected) -> &'static str {
         Expected::Word => "",
         Expected::Single => "a line that is repeated once",
         Expected::Node => "a node of the plan",
+        Expected::OtherNode => "a node that is not left of |",
         Expected::Register => "a register of the plan",
         Expected::Number => "a whole number of 64 bits without a sign",
         Expected::Parcel => "all, or the number of a parcel",
         Expected::Times => "a whole number, 0 to 1000000",
         Expected::Repetition => "a number and a line after the word",
+        Expected::Sides => "nodes, | and nodes after the word",
+        Expected::Outcome => "an outcome after the word",
         Expected::Arguments(Verb::Event(kind)) => arguments_text(kind),
         Expected::Arguments(Verb::Lose) => "all, or two nodes after the word",
         Expected::Arguments(Verb::CutNode) => "a node or two after the word",

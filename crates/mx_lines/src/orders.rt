@@ -5,6 +5,7 @@ ghost use Rattle.mx_lines.specs.Names.{texts_of};
 use crate::errors::{Expected, LineError, LineFault, refuse};
 use crate::names::Names;
 use crate::numbers::number_of;
+use crate::sides::{Sides, sides_of};
 use crate::verbs::{Verb, verb_of, verb_of_all};
 use mx_events::{Argument, ArgumentKind, Event};
 use mx_stamps::NodeId;
@@ -28,6 +29,8 @@ pub enum Order {
     ArrivesAgain(NodeId, NodeId),
     /// Links are cut, or heal.
     LinksChange(LinkChange),
+    /// Each link between the left side and the right side is cut, both ways.
+    Parts(Sides),
 }
 
 /// Which parcels `all` means in a line.
@@ -60,6 +63,9 @@ pub(crate) fn order_at<N: Names>(
 {
     if word == "times" {
         return refuse(LineFault::WordCount, place, Expected::Single);
+    }
+    if word == "partition" {
+        return Ok(Order::Parts(sides_of(names, place, arguments)?));
     }
     order_before(names, place, word, arguments)
 }

@@ -1,5 +1,5 @@
 -- What a line of a session asks for is over the names by which it is read.
-use Rattle.std.proofs.Common.{◌≡◌, Bool, true, false, List, [], ◌∷◌, Option, Some, None, Result, Ok, IfOk, IfSome, length, subst, sym}
+use Rattle.std.proofs.Common.{◌≡◌, Bool, true, false, List, [], ◌∷◌, Option, Some, None, Result, Ok, IfOk, length, subst, sym}
 use Rattle.std.specs.Bool.{⊤}
 use Rattle.std.specs.List.{position}
 use Rattle.std.specs.Option.{option_map_or}
@@ -13,10 +13,10 @@ use Rattle.mx_lines.specs.Numbers.{number_of}
 use Rattle.mx_lines.specs.declared.commands.SessionCommand.{SessionCommand}
 use Rattle.mx_lines.specs.declared.errors.LineError.{LineError}
 use Rattle.mx_lines.specs.declared.errors.OwnWord.{OwnWord}
-use Rattle.mx_lines.specs.declared.errors.OwnWord.TheVariants.{Show, Undo, Redo, Events, Mark, Help, End}
-use Rattle.mx_lines.specs.declared.line.Line.{Line}
-use Rattle.mx_scripts.specs.Scripts.{IsOver}
-use Rattle.mx_scripts.proofs.OverLemmas.{any, line_is_over, line_over, LineOver, or_wrong, passed}
+use Rattle.mx_lines.specs.declared.errors.OwnWord.TheVariants.{Show, Undo, Redo, Events, Script, Mark, Help, End}
+use Rattle.mx_lines.specs.declared.line.ScriptLine.{ScriptLine}
+use Rattle.mx_lines.specs.declared.line.ScriptLine.TheVariants as script_line
+use Rattle.mx_scripts.proofs.OverLemmas.{any, IsLineOver, line_over, LineOver, or_wrong, passed}
 use Rattle.mx_plan.specs.Fields.{Fields}
 use Rattle.mx_play.specs.Commands.{IsOverPlan}
 
@@ -32,6 +32,7 @@ module _ (p : Fields) where
   alone_over Undo = tt
   alone_over Redo = tt
   alone_over Events = tt
+  alone_over Script = tt
   alone_over Mark = tt
   alone_over Help = tt
   alone_over End = tt
@@ -45,6 +46,8 @@ module _ (p : Fields) where
   one_over Redo text false = tt
   one_over Mark text true = tt
   one_over Mark text false = tt
+  one_over Script text true = tt
+  one_over Script text false = tt
   one_over Events text true = tt
   one_over Events text false = tt
   one_over Help text true = tt
@@ -56,9 +59,10 @@ module _ (p : Fields) where
   own_over word [] = alone_over word
   own_over word (text ∷ more) = one_over word text (length more == 0)
 
-  doing_over : (line : Option Line) → IfSome line (λ l. IsOver (length names.nodes) (length names.registers) l.order) → Over (doing line)
-  doing_over None h = tt
-  doing_over (Some line) h = h
+  doing_over : (read : ScriptLine) → IsLineOver (length names.nodes) (length names.registers) read → Over (doing read)
+  doing_over (script_line.Does line) h = h
+  doing_over script_line.Expects h = tt
+  doing_over script_line.Nothing h = tt
 
   either_over : (o : Option OwnWord) (f : OwnWord → Result SessionCommand LineError) (r : Result SessionCommand LineError)
       → ((word : OwnWord) → IfOk (f word) Over) → IfOk r Over → IfOk (option_map_or f o r) Over
@@ -70,7 +74,7 @@ module _ (p : Fields) where
   command_over (word ∷ arguments) =
       either_over (own_word word) _ _ (λ own. own_over own arguments)
       (passed (LineOver names) Over (line_of names (word ∷ arguments)) _
-      (line_over names (word ∷ arguments)) (λ line over. doing_over line (line_is_over names line over)))
+      (line_over names (word ∷ arguments)) doing_over)
 
   -- what the words of a line ask for is over the names
   pub input_over : (words : List Text) (command : SessionCommand)

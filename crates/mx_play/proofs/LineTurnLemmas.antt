@@ -5,7 +5,7 @@ use Rattle.mx_stamps.proofs.Lists.{append_nil}
 use Rattle.mx_nodelaws.specs.Core.{Core}
 use Rattle.mx_knowledge.specs.Facts.{Known}
 use Rattle.mx_lines.specs.declared.commands.SessionCommand.{SessionCommand}
-use Rattle.mx_lines.specs.declared.commands.SessionCommand.TheVariants.{Does, Undo, Redo, Show, Events, Mark, Help, End, Nothing}
+use Rattle.mx_lines.specs.declared.commands.SessionCommand.TheVariants.{Does, Expects, Undo, Redo, Show, Events, Script, Mark, Help, End, Nothing}
 use Rattle.mx_plan.specs.Text.{Text}
 use Rattle.mx_plan.specs.Fields.{Fields}
 use Rattle.mx_play.specs.Commands.{IsTurnOf, Turn, executes, refuses, rests}
@@ -46,10 +46,11 @@ module _ (p : Fields) where
   pub turn_of_line : (line : Text) (of : Input) (buffer : Text) (t : Turn) → IsInputOf p line of buffer → IsTurnOf of buffer t → IsTurnOfLine p line t
   turn_of_line line (input.Command command) buffer (executes done from) x y =
       (y.1 ∙ x.0, subst (λ (c : SessionCommand). AsksFor p line c) (sym y.0) x.1)
-  turn_of_line line (input.Command command) buffer (refuses done fault) x y = subst (λ (c : SessionCommand). AsksFor p line c) (sym y) x.1
+  turn_of_line line (input.Command command) buffer (refuses done from fault) x y =
+      (y.1 ∙ x.0, subst (λ (c : SessionCommand). AsksFor p line c) (sym y.0) x.1)
   turn_of_line line (input.Command command) buffer (rests why) x y = absurd y
   turn_of_line line (input.Fault fault) buffer (executes done from) x y = absurd y
-  turn_of_line line (input.Fault fault) buffer (refuses done why) x y = absurd y
+  turn_of_line line (input.Fault fault) buffer (refuses done from why) x y = absurd y
   turn_of_line line (input.Fault fault) buffer (rests None) x y = absurd (none_is_some fault y)
   turn_of_line line (input.Fault fault) buffer (rests (Some why)) x y = subst (λ (f : InputFault). HasFault p line f) (same_fault fault why y) x
   turn_of_line line input.Eof buffer t x y = absurd x
@@ -61,33 +62,37 @@ ends_command Redo from = refl
 ends_command (Show to) from = refl
 ends_command Events from = refl
 ends_command Mark from = refl
+ends_command Expects from = refl
+ends_command Script from = refl
 ends_command Help from = refl
 ends_command End from = refl
 ends_command Nothing from = refl
 
-refused_command : {H S M : Type 0} (core : Core H S M) (fault : InputFault) (done : SessionCommand) (s : SessionState S M) → CanRefuse core fault done s → false ≡ is_end (input.Command done)
-refused_command core fault (Does line) s h = refl
-refused_command core fault (Undo count) s h = refl
-refused_command core fault Redo s h = refl
-refused_command core fault (Show to) s h = absurd h
-refused_command core fault Events s h = absurd h
-refused_command core fault Mark s h = absurd h
-refused_command core fault Help s h = absurd h
-refused_command core fault End s h = absurd h
-refused_command core fault Nothing s h = absurd h
+refused_command : {H S M : Type 0} (core : Core H S M) (fault : InputFault) (done : SessionCommand) (from : Text) (s : SessionState S M) → CanRefuse core fault done from s → false ≡ is_end (input.Command done)
+refused_command core fault (Does line) from s h = refl
+refused_command core fault (Undo count) from s h = refl
+refused_command core fault Redo from s h = refl
+refused_command core fault (Show to) from s h = absurd h
+refused_command core fault Events from s h = absurd h
+refused_command core fault Mark from s h = absurd h
+refused_command core fault Expects from s h = refl
+refused_command core fault Script from s h = absurd h
+refused_command core fault Help from s h = absurd h
+refused_command core fault End from s h = absurd h
+refused_command core fault Nothing from s h = absurd h
 
 module _ {H S M : Type 0} (core : Core H S M) (letter_text : Fields → M → Text) (knows : S → List Known) (p : Fields) (shape : H) where
   pub ends_as : (of : Input) (buffer : Text) (t : Turn) (old new : SessionState S M) (text : Text) → IsTurnOf of buffer t → Takes core letter_text knows p shape t old new text → ends t ≡ is_end of
   ends_as (input.Command command) buffer (executes done from) old new text y x =
       ends_command done from ∙ ap (λ (c : SessionCommand). is_end (input.Command c)) y.0
-  ends_as (input.Command command) buffer (refuses done fault) old new text y x =
-      refused_command core fault done old x.0 ∙ ap (λ (c : SessionCommand). is_end (input.Command c)) y
+  ends_as (input.Command command) buffer (refuses done from fault) old new text y x =
+      refused_command core fault done from old x.0 ∙ ap (λ (c : SessionCommand). is_end (input.Command c)) y.0
   ends_as (input.Command command) buffer (rests why) old new text y x = absurd y
   ends_as (input.Fault fault) buffer (executes done from) old new text y x = absurd y
-  ends_as (input.Fault fault) buffer (refuses done why) old new text y x = absurd y
+  ends_as (input.Fault fault) buffer (refuses done from why) old new text y x = absurd y
   ends_as (input.Fault fault) buffer (rests why) old new text y x = refl
   ends_as input.Eof buffer (executes done from) old new text y x = absurd y
-  ends_as input.Eof buffer (refuses done why) old new text y x = absurd y
+  ends_as input.Eof buffer (refuses done from why) old new text y x = absurd y
   ends_as input.Eof buffer (rests why) old new text y x = refl
 
 -- ---- a loop over lines

@@ -6,7 +6,7 @@ use Rattle.mx_stamps.proofs.Lists.{append_nil}
 use Rattle.mx_nodelaws.specs.Core.{Core}
 use Rattle.mx_knowledge.specs.Facts.{Known}
 use Rattle.mx_lines.specs.declared.commands.SessionCommand.{SessionCommand}
-use Rattle.mx_lines.specs.declared.commands.SessionCommand.TheVariants.{Does, Redo, Undo}
+use Rattle.mx_lines.specs.declared.commands.SessionCommand.TheVariants.{Does, Expects, Redo, Undo}
 use Rattle.mx_lines.specs.declared.line.Line.{Line}
 use Rattle.mx_plan.specs.Text.{Text}
 use Rattle.mx_plan.specs.Fields.{Fields}
@@ -17,7 +17,7 @@ use Rattle.mx_commands.specs.Runs.{closing_text}
 use Rattle.mx_play.specs.Histories.{first_state}
 use Rattle.mx_play.specs.Sessions.{IsSession, SessionState, at_start}
 use Rattle.mx_play.specs.Printed.{GetsAsides, IsReported, if_done}
-use Rattle.mx_play.specs.Turns.{AreReported, HasDone, HasExecuted, HasRedone, HasRun, HasTurned, HasUndone, IsPlayed, PrintsTurn, Reports, RunsOn, Takes, TakesAll, TakesTurn, redone_text, undone_text}
+use Rattle.mx_play.specs.Turns.{AreReported, HasDone, HasExecuted, HasExpected, HasRedone, HasRun, HasTurned, HasUndone, IsPlayed, PrintsTurn, Reports, RunsOn, Takes, TakesAll, TakesTurn, redone_text, undone_text}
 use Rattle.mx_play.specs.Commands.{Turn, executes, refuses, turn_fault}
 use Rattle.mx_play.specs.Lines.{lines_of}
 use Rattle.mx_play.specs.LineTurns.{AreTurnsOf, ReadsInput, ends, has_ended, is_end}
@@ -33,7 +33,7 @@ module _ {H S M : Type 0} (core : Core H S M) (letter_text : Fields → M → Te
   turned_by : (fault : Option InputFault) (command : SessionCommand) (line : Text) (a b : SessionState S M) (text : Text)
       → HasExecuted core letter_text knows p shape fault command line a b text → HasTurned core letter_text knows p shape (input.Command command) line fault a b text
   turned_by None command line a b text x = record { turn = executes command line; is = (refl, refl); faulty = refl; takes = x }
-  turned_by (Some fault) command line a b text x = record { turn = refuses command fault; is = refl; faulty = refl; takes = x }
+  turned_by (Some fault) command line a b text x = record { turn = refuses command line fault; is = (refl, refl); faulty = refl; takes = x }
 
   pub turned_on_ok : {E : Type 0} (r : Result (Option InputFault) E) (command : SessionCommand) (line : Text) (a b : SessionState S M) (text : Text)
       → IfOk r (λ fault. HasExecuted core letter_text knows p shape fault command line a b text)
@@ -61,6 +61,12 @@ module _ {H S M : Type 0} (core : Core H S M) (letter_text : Fields → M → Te
   executed_redo (Ok None) from a b t text empty x y = (x, y ∙ ap (λ (l : Text). l ++ redone_text a b) empty)
   executed_redo (Ok (Some fault)) from a b t text empty x y = (x.0, record { same = x.1; printed = y ∙ append_nil t ∙ empty })
   executed_redo (Err e) from a b t text empty x y = tt
+
+  pub executed_expect : {E : Type 0} (r : Result (Option InputFault) E) (from : Text) (a : SessionState S M) (text : Text) → text ≡ [] → IfOk r (λ fault. HasExpected from a fault)
+      → IfOk r (λ fault. HasExecuted core letter_text knows p shape fault Expects from a a text)
+  executed_expect (Ok None) from a text empty x = (x, record { same = refl; printed = empty })
+  executed_expect (Ok (Some fault)) from a text empty x = (x, record { same = refl; printed = empty })
+  executed_expect (Err e) from a text empty x = tt
 
   -- a turn, and the line of its fault
   pub turn_reported : {T E : Type 0} (r : Result T E) (k : ℕ) (of : Input) (line : Text) (fault : Option InputFault) (a b : SessionState S M) (o o' : Seen)

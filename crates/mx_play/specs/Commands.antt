@@ -38,18 +38,18 @@ IsSecondWord line word =
 -- since the line is at fault, or since there is no line
 pub data Turn : Type 0 where
   executes : SessionCommand → Text → Turn
-  refuses : SessionCommand → InputFault → Turn
+  refuses : SessionCommand → Text → InputFault → Turn
   rests : Option InputFault → Turn
 
 -- the fault of a turn, if it has one
 abbrev pub turn_fault : Turn → Option InputFault
 turn_fault (executes done from) = None
-turn_fault (refuses done fault) = Some fault
+turn_fault (refuses done from fault) = Some fault
 turn_fault (rests fault) = fault
 
 abbrev pub IsTurnOf : Input → Text → Turn → Type 0
 IsTurnOf (input.Command command) line (executes done from) = (done ≡ command) × (from ≡ line)
-IsTurnOf (input.Command command) line (refuses done fault) = done ≡ command
+IsTurnOf (input.Command command) line (refuses done from fault) = (done ≡ command) × (from ≡ line)
 IsTurnOf (input.Fault fault) line (rests why) = why ≡ Some fault
 IsTurnOf input.Eof line (rests why) = why ≡ None
 IsTurnOf _ line _ = ⊥

@@ -2,6 +2,7 @@ pub mod Help
 pub mod Printed
 pub mod Cuts
 pub mod Histories
+pub mod SessionScripts
 pub mod Views
 pub mod Commands
 pub mod Lines

@@ -79,7 +79,7 @@ module _ (p : Fields) where
   -- the turn is that of this line
   abbrev pub IsTurnOfLine : Text → Turn → Type 0
   IsTurnOfLine line (executes command from) = (from ≡ line) × AsksFor line command
-  IsTurnOfLine line (refuses command fault) = AsksFor line command
+  IsTurnOfLine line (refuses command from fault) = (from ≡ line) × AsksFor line command
   IsTurnOfLine line (rests (Some fault)) = HasFault line fault
   IsTurnOfLine line (rests None) = ⊥
 

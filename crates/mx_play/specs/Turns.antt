@@ -5,7 +5,7 @@ use Rattle.std.specs.Str.{IsUtf8}
 use Rattle.mx_nodelaws.specs.Core.{Core}
 use Rattle.mx_network.specs.Step.{RunsTo}
 use Rattle.mx_lines.specs.declared.commands.SessionCommand.{SessionCommand}
-use Rattle.mx_lines.specs.declared.commands.SessionCommand.TheVariants.{Does, Undo, Redo, Show, Events, Mark, Help, End, Nothing}
+use Rattle.mx_lines.specs.declared.commands.SessionCommand.TheVariants.{Does, Expects, Undo, Redo, Show, Events, Script, Mark, Help, End, Nothing}
 use Rattle.mx_lines.specs.declared.line.Line.{Line}
 use Rattle.mx_plan.specs.Text.{Text}
 use Rattle.mx_plan.specs.Fields.{Fields}
@@ -13,6 +13,7 @@ use Rattle.mx_knowledge.specs.Facts.{Known}
 use Rattle.mx_io.specs.Outputs.{Held}
 use Rattle.mx_cli.specs.Reports.{Seen}
 use Rattle.mx_commands.specs.Runs.{closing_text}
+use Rattle.mx_scripts.specs.Expectations.{IsMet, IsNotMet}
 use Rattle.mx_scripts.specs.Files.{file_text}
 use Rattle.mx_scripts.specs.Lines.{Repeats, StopsWithin}
 use Rattle.mx_scripts.specs.Played.{AreOver, events_of}
@@ -25,6 +26,7 @@ use Rattle.mx_play.specs.LineTurns.{AreTurns, AreTurnsOf, has_ended}
 use Rattle.mx_play.specs.Histories.{Leads, Makes, events_in, first_state}
 use Rattle.mx_play.specs.Printed.{AreAsides, IsReported, steps_line}
 use Rattle.mx_play.specs.Sessions.{SessionState, at_start}
+use Rattle.mx_play.specs.SessionScripts.{session_script}
 use Rattle.mx_play.specs.Views.{mark_line, view_text}
 use Rattle.mx_play.specs.declared.input.Input.{Input}
 use Rattle.mx_play.specs.declared.faults.InputFault.{InputFault}
@@ -123,14 +125,31 @@ module _ {H S M : Type 0} (core : Core H S M) (letter_text : Fields → M → Te
   HasDone p (Some fault) line old new text =
       CanRefuseLine core fault line old × IsShown [] old new text
 
--- the command is refused with this fault: its line stops, fewer lines were done than it undoes, or
--- nothing was undone that it could redo. Other commands are never refused
-abbrev pub CanRefuse : {H S M : Type 0} → Core H S M → InputFault → SessionCommand
+module _ {S M : Type 0} (from : Text) (s : SessionState S M) where
+  -- the newest item has the outcome that the line `from` expects
+  abbrev pub IsAsExpected : Type 0
+  IsAsExpected = IsUtf8 from → IsMet from s.state.cluster.trace
+
+  -- the line `from` is refused with this fault: there is no item, or the newest has another outcome
+  abbrev pub CanRefuseOutcome : InputFault → Type 0
+  CanRefuseOutcome fault =
+      (why : LineFailure) × (IsUtf8 from → IsNotMet from s.state.cluster.trace why)
+      × (fault ≡ input_fault.Line why)
+
+  abbrev pub HasExpected : Option InputFault → Type 0
+  HasExpected None = IsAsExpected
+  HasExpected (Some fault) = CanRefuseOutcome fault
+
+-- the command of the line `from` is refused with this fault: the line stops or expects another
+-- outcome, fewer lines were done than it undoes, or nothing was undone that it could redo. Other
+-- commands are never refused
+abbrev pub CanRefuse : {H S M : Type 0} → Core H S M → InputFault → SessionCommand → Text
     → SessionState S M → Type 0
-CanRefuse core fault (Does line) s = CanRefuseLine core fault line s
-CanRefuse core fault (Undo count) s = CanRefuseUndo core fault count s
-CanRefuse core fault Redo s = CanRefuseRedo core fault s
-CanRefuse core fault _ s = ⊥
+CanRefuse core fault (Does line) from s = CanRefuseLine core fault line s
+CanRefuse core fault Expects from s = CanRefuseOutcome from s fault
+CanRefuse core fault (Undo count) from s = CanRefuseUndo core fault count s
+CanRefuse core fault Redo from s = CanRefuseRedo core fault s
+CanRefuse core fault _ from s = ⊥
 
 -- what is printed of lines that are undone or redone
 module _ {S M : Type 0} (old new : SessionState S M) where
@@ -149,6 +168,7 @@ module _ {H S M : Type 0} (core : Core H S M) (letter_text : Fields → M → Te
   -- the command of the line `from` leads from one session to another, and prints the text
   abbrev pub Executes : SessionCommand → Text → SessionState S M → SessionState S M → Text → Type 0
   Executes (Does line) from old new text = IsDone core letter_text p line old new text
+  Executes Expects from old new text = IsAsExpected from old × IsShown [] old new text
   Executes (Undo count) from old new text =
       IsUndone core p shape count old new × (text ≡ undone_text old new)
   Executes Redo from old new text = IsRedone core old new × (text ≡ redone_text old new)
@@ -156,6 +176,8 @@ module _ {H S M : Type 0} (core : Core H S M) (letter_text : Fields → M → Te
       IsShown (view_text core letter_text p knows to old.state) old new text
   Executes Events from old new text =
       IsShown (file_text p (events_of old.state.cluster.trace)) old new text
+  Executes Script from old new text =
+      IsShown (session_script p old.state.cluster.sent old.done) old new text
   Executes Mark from old new text =
       (word : Text) × (IsUtf8 from → IsSecondWord from word)
       × IsShown (mark_line word) old new text
@@ -168,12 +190,12 @@ module _ {H S M : Type 0} (core : Core H S M) (letter_text : Fields → M → Te
       → SessionState S M → Text → Type 0
   HasExecuted None command from old new text = Executes command from old new text
   HasExecuted (Some fault) command from old new text =
-      CanRefuse core fault command old × IsShown [] old new text
+      CanRefuse core fault command from old × IsShown [] old new text
 
   abbrev pub Takes : Turn → SessionState S M → SessionState S M → Text → Type 0
   Takes (executes command from) old new text = Executes command from old new text
-  Takes (refuses command fault) old new text =
-      CanRefuse core fault command old × IsShown [] old new text
+  Takes (refuses command from fault) old new text =
+      CanRefuse core fault command from old × IsShown [] old new text
   Takes (rests fault) old new text = IsShown [] old new text
 
   -- these turns lead from one session to another, one after another, and print the text

@@ -5,7 +5,7 @@ ghost use Rattle.std.specs.Str.{IsUtf8};
 ghost use Rattle.mx_format.specs.LetterTexts.{letter_text};
 ghost use Rattle.mx_play.specs.Commands.{IsSecondWord, IsOverPlan, second_of};
 ghost use Rattle.mx_play.specs.Sessions.{IsSession};
-ghost use Rattle.mx_play.specs.Turns.{HasDone, HasExecuted};
+ghost use Rattle.mx_play.specs.Turns.{HasDone, HasExecuted, HasExpected};
 ghost use Rattle.mx_play.specs.Views.{mark_line};
 ghost use Rattle.mx_lines.specs.Names.{texts_of};
 ghost use Rattle.mx_scripts.specs.Scripts.{IsOver};
@@ -15,13 +15,14 @@ use crate::help::add_words;
 use crate::interpreter::repeat;
 use crate::run_texts::add_events;
 use crate::session::{Session, Setting};
+use crate::session_script::add_script;
 use crate::undo::{event_count, redo_and_print, truncate, undo_and_print};
 use crate::views::show;
 use mx_format::Letter;
 use mx_knowledge::Knowledge;
 use mx_lines::{Line, SessionCommand, words_in};
 use mx_nodelaws::Exclusion;
-use mx_scripts::LineFailure;
+use mx_scripts::{LineFailure, compare_outcome};
 use std::alloc::{AllocError, Global};
 use std::str;
 
@@ -45,6 +46,7 @@ where
 {
     match command {
         SessionCommand::Does(line) => do_line(setting, line, session, text),
+        SessionCommand::Expects => expect(setting.alloc, line, session),
         SessionCommand::Undo(count) => undo_and_print(setting, *count, session, text),
         SessionCommand::Redo => redo_and_print(setting, session, text),
         SessionCommand::Show(to) => {
@@ -53,6 +55,10 @@ where
         }
         SessionCommand::Events => {
             add_events(setting.plan, &session.state, text)?;
+            Ok(None)
+        }
+        SessionCommand::Script => {
+            add_script(setting.plan, session, text)?;
             Ok(None)
         }
         SessionCommand::Mark => {
@@ -112,6 +118,31 @@ fn commit<C: Exclusion>(before: usize, session: &mut Session<C>) -> Result<(), A
     Ok(())
 }
 
+/// Compares the outcome of the last event with the words of a line after its first.
+fn expect<C: Exclusion>(
+    alloc: Global,
+    line: &[u8],
+    session: &Session<C>,
+) -> Result<Option<InputFault>, AllocError>
+    ensures { IfOk result (HasExpected line.now session.now) }
+{
+    match compare_outcome(alloc, text_of(line), session.state.cluster().trace()) {
+        Ok(()) => Ok(None),
+        Err(LineFailure::Memory) => Err(AllocError),
+        Err(failure) => Ok(Some(InputFault::Line(failure))),
+    }
+}
+
+/// Returns a line as a text, or `""` if it is not UTF-8.
+fn text_of(line: &[u8]) -> &str
+    ensures { IsUtf8 line.now → result.now ≡ line.now }
+{
+    match str::from_utf8(line) {
+        Ok(text) => text,
+        Err(_) => "",
+    }
+}
+
 fn add_mark(word: &str, text: &mut String) -> Result<(), AllocError>
     ensures { OnOk result (string_bytes text.new ≡ string_bytes text.old ++ mark_line word.now) }
 {
@@ -124,10 +155,7 @@ fn add_mark(word: &str, text: &mut String) -> Result<(), AllocError>
 fn second_word(alloc: Global, line: &[u8]) -> Result<&str, AllocError>
     ensures { IfOk result (λ word. IsUtf8 line.now → IsSecondWord line.now word.now) }
 {
-    match str::from_utf8(line) {
-        Ok(text) => second_in(alloc, text),
-        Err(_) => Ok(""),
-    }
+    second_in(alloc, text_of(line))
 }
 
 fn second_in(alloc: Global, text: &str) -> Result<&str, AllocError>

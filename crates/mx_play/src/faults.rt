@@ -4,6 +4,7 @@ ghost use Rattle.std.specs.Prelude.{◌≡◌, Some, string_bytes};
 ghost use Rattle.mx_play.specs.Printed.{input_fault_text, session_line};
 
 use mx_lines::{FirstWords, LineFault};
+use mx_network::Entry;
 use mx_plan::Plan;
 use mx_scripts::{LineFailure, message_of};
 use std::alloc::{AllocError, Global};
@@ -58,15 +59,17 @@ impl fmt::Display for InputFaultLine {
     }
 }
 
+/// Returns a colon and a message about a faulty line, or nothing. `trace` has the events before it.
 pub(crate) fn message_about(
     alloc: Global,
     plan: &Plan,
     fault: &InputFault,
     line: &[u8],
+    trace: &[Entry],
 ) -> Result<String, AllocError> {
     match (fault, str::from_utf8(line)) {
         (InputFault::Line(failure), Ok(text)) => {
-            message_of(alloc, plan, FirstWords::OfSessions, failure, text)
+            message_of(alloc, plan, FirstWords::OfSessions, failure, text, trace)
         }
         _ => Ok(String::new(alloc)),
     }

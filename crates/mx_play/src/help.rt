@@ -32,14 +32,17 @@ const WORDS: &str = "ask N         node N asks to enter\n\
     again N M     the parcel from N to M that arrived last arrives once more\n\
     cut N M       the link between N and M is cut: no parcel arrives over it\n\
     cut N         all links of node N are cut\n\
+    partition N .. | M ..  each link between a node left of | and one right of it is cut\n\
     heal          all links work again\n\
     times T ..    does what follows T times\n\
+    expect ..     compares the outcome of the last event with what follows\n\
     show          prints each node, and the parcels under way\n\
     show N        prints node N, and the parcels under way to it\n\
     undo          undoes the last line that was done\n\
     undo K        undoes the last K lines that were done\n\
     redo          reverses the last undo\n\
     events        prints the events so far, as a file that `mx replay` reads\n\
+    script        prints what has happened so far, as a script\n\
     mark WORD     prints `mark WORD`\n\
     help          lists these lines\n\
     end           prints the nodes and the verdict, and ends the session\n\

@@ -14,6 +14,7 @@ mod run_texts;
 mod session;
 mod session_files;
 mod session_run;
+mod session_script;
 mod shapes;
 mod shown_nodes;
 mod shown_parcels;

@@ -128,7 +128,7 @@ where
     ensures passed { OnOk result (O.keeps_back out.new ≡ false) }
 {
     let fault = execute_and_print(setting, input, line, session, out)?;
-    report(setting, number, &fault, line, err)
+    report(setting, number, &fault, line, session, err)
 }
 
 fn execute_and_print<C: Exclusion + Knowledge, O: Output>(
@@ -194,13 +194,14 @@ fn report<C: Exclusion, E: Output>(
     number: u64,
     fault: &Option<InputFault>,
     line: &[u8],
+    session: &Session<C>,
     err: &mut E,
 ) -> Result<(), Stop>
     ensures { OnOk result
         (Reports number fault.now (E.written err.old) (E.written err.new)) }
 {
     match fault {
-        Some(fault) => report_fault(setting, number, fault, line, err),
+        Some(fault) => report_fault(setting, number, fault, line, session, err),
         None => Ok(()),
     }
 }
@@ -210,12 +211,14 @@ fn report_fault<C: Exclusion, E: Output>(
     number: u64,
     fault: &InputFault,
     line: &[u8],
+    session: &Session<C>,
     err: &mut E,
 ) -> Result<(), Stop>
     ensures { OnOk result
         (Reports number (Some fault.now) (E.written err.old) (E.written err.new)) }
 {
-    let message = message_about(setting.alloc, setting.plan, fault, line)?;
+    let trace = session.state.cluster().trace();
+    let message = message_about(setting.alloc, setting.plan, fault, line, trace)?;
     let said = InputFaultLine {
         number,
         fault: *fault,

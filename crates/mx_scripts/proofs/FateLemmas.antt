@@ -16,7 +16,7 @@ delivers_none sent _ f h = refl
 
 -- ---- which parcels are under way
 
-and_left : (a b : Bool) → a ≡ false → (a && b) ≡ false
+pub and_left : (a b : Bool) → a ≡ false → (a && b) ≡ false
 and_left true true e = e
 and_left true false e = refl
 and_left false b e = refl

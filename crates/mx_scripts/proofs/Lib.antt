@@ -7,3 +7,4 @@ pub mod ReadLemmas
 pub mod StopLemmas
 pub mod OverLemmas
 pub mod LineLemmas
+mod PartitionLemmas

@@ -16,15 +16,18 @@ use Rattle.mx_plan.specs.Text.{Text}
 use Rattle.mx_plan.specs.Fields.{Fields}
 use Rattle.mx_lines.specs.Names.{known_of, texts_of}
 use Rattle.mx_lines.specs.declared.line.Line.{Line}
+use Rattle.mx_lines.specs.declared.line.ScriptLine.{ScriptLine}
+use Rattle.mx_lines.specs.declared.line.ScriptLine.TheVariants as script_line
 use Rattle.mx_lines.specs.declared.orders.Order.{Order}
 use Rattle.mx_lines.specs.declared.orders.Order.TheVariants as order
 use Rattle.mx_lines.specs.declared.orders.Scope.TheVariants.{Link}
+use Rattle.mx_scripts.specs.Expectations.{IsNotMet}
 use Rattle.mx_scripts.specs.Fates.{Fates, is_under_way}
-use Rattle.mx_scripts.specs.Lines.{DoesAll, DoesIfSome, DoesText, IsNext, Once, Performs, IsNotDone, Misreads, Reads, Repeats, StopsAfter, StopsAt, StopsBy, StopsWithin}
+use Rattle.mx_scripts.specs.Lines.{DoesAll, DoesRead, DoesText, IsNext, Once, Performs, IsNotDone, Misreads, Reads, Repeats, StopsAfter, StopsAt, StopsBy, StopsWithin}
 use Rattle.mx_scripts.specs.Files.{file_text}
 use Rattle.mx_scripts.specs.Played.{Plays, events_of}
 use Rattle.mx_scripts.specs.ScriptFiles.{IsFileOfScript, StopsFrom}
-use Rattle.mx_scripts.proofs.OverLemmas.{read_over}
+use Rattle.mx_scripts.proofs.OverLemmas.{IsLineOver, read_over}
 use Rattle.mx_scripts.proofs.PlayedLemmas.{file_of_played, noted, plays_step}
 use Rattle.mx_scripts.specs.Scripts.{HasLine, IsLineOf, IsOver, failure_of_step}
 use Rattle.mx_scripts.specs.States.{Admits, Brings, IsAllowed, IsDrawnOf, IsNotApplied, RunState, before_any}
@@ -58,6 +61,7 @@ module _ {P : Type 0} (d : Fates) (sent : List (ℕ × ℕ × P)) (nodes registe
   next_drawn (order.ArrivesAgain from to) (suc done) e over is = absurd (not_none e is)
   next_drawn (order.LinksChange change) zero e over is = subst Drawn (sym is) tt
   next_drawn (order.LinksChange change) (suc done) e over is = absurd (not_none e is)
+  next_drawn (order.Parts sides) done e over is = subst Drawn (sym is.2) tt
 
 -- ---- an event that is next may happen, where it is no delivery over a link that is cut
 
@@ -84,6 +88,7 @@ module _ {S M : Type 0} (s : RunState S M) where
   next_some (order.ArrivesAgain from to) (suc done) e is admits = absurd (not_none e is)
   next_some (order.LinksChange change) zero e is admits = subst Allowed (sym is) tt
   next_some (order.LinksChange change) (suc done) e is admits = absurd (not_none e is)
+  next_some (order.Parts sides) done e is admits = subst Allowed (sym is.2) tt
 
   pub next_allowed : (o : Order) (done : ℕ) (next : Option SessionEvent) → IsNext s.fates s.cluster.sent o done next → Admits s next → IfSome next (IsAllowed s)
   next_allowed o done None is admits = tt
@@ -232,20 +237,25 @@ module _ {H S M : Type 0} (core : Core H S M) where
       let mid : RunState S M = x.0 in
       repeats_few o times x.2 mid new x.5 (performs_few o 0 x.1 old mid x.3 few)
 
-  does_few : (read : Option Line) (old new : RunState S M) → DoesIfSome core read old new → length old.cluster.trace ≤ MAX_EVENTS → length new.cluster.trace ≤ MAX_EVENTS
-  does_few None old new x few = same_few old new x few
-  does_few (Some line) old new x few = repeats_few line.order line.times x.0 old new x.1 few
+  does_few : (text : Text) (read : ScriptLine) (old new : RunState S M) → DoesRead core text read old new → length old.cluster.trace ≤ MAX_EVENTS → length new.cluster.trace ≤ MAX_EVENTS
+  does_few text (script_line.Does line) old new x few = repeats_few line.order line.times x.0 old new x.1 few
+  does_few text script_line.Expects old new x few = same_few old new x.0 few
+  does_few text script_line.Nothing old new x few = same_few old new x few
 
 module _ {H S M : Type 0} (core : Core H S M) (p : Fields) where
-  does_plays : (read : Option Line) (old new : RunState S M) → IfSome read (λ line. IsOver (length p.nodes) (length p.registers) line.order) → DoesIfSome core read old new
+  plays_still : (old new : RunState S M) → new ≡ old → Plays core (length p.nodes) (length p.registers) old.cluster new.cluster
+  plays_still old new is = plays_same core (length p.nodes) (length p.registers) old.cluster new.cluster (ap (λ (s : RunState S M). s.cluster) is)
+
+  does_plays : (text : Text) (read : ScriptLine) (old new : RunState S M) → IsLineOver (length p.nodes) (length p.registers) read → DoesRead core text read old new
       → Plays core (length p.nodes) (length p.registers) old.cluster new.cluster
-  does_plays None old new over x = plays_same core (length p.nodes) (length p.registers) old.cluster new.cluster (ap (λ (s : RunState S M). s.cluster) x)
-  does_plays (Some line) old new over x = repeats_plays core (length p.nodes) (length p.registers) line.order line.times x.0 old new over x.1
+  does_plays text (script_line.Does line) old new over x = repeats_plays core (length p.nodes) (length p.registers) line.order line.times x.0 old new over x.1
+  does_plays text script_line.Expects old new over x = plays_still old new x.0
+  does_plays text script_line.Nothing old new over x = plays_still old new x
 
   text_plays : (text : Text) (old new : RunState S M) → DoesText core p text old new → Plays core (length p.nodes) (length p.registers) old.cluster new.cluster
   text_plays text old new x =
       let reads = x.1 in
-      does_plays x.0 old new (read_over (known_of p) (texts_of reads.0) x.0 (sym reads.2)) x.2
+      does_plays text x.0 old new (read_over (known_of p) (texts_of reads.0) x.0 (sym reads.2)) x.2
 
   -- the events of all lines lead from one cluster to another
   pub all_plays : (texts : List Text) (old new : RunState S M) → DoesAll core p texts old new → Plays core (length p.nodes) (length p.registers) old.cluster new.cluster
@@ -259,7 +269,7 @@ module _ {H S M : Type 0} (core : Core H S M) (p : Fields) where
   -- ---- there are no more events than may be
 
   text_few : (text : Text) (old new : RunState S M) → DoesText core p text old new → length old.cluster.trace ≤ MAX_EVENTS → length new.cluster.trace ≤ MAX_EVENTS
-  text_few text old new x few = does_few core x.0 old new x.2 few
+  text_few text old new x few = does_few core text x.0 old new x.2 few
 
   pub all_few : (texts : List Text) (old new : RunState S M) → DoesAll core p texts old new → length old.cluster.trace ≤ MAX_EVENTS → length new.cluster.trace ≤ MAX_EVENTS
   all_few [] old new x few = same_few old new x few
@@ -312,10 +322,20 @@ module _ {H S M : Type 0} (core : Core H S M) (p : Fields) where
   misread text old why (inl x) = inl x
   misread text old why (inr x) = inr (inl x)
 
-  pub not_repeated : {T : Type 0} (r : Result T LineFailure) (text : Text) (line : Line) (old : RunState S M) → Reads p text (Some line)
+  pub not_repeated : {T : Type 0} (r : Result T LineFailure) (text : Text) (line : Line) (old : RunState S M) → Reads p text (script_line.Does line)
       → IfErr r (StopsWithin core line.order line.times old) → IfErr r (IsNotDone core p text old)
   not_repeated (Ok t) text line old reads x = tt
-  not_repeated (Err why) text line old reads x = inr (inr (line, reads, x))
+  not_repeated (Err why) text line old reads x = inr (inr (inl (line, reads, x)))
+
+  not_met : (text : Text) (old : RunState S M) (why : LineFailure) → Reads p text script_line.Expects → (why ≡ failure.Memory) ⊎ IsNotMet text old.cluster.trace why → IsNotDone core p text old why
+  not_met text old why reads (inl x) = inl x
+  not_met text old why reads (inr x) = inr (inr (inr (reads, x)))
+
+  -- the newest item has not the outcome that the line expects
+  pub not_expected : {T : Type 0} (r : Result T LineFailure) (text : Text) (old : RunState S M) → Reads p text script_line.Expects
+      → IfErr r (λ why. (why ≡ failure.Memory) ⊎ IsNotMet text old.cluster.trace why) → IfErr r (IsNotDone core p text old)
+  not_expected (Ok t) text old reads x = tt
+  not_expected (Err why) text old reads x = not_met text old why reads x
 
   -- the line after those that were yielded is not done
   pub stops_here : (texts : List Text) (yielded : List (Bor Text)) (text : Text) (old mid : RunState S M) (why : LineFailure) → DoesAll core p (texts_of yielded) old mid

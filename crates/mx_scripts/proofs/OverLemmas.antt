@@ -13,10 +13,12 @@ use Rattle.mx_events.specs.declared.kind.EventKind.TheVariants as kind
 use Rattle.mx_plan.specs.Text.{Text}
 use Rattle.mx_explorer.specs.Drawn.{IsDrawn}
 use Rattle.mx_events.specs.Arguments.{event_of, node_in, register_in}
-use Rattle.mx_lines.specs.Lines.{done_times, line_at, line_of, repeated, times_of}
+use Rattle.mx_lines.specs.Lines.{done_times, expects, line_at, line_of, repeated, times_of}
 use Rattle.mx_lines.specs.Names.{Known}
 use Rattle.mx_lines.specs.Numbers.{number_of}
-use Rattle.mx_lines.specs.Orders.{and_then, argument_at, arguments_at, between, number_at, order_at, order_before, order_between, order_by, order_of, order_with}
+use Rattle.mx_lines.specs.Refusals.{and_then}
+use Rattle.mx_lines.specs.Sides.{sides_of}
+use Rattle.mx_lines.specs.Orders.{argument_at, arguments_at, between, number_at, order_at, order_before, order_between, order_by, order_of, order_with}
 use Rattle.mx_lines.specs.Verbs.{kinds_of, verb_of, verb_of_all}
 use Rattle.mx_events.specs.declared.argument.Argument.{Argument}
 use Rattle.mx_events.specs.declared.argument.Argument.TheVariants as argument
@@ -24,7 +26,8 @@ use Rattle.mx_events.specs.declared.argument.ArgumentKind.{ArgumentKind}
 use Rattle.mx_events.specs.declared.argument.ArgumentKind.TheVariants as wanted
 use Rattle.mx_lines.specs.declared.errors.Expected.{Expected}
 use Rattle.mx_lines.specs.declared.errors.LineError.{LineError}
-use Rattle.mx_lines.specs.declared.line.Line.{Line}
+use Rattle.mx_lines.specs.declared.line.ScriptLine.{ScriptLine}
+use Rattle.mx_lines.specs.declared.line.ScriptLine.TheVariants as script_line
 use Rattle.mx_lines.specs.declared.orders.LinkChange.TheVariants as change
 use Rattle.mx_lines.specs.declared.orders.Order.TheVariants as order
 use Rattle.mx_lines.specs.declared.verbs.Verb.{Verb}
@@ -69,6 +72,10 @@ chained P Q (Some a) f h more = more a h
 pub any : {A : Type 0} (o : Option A) → IfSome o (λ _. ⊤)
 any None = tt
 any (Some a) = tt
+
+any_ok : {A : Type 0} (r : Result A LineError) → IfOk r (λ _. ⊤)
+any_ok (Ok a) = tt
+any_ok (Err e) = tt
 
 -- ---- names
 
@@ -175,6 +182,12 @@ module _ (nodes registers : ℕ) where
 
 -- ---- lines
 
+-- an event of a line names nodes below `nodes` and registers below `registers`
+abbrev pub IsLineOver : ℕ → ℕ → ScriptLine → Type 0
+IsLineOver nodes registers (script_line.Does line) = IsOver nodes registers line.order
+IsLineOver nodes registers script_line.Expects = ⊤
+IsLineOver nodes registers script_line.Nothing = ⊤
+
 module _ (names : Known) where
   number_within : (nodes registers place : ℕ) (word : Text) (expected : Expected)
       → IfOk (number_at place word expected) (IsWithin nodes registers)
@@ -231,13 +244,14 @@ module _ (names : Known) where
       → IfOk (order_at names place word words) (IsOver (length names.nodes) (length names.registers))
   at_over place word words =
       choice (IsOver (length names.nodes) (length names.registers)) (bytes_eq word (codes "times")) _ _ tt
-      (before_over place word words)
+      (choice (IsOver (length names.nodes) (length names.registers)) (bytes_eq word (codes "partition")) _ _
+      (passed (λ s. ⊤) (IsOver (length names.nodes) (length names.registers)) (sides_of names place words) _ (any_ok (sides_of names place words)) (λ s h. tt))
+      (before_over place word words))
 
-  pub LineOver : Option Line → Type 0
-  LineOver read = IfSome read (λ line. IsOver (length names.nodes) (length names.registers) line.order)
+  abbrev pub LineOver : ScriptLine → Type 0
+  LineOver read = IsLineOver (length names.nodes) (length names.registers) read
 
   single_over : (times place : ℕ) (word : Text) (words : List Text) → IfOk (line_at names times place word words) LineOver
-  unfolding LineOver
   single_over times place word words =
       passed (IsOver (length names.nodes) (length names.registers)) LineOver (order_at names place word words) _
       (at_over place word words) (λ o over. over)
@@ -250,26 +264,20 @@ module _ (names : Known) where
   repeated_over [] = tt
   repeated_over (count ∷ words) =
       passed (λ t. ⊤) LineOver (times_of count) (done_times names words) (any_ok (times_of count)) (λ t h. done_over words t)
-    where
-      any_ok : (r : Result ℕ LineError) → IfOk r (λ _. ⊤)
-      any_ok (Ok t) = tt
-      any_ok (Err e) = tt
+
+  expects_over : (words : List Text) → IfOk (expects words) LineOver
+  expects_over [] = tt
+  expects_over (word ∷ words) = tt
 
   pub line_over : (words : List Text) → IfOk (line_of names words) LineOver
-  unfolding LineOver
   line_over [] = tt
   line_over (word ∷ words) =
-      choice LineOver (bytes_eq word (codes "times")) _ _ (repeated_over words) (single_over 1 0 word words)
+      choice LineOver (bytes_eq word (codes "times")) _ _ (repeated_over words)
+      (choice LineOver (bytes_eq word (codes "expect")) _ _ (expects_over words) (single_over 1 0 word words))
 
   -- what the words of a line ask for is over the names
-  pub read_over : (words : List Text) (line : Option Line)
-      → ◌≡◌ {A = Result (Option Line) LineError} (Ok line) (line_of names words)
-      → IfSome line (λ l. IsOver (length names.nodes) (length names.registers) l.order)
-  unfolding LineOver
-  read_over words line is =
-      subst (λ (x : Result (Option Line) LineError). IfOk x LineOver) (sym is) (line_over words)
-
-  -- the same of a line, in words that others can read
-  pub line_is_over : (read : Option Line) → LineOver read → IfSome read (λ line. IsOver (length names.nodes) (length names.registers) line.order)
-  unfolding LineOver
-  line_is_over read h = h
+  pub read_over : (words : List Text) (read : ScriptLine)
+      → ◌≡◌ {A = Result ScriptLine LineError} (Ok read) (line_of names words)
+      → IsLineOver (length names.nodes) (length names.registers) read
+  read_over words read is =
+      subst (λ (x : Result ScriptLine LineError). IfOk x LineOver) (sym is) (line_over words)

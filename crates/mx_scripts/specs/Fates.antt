@@ -54,9 +54,9 @@ relinked change f = record { gone = f.gone; last = f.last; links = changed chang
 abbrev pub is_under_way : Fates → ℕ → Bool
 is_under_way f k = not (slice_index_or f.gone k true)
 
--- parcel k satisfies `is_so`, and no parcel that was sent before it does
-abbrev pub IsOldest : (ℕ → Bool) → ℕ → Type 0
-IsOldest is_so k = IsTrue (is_so k) × ((j : ℕ) → j < k → is_so j ≡ false)
+-- k is the first number that satisfies `is_so`: of numbers of parcels, that of the oldest
+abbrev pub IsFirst : (ℕ → Bool) → ℕ → Type 0
+IsFirst is_so k = IsTrue (is_so k) × ((j : ℕ) → j < k → is_so j ≡ false)
 
 -- the parcel was sent, and its link is cut
 abbrev pub is_held : {P : Type 0} → Fates → Option (ℕ × ℕ × P) → Bool

@@ -4,6 +4,7 @@ pub mod Scripts
 pub mod Links
 pub mod Fates
 pub mod States
+pub mod Expectations
 pub mod Lines
 pub mod ScriptFiles
 pub mod Printed

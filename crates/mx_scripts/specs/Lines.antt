@@ -1,5 +1,5 @@
 -- What a line of a script does.
-use Rattle.std.specs.Prelude.{ℕ, zero, suc, ◌≡◌, ◌≤◌, ◌⊎◌, Bool, false, List, [], ◌∷◌, ◌++◌, Option, Some, None, Ok, Err, slice_get, slice_index_or, min, take, ◌+◌, ◌-◌, ◌^◌}
+use Rattle.std.specs.Prelude.{ℕ, zero, suc, ◌≡◌, ◌≤◌, ◌⊎◌, Bool, false, List, [], ◌∷◌, ◌++◌, Option, Some, None, Ok, Err, slice_get, slice_index_or, min, take, ◌+◌, ◌-◌, ◌^◌, ◌/◌, ◌%◌}
 use Rattle.std.specs.Borrow.{Bor}
 use Rattle.mx_stamps.specs.declared.limits.TheConstants.{MAX_EVENTS}
 use Rattle.mx_nodelaws.specs.Core.{Core}
@@ -13,11 +13,15 @@ use Rattle.mx_lines.specs.declared.errors.LineFault.{LineFault}
 use Rattle.mx_lines.specs.declared.errors.LineFault.TheVariants.{NotUnderWay, NotDelivered, TooMany}
 use Rattle.mx_lines.specs.declared.errors.LineError.{LineError}
 use Rattle.mx_lines.specs.declared.line.Line.{Line}
+use Rattle.mx_lines.specs.declared.line.ScriptLine.{ScriptLine}
+use Rattle.mx_lines.specs.declared.line.ScriptLine.TheVariants as script_line
+use Rattle.mx_lines.specs.declared.orders.LinkChange.TheVariants.{Cut}
 use Rattle.mx_lines.specs.declared.orders.Order.{Order}
 use Rattle.mx_lines.specs.declared.orders.Order.TheVariants as order
 use Rattle.mx_lines.specs.declared.orders.Scope.TheVariants.{Link}
-use Rattle.mx_scripts.specs.Fates.{Fates, IsOldest, NoneWaits, can_arrive, is_waiting}
-use Rattle.mx_scripts.specs.Links.{link_of}
+use Rattle.mx_scripts.specs.Expectations.{IsMet, IsNotMet}
+use Rattle.mx_scripts.specs.Fates.{Fates, IsFirst, NoneWaits, can_arrive, is_waiting}
+use Rattle.mx_scripts.specs.Links.{is_across, link_of}
 use Rattle.mx_scripts.specs.Scripts.{IsLineOf}
 use Rattle.mx_scripts.specs.States.{Bars, Brings, IsAllowed, IsNotApplied, RunState}
 use Rattle.mx_scripts.specs.declared.line_failure.LineFailure.{LineFailure}
@@ -28,10 +32,14 @@ use Rattle.mx_scripts.specs.declared.state.SessionEvent.TheVariants.{Happens, Is
 abbrev pub arrival : ℕ → SessionEvent
 arrival k = Happens (Deliver k)
 
--- the event of the oldest parcel that satisfies `is_so`; `None` if no parcel does
+-- the event that cuts the link of this index
+abbrev pub cut : ℕ → SessionEvent
+cut link = LinksChange (Cut (link / 21) (link % 21))
+
+-- the event of the first number that satisfies `is_so`; `None` if no number does
 abbrev pub Finds : (ℕ → Bool) → (ℕ → SessionEvent) → Option SessionEvent → Type 0
 Finds is_so event None = (k : ℕ) → is_so k ≡ false
-Finds is_so event (Some e) = (k : ℕ) × IsOldest is_so k × (e ≡ event k)
+Finds is_so event (Some e) = (k : ℕ) × IsFirst is_so k × (e ≡ event k)
 
 -- the next event of an order that has just one: it satisfies `IsIt`, and once it is done there is
 -- none
@@ -58,6 +66,7 @@ module _ {P : Type 0} (d : Fates) (sent : List (ℕ × ℕ × P)) where
   IsNext (order.AllAreLost scope) done next = Finds (is_waiting d sent scope) IsLost next
   IsNext (order.ArrivesAgain from to) done next = Once done (λ e. IsAgain d from to e) next
   IsNext (order.LinksChange change) done next = Once done (λ e. e ≡ LinksChange change) next
+  IsNext (order.Parts sides) done next = Finds (is_across sides d.links) cut next
 
   -- an order has no next event, since there is no such parcel
   abbrev pub Misses : Order → ℕ → LineFault → Type 0
@@ -78,8 +87,8 @@ IsNoNext s order done fault =
     ⊎ ((next : Option SessionEvent) × IsNext s.fates s.cluster.sent order done next
     × Bars s next fault)
 
--- what the words of a line ask for, without its comment; `None` if it has no words
-abbrev pub Reads : Fields → Text → Option Line → Type 0
+-- what the words of a line ask for, without its comment
+abbrev pub Reads : Fields → Text → ScriptLine → Type 0
 Reads p text read =
     (words : List (Bor Text)) × AreWords (before_comment text) words
     × (line_of (known_of p) (texts_of words) ≡ Ok read)
@@ -137,14 +146,16 @@ module _ {H S M : Type 0} (core : Core H S M) where
       ⊎ ((mid : RunState S M) × (es : List SessionEvent) × Performs order 0 old es mid
       × StopsWithin order times mid why)
 
-  -- what a line asks for was done; a line without words changes nothing
-  abbrev pub DoesIfSome : Option Line → RunState S M → RunState S M → Type 0
-  DoesIfSome None old new = new ≡ old
-  DoesIfSome (Some line) old new = Does line old new
+  -- what a line asks for was done. A line that expects an outcome is done if the newest item has
+  -- that outcome, and changes nothing; nor does a line without words
+  abbrev pub DoesRead : Text → ScriptLine → RunState S M → RunState S M → Type 0
+  DoesRead text (script_line.Does line) old new = Does line old new
+  DoesRead text script_line.Expects old new = (new ≡ old) × IsMet text old.cluster.trace
+  DoesRead text script_line.Nothing old new = new ≡ old
 
   module _ (p : Fields) where
     abbrev pub DoesText : Text → RunState S M → RunState S M → Type 0
-    DoesText text old new = (read : Option Line) × Reads p text read × DoesIfSome read old new
+    DoesText text old new = (read : ScriptLine) × Reads p text read × DoesRead text read old new
 
     -- all lines were done, each in the state to which those before it lead
     abbrev pub DoesAll : List Text → RunState S M → RunState S M → Type 0
@@ -152,12 +163,15 @@ module _ {H S M : Type 0} (core : Core H S M) where
     DoesAll (text ∷ texts) old new =
         (mid : RunState S M) × DoesText text old mid × DoesAll texts mid new
 
-    -- why a line is not done: memory ran out, a word is wrong, or its order stops
+    -- why a line is not done: memory ran out, a word is wrong, its order stops, or the newest item
+    -- has not the outcome that it expects
     abbrev pub IsNotDone : Text → RunState S M → LineFailure → Type 0
     IsNotDone text old why =
         (why ≡ failure.Memory)
         ⊎ (Misreads p text why
-        ⊎ ((line : Line) × Reads p text (Some line) × StopsWithin line.order line.times old why))
+        ⊎ (((line : Line) × Reads p text (script_line.Does line)
+        × StopsWithin line.order line.times old why)
+        ⊎ (Reads p text script_line.Expects × IsNotMet text old.cluster.trace why)))
 
     -- the first n lines were done, and the next one is not, for this reason
     abbrev pub StopsAt : List Text → RunState S M → ℕ → LineFailure → Type 0

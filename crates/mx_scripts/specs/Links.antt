@@ -1,7 +1,9 @@
 -- Which links are cut.
-use Rattle.std.specs.Prelude.{ℕ, ◌+◌, ◌*◌, ◌||◌, Bool, true, false, List, replicate, slice_index_or, slice_set}
+use Rattle.std.specs.Prelude.{ℕ, ◌+◌, ◌*◌, ◌/◌, ◌%◌, ◌||◌, ◌&&◌, Bool, true, false, List, nat_lt, not, replicate, slice_index_or, slice_set}
+use Rattle.mx_lines.specs.Sides.{crosses}
 use Rattle.mx_lines.specs.declared.orders.LinkChange.{LinkChange}
 use Rattle.mx_lines.specs.declared.orders.LinkChange.TheVariants.{Cut, CutAll, Heal}
+use Rattle.mx_lines.specs.declared.sides.Sides.{Sides}
 
 -- for each link, whether it was cut by itself; for each node, whether all its links were cut
 pub record LinkState : Type 0 where
@@ -28,3 +30,9 @@ abbrev pub is_cut : LinkState → ℕ → ℕ → Bool
 is_cut l from to =
     slice_index_or l.cut (link_of from to) false
     || (slice_index_or l.apart from false || slice_index_or l.apart to false)
+
+-- the link of this index leads from the left side to the right side of a partition, and is not cut
+abbrev pub is_across : Sides → LinkState → ℕ → Bool
+is_across sides l link =
+    nat_lt link 441
+    && (crosses sides (link / 21) (link % 21) && not (is_cut l (link / 21) (link % 21)))

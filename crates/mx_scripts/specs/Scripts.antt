@@ -8,7 +8,7 @@ use Rattle.mx_lines.specs.Texts.{fault_text}
 use Rattle.mx_lines.specs.declared.errors.LineFault.{LineFault}
 use Rattle.mx_lines.specs.declared.errors.LineFault.TheVariants.{NoNode, NoParcel}
 use Rattle.mx_lines.specs.declared.orders.Order.{Order}
-use Rattle.mx_lines.specs.declared.orders.Order.TheVariants.{Happens, Arrives, AllArrive, IsLost, AllAreLost, ArrivesAgain, LinksChange}
+use Rattle.mx_lines.specs.declared.orders.Order.TheVariants.{Happens, Arrives, AllArrive, IsLost, AllAreLost, ArrivesAgain, LinksChange, Parts}
 use Rattle.mx_cli.specs.declared.stop.Stop.{Stop}
 use Rattle.mx_cli.specs.declared.stop.Stop.TheVariants as stop
 use Rattle.mx_scripts.specs.declared.line_failure.RefusedLine.{RefusedLine}
@@ -24,6 +24,7 @@ IsOver nodes registers (IsLost from to) = ⊤
 IsOver nodes registers (AllAreLost scope) = ⊤
 IsOver nodes registers (ArrivesAgain from to) = ⊤
 IsOver nodes registers (LinksChange change) = ⊤
+IsOver nodes registers (Parts sides) = ⊤
 
 abbrev pub failure_of_step : StepFault → LineFailure
 failure_of_step step_fault.NoNode = failure.Refused NoNode

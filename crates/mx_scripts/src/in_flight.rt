@@ -1,10 +1,10 @@
-ghost use Rattle.std.specs.Prelude.{◌≡◌, ℕ, false, IfNone, IfSome, None, OnOk, slice_get, slice_index_or};
-ghost use Rattle.mx_scripts.specs.Fates.{IsOldest, arrived, at_first, can_arrive, can_pass, delivered, is_held, is_in, is_under_way, is_waiting, is_wanted, is_within, lost, noted, relinked};
-ghost use Rattle.mx_scripts.specs.Links.{is_cut, link_of};
+ghost use Rattle.std.specs.Prelude.{◌≡◌, ◌<◌, ℕ, false, IfNone, IfSome, None, OnOk, slice_get, slice_index_or};
+ghost use Rattle.mx_scripts.specs.Fates.{IsFirst, arrived, at_first, can_arrive, can_pass, delivered, is_held, is_in, is_under_way, is_waiting, is_wanted, is_within, lost, noted, relinked};
+ghost use Rattle.mx_scripts.specs.Links.{is_across, is_cut, link_of};
 
 use crate::links::{LINKS, Links, link};
 use crate::under_way::UnderWay;
-use mx_lines::{LinkChange, Scope};
+use mx_lines::{LinkChange, Scope, Sides};
 use mx_network::{Cluster, Event};
 use mx_nodelaws::Exclusion;
 use mx_stamps::NodeId;
@@ -172,7 +172,7 @@ impl InFlight {
         wanted: Wanted,
     ) -> Option<u64>
         ensures some { IfSome result
-            (IsOldest (is_wanted self.now cluster.now.sent scope.now wanted)) }
+            (IsFirst (is_wanted self.now cluster.now.sent scope.now wanted)) }
         ensures none { IfNone result ((k : ℕ)
             → is_wanted self.now cluster.now.sent scope.now wanted k ≡ false) }
     {
@@ -184,6 +184,15 @@ impl InFlight {
             number = self.under_way.after(number);
         }
         None
+    }
+
+    /// Returns the first link from the left side to the right side that is not cut.
+    pub(crate) fn first_across(&self, sides: &Sides) -> Option<usize>
+        ensures some { IfSome result (IsFirst (is_across sides.now self.now.links)) }
+        ensures none { IfNone result ((k : ℕ) → is_across sides.now self.now.links k ≡ false) }
+        ensures below { IfSome result (λ k. k < 441) }
+    {
+        self.links.first_across(sides)
     }
 
     pub(crate) fn last_between(&self, from: NodeId, to: NodeId) -> Option<u64>

@@ -2,6 +2,7 @@
 //! interpreter of lines.
 #![tactic(auto)]
 
+mod expectation;
 mod files;
 mod in_flight;
 mod line_failure;
@@ -15,6 +16,7 @@ mod state;
 mod texts;
 mod under_way;
 
+pub use expectation::compare_outcome;
 pub use files::{add_file, file_of, reads_back};
 pub use in_flight::InFlight;
 pub use line_failure::{LineFailure, RefusedLine, message_of};

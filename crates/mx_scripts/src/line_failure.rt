@@ -3,8 +3,9 @@
 ghost use Rattle.std.specs.Prelude.{◌≡◌, Some, string_bytes, IfOk};
 ghost use Rattle.mx_scripts.specs.Scripts.{IsRefused, script_line};
 
+use crate::expectation::add_other_outcome;
 use mx_lines::{FirstWords, LineError, LineFault, message, message_of_line, words_in};
-use mx_network::StepFault;
+use mx_network::{Entry, StepFault};
 use mx_plan::Plan;
 use std::alloc::{AllocError, AllocFailed, Global};
 use std::fmt;
@@ -102,16 +103,18 @@ impl fmt::Display for RefusedLine {
 }
 
 /// Returns the refused line with its message. Lack of memory as the `failure` is an error here.
+/// `trace` is that of all events before it.
 pub(crate) fn refused_line(
     alloc: Global,
     plan: &Plan,
     number: u64,
     failure: LineFailure,
     line: &str,
+    trace: &[Entry],
 ) -> Result<RefusedLine, AllocError>
     ensures { IfOk result (IsRefused number failure) }
 {
-    let message = message_of(alloc, plan, FirstWords::OfScripts, &failure, line)?;
+    let message = message_of(alloc, plan, FirstWords::OfScripts, &failure, line, trace)?;
     match failure {
         LineFailure::WrongWord(error) => Ok(RefusedLine {
             number,
@@ -129,14 +132,16 @@ pub(crate) fn refused_line(
     }
 }
 
-/// Returns a colon and a message about a line that is not done: about its wrong word, or the line
-/// itself if no word is wrong. `first_words` says with which words a line may begin.
+/// Returns a colon and a message about a line that is not done: about its wrong word, about the
+/// outcome that it does not expect, or else the line itself. `first_words` says with which words a
+/// line may begin, and `trace` has the events before the line.
 pub fn message_of(
     alloc: Global,
     plan: &Plan,
     first_words: FirstWords,
     failure: &LineFailure,
     line: &str,
+    trace: &[Entry],
 ) -> Result<String, AllocError> {
     let mut text = String::new(alloc);
     text.push_str(":")?;
@@ -145,6 +150,9 @@ pub fn message_of(
             let words = words_in(alloc, line)?;
             let said = message(alloc, plan, first_words, words.as_slice(), error)?;
             text.push_str(said.as_str())?;
+        }
+        LineFailure::Refused(LineFault::OtherOutcome) => {
+            add_other_outcome(alloc, line, trace, &mut text)?;
         }
         _ => text.push_str(message_of_line(alloc, line)?.as_str())?,
     }

@@ -1,9 +1,10 @@
 //! Which links are cut.
 
-ghost use Rattle.std.specs.Prelude.{◌≡◌, ◌<◌};
-ghost use Rattle.mx_scripts.specs.Links.{changed, is_cut, link_of, uncut};
+ghost use Rattle.std.specs.Prelude.{◌≡◌, ◌<◌, ◌/◌, ◌%◌, ℕ, false, IfNone, IfSome};
+ghost use Rattle.mx_scripts.specs.Fates.{IsFirst};
+ghost use Rattle.mx_scripts.specs.Links.{changed, is_across, is_cut, link_of, uncut};
 
-use mx_lines::LinkChange;
+use mx_lines::{LinkChange, Sides};
 use mx_stamps::{MAX_NODES, NodeId};
 use std::marker::Model;
 
@@ -35,6 +36,22 @@ pub(crate) fn link(from: NodeId, to: NodeId) -> usize
     usize::from(from.get()) * usize::from(MAX_NODES) + usize::from(to.get())
 }
 
+/// Returns the nodes that a link leads from and to.
+pub(crate) fn ends(link: usize) -> (NodeId, NodeId)
+    requires { link < 441 }
+    ensures from { result.0 ≡ link / 21 }
+    ensures to { result.1 ≡ link % 21 }
+{
+    (node(link / NODES), node(link % NODES))
+}
+
+fn node(number: usize) -> NodeId
+    requires { number < 21 }
+    ensures { result ≡ number }
+{
+    NodeId::of(number as u8).unwrap()
+}
+
 impl Links {
     pub(crate) fn uncut() -> Links
         ensures { result ≡ uncut }
@@ -64,5 +81,28 @@ impl Links {
         self.cut[link(from, to)]
             || self.apart[usize::from(from.get())]
             || self.apart[usize::from(to.get())]
+    }
+
+    /// Whether a link leads from the left side to the right side of a partition, and is not cut.
+    fn is_across(&self, sides: &Sides, link: usize) -> bool
+        requires { link < 441 }
+        ensures { result ≡ is_across sides.now self.now link }
+    {
+        let (from, to) = ends(link);
+        sides.crosses(from, to) && !self.is_cut(from, to)
+    }
+
+    /// Returns the first such link.
+    pub(crate) fn first_across(&self, sides: &Sides) -> Option<usize>
+        ensures some { IfSome result (IsFirst (is_across sides.now self.now)) }
+        ensures none { IfNone result ((k : ℕ) → is_across sides.now self.now k ≡ false) }
+        ensures below { IfSome result (λ k. k < 441) }
+    {
+        for link in 0..LINKS {
+            if self.is_across(sides, link) {
+                return Some(link);
+            }
+        }
+        None
     }
 }

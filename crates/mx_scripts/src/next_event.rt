@@ -1,14 +1,15 @@
 //! The next event that an order asks for.
 
-ghost use Rattle.std.specs.Prelude.{◌≡◌, None, Some, IfErr, IfOk, IfSome, OnOk, slice_index_or};
-ghost use Rattle.mx_scripts.specs.Fates.{IsOldest, NoneWaits, can_arrive, is_waiting};
-ghost use Rattle.mx_scripts.specs.Lines.{Finds, IsAgain, IsNext, IsNoNext, Misses, Once, arrival};
-ghost use Rattle.mx_scripts.specs.Links.{link_of};
+ghost use Rattle.std.specs.Prelude.{◌≡◌, ◌<◌, None, Some, IfErr, IfOk, IfSome, OnOk, slice_index_or};
+ghost use Rattle.mx_scripts.specs.Fates.{IsFirst, NoneWaits, can_arrive, is_waiting};
+ghost use Rattle.mx_scripts.specs.Lines.{Finds, IsAgain, IsNext, IsNoNext, Misses, Once, arrival, cut};
+ghost use Rattle.mx_scripts.specs.Links.{is_across, link_of};
 ghost use Rattle.mx_scripts.specs.States.{Admits, Bars, IsAllowed};
 
 use crate::in_flight::Wanted;
+use crate::links::ends;
 use crate::state::{SessionEvent, State};
-use mx_lines::{LineFault, Order, Scope};
+use mx_lines::{LineFault, LinkChange, Order, Scope, Sides};
 use mx_network::Event;
 use mx_nodelaws::Exclusion;
 use mx_stamps::{MAX_EVENTS, NodeId};
@@ -17,6 +18,15 @@ fn arrival(number: u64) -> SessionEvent
     ensures { result ≡ arrival number }
 {
     SessionEvent::Happens(Event::Deliver(number))
+}
+
+/// Returns the event that cuts a link.
+fn cut(link: usize) -> SessionEvent
+    requires { link < 441 }
+    ensures { result ≡ cut link }
+{
+    let (one, other) = ends(link);
+    SessionEvent::LinksChange(LinkChange::Cut(one, other))
 }
 
 fn once(done: u64, event: SessionEvent) -> Option<SessionEvent>
@@ -56,6 +66,7 @@ impl<C: Exclusion> State<C> {
             Order::AllArrive(scope) => Ok(self.next_arrival(scope)),
             Order::AllAreLost(scope) => Ok(self.next_loss(scope)),
             Order::Happens(event) => Ok(once(done, SessionEvent::Happens(*event))),
+            Order::Parts(sides) => Ok(self.next_cut(sides)),
             Order::LinksChange(change) => Ok(once(done, SessionEvent::LinksChange(*change))),
             Order::Arrives(from, to) => self.arrival_between(*from, *to, done),
             Order::ArrivesAgain(from, to) => self.arrival_again(*from, *to, done),
@@ -82,6 +93,15 @@ impl<C: Exclusion> State<C> {
     {
         match self.in_flight.oldest(&self.cluster, scope, Wanted::Waiting) {
             Some(number) => Some(SessionEvent::IsLost(number)),
+            None => None,
+        }
+    }
+
+    fn next_cut(&self, sides: &Sides) -> Option<SessionEvent>
+        ensures { Finds (is_across sides.now self.now.fates.links) cut result }
+    {
+        match self.in_flight.first_across(sides) {
+            Some(link) => Some(cut(link)),
             None => None,
         }
     }
@@ -143,7 +163,7 @@ impl<C: Exclusion> State<C> {
 
     fn oldest_between(&self, from: NodeId, to: NodeId) -> Result<u64, LineFault>
         ensures found { IfOk result
-            (IsOldest (is_waiting self.now.fates self.now.cluster.sent (Scope.Link from to))) }
+            (IsFirst (is_waiting self.now.fates self.now.cluster.sent (Scope.Link from to))) }
         ensures none { IfErr result (λ fault. (fault ≡ LineFault.NotUnderWay)
             × NoneWaits self.now.fates self.now.cluster.sent (Scope.Link from to)) }
     {

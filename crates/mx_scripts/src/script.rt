@@ -8,13 +8,14 @@ ghost use Rattle.mx_scripts.specs.Scripts.{HasLine, IsLineOf};
 ghost use Rattle.mx_scripts.specs.States.{Brings, IsAllowed, IsNotApplied, before_any};
 ghost use Rattle.mx_scripts.specs.declared.state.SessionEvent.{SessionEvent};
 
+use crate::expectation::compare_outcome;
 use crate::files::file_of;
 use crate::line_failure::{LineFailure, refused_line};
 use crate::recorder::Recorder;
 use crate::state::{SessionEvent, State};
 use mx_cli::{Stop, stop_with};
 use mx_commands::by_shape;
-use mx_lines::{Line, LineFault, Order, read_line, words_in};
+use mx_lines::{Line, LineFault, Order, ScriptLine, read_line, words_in};
 use mx_maekawa::Maekawa;
 use mx_nodelaws::Exclusion;
 use mx_plan::Plan;
@@ -94,7 +95,7 @@ fn refuse<C: Exclusion, K: Recorder<State<C>>>(
 ) -> Stop
     ensures { HasLine (IsLineOf number failure) result }
 {
-    match refused_line(alloc, plan, number, failure, line) {
+    match refused_line(alloc, plan, number, failure, line, state.trace()) {
         Ok(line) => match recorder.refused(plan, &line, state) {
             Ok(()) => stop_with(alloc, line),
             Err(_) => Stop::Memory,
@@ -115,12 +116,13 @@ fn do_line<C: Exclusion, K: Recorder<State<C>>>(
     ensures err { IfErr result (IsNotDone C.core plan.now line.now state.old) }
 {
     match line_in(alloc, plan, line)? {
-        Some(line) => repeat(plan, number, &line, state, recorder),
-        None => Ok(()),
+        ScriptLine::Does(line) => repeat(plan, number, &line, state, recorder),
+        ScriptLine::Expects => compare_outcome(alloc, line, state.trace()),
+        ScriptLine::Nothing => Ok(()),
     }
 }
 
-fn line_in(alloc: Global, plan: &Plan, line: &str) -> Result<Option<Line>, LineFailure>
+fn line_in(alloc: Global, plan: &Plan, line: &str) -> Result<ScriptLine, LineFailure>
     ensures ok { IfOk result (Reads plan.now line.now) }
     ensures err { IfErr result (λ why.
         (why ≡ LineFailure.Memory) ⊎ Misreads plan.now line.now why) }

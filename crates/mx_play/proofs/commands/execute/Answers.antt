@@ -4,7 +4,7 @@ use Rattle.mx_plan.specs.Text.{Text}
 use Rattle.mx_format.specs.LetterTexts.{letter_text}
 use Rattle.mx_play.specs.Sessions.{SessionState}
 use Rattle.mx_play.specs.Views.{mark_line}
-use Rattle.mx_play.proofs.TurnLemmas.{executed_line, executed_redo, executed_undo}
+use Rattle.mx_play.proofs.TurnLemmas.{executed_expect, executed_line, executed_redo, executed_undo}
 use Rattle.mx_play.proofs.commands.execute.Goals as goal
 
 pub do_line-requires : goal.do_line-requires
@@ -70,3 +70,19 @@ returns-in_ok-add_words-in-Help-clause-executed g c = rw c.in-Help.is (record { 
 
 pub returns-in_ok-add_words-in-Help-clause-is : goal.returns-in_ok-add_words-in-Help-clause-is
 returns-in_ok-add_words-in-Help-clause-is g c = c.requires.is
+
+pub returns-in-Expects-clause-executed : goal.returns-in-Expects-clause-executed
+returns-in-Expects-clause-executed g c =
+    let s = c.args.setting.now in
+    rw c.in-Expects.is (executed_expect g.C.Exclusion.core (letter_text g.C.Msg.Letter.parts) g.C.Knowledge.knows s.plan.now s.shape.now c.expect.result c.args.line.now c.args.session.now
+    (string_bytes c.args.text.now) c.requires.empty c.expect.ensures)
+
+pub returns-in-Expects-clause-is : goal.returns-in-Expects-clause-is
+returns-in-Expects-clause-is g c = c.requires.is
+
+pub returns-in_ok-add_script-in-Script-clause-executed :
+    goal.returns-in_ok-add_script-in-Script-clause-executed
+returns-in_ok-add_script-in-Script-clause-executed g c = rw c.in-Script.is (record { same = refl; printed = rw c.requires.empty at c.in_ok-add_script-in-Script.ensures })
+
+pub returns-in_ok-add_script-in-Script-clause-is : goal.returns-in_ok-add_script-in-Script-clause-is
+returns-in_ok-add_script-in-Script-clause-is g c = c.requires.is

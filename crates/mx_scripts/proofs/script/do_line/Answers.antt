@@ -1,7 +1,7 @@
-use Rattle.std.proofs.Common.{Option, arith, subst}
-use Rattle.mx_lines.specs.declared.line.Line.{Line}
+use Rattle.std.proofs.Common.{arith, subst}
+use Rattle.mx_lines.specs.declared.line.ScriptLine.{ScriptLine}
 use Rattle.mx_scripts.specs.Lines.{IsNotDone, Reads}
-use Rattle.mx_scripts.proofs.LineLemmas.{err_of, misread, not_repeated}
+use Rattle.mx_scripts.proofs.LineLemmas.{err_of, misread, not_expected, not_repeated}
 use Rattle.mx_scripts.proofs.script.do_line.Goals as goal
 
 pub line_in-requires : goal.line_in-requires
@@ -18,7 +18,12 @@ returns-in_err-line-clause-err g c =
     err_of (IsNotDone g.C.Exclusion.core p c.args.line.now old) c.from_residual.result why c.from_residual.ensures.1
     (misread g.C.Exclusion.core p c.args.line.now old why c.in_err-line.ensures.err)
 
-pub returns-in-Some-clause-err : goal.returns-in-Some-clause-err
-returns-in-Some-clause-err g c =
-    let reads = subst (λ (o : Option Line). Reads c.args.plan.now c.args.line.now o) c.in-Some.is c.in_ok-line.ensures.ok in
-    not_repeated g.C.Exclusion.core c.args.plan.now c.repeat.result c.args.line.now c.in-Some.line c.args.state.now reads c.repeat.ensures.err
+pub returns-in-Does-clause-err : goal.returns-in-Does-clause-err
+returns-in-Does-clause-err g c =
+    let reads = subst (λ (read : ScriptLine). Reads c.args.plan.now c.args.line.now read) c.in-Does.is c.in_ok-line.ensures.ok in
+    not_repeated g.C.Exclusion.core c.args.plan.now c.repeat.result c.args.line.now c.in-Does.line c.args.state.now reads c.repeat.ensures.err
+
+pub returns-in-Expects-clause-err : goal.returns-in-Expects-clause-err
+returns-in-Expects-clause-err g c =
+    let reads = subst (λ (read : ScriptLine). Reads c.args.plan.now c.args.line.now read) c.in-Expects.is c.in_ok-line.ensures.ok in
+    not_expected g.C.Exclusion.core c.args.plan.now c.compare_outcome.result c.args.line.now c.args.state.now reads c.compare_outcome.ensures.err

@@ -1,0 +1,91 @@
+//! What a line with `expect` says of the last event.
+
+ghost use Rattle.std.specs.Prelude.{◌≡◌, ◌⊎◌, ◌++◌, codes, string_bytes, IfErr, IfOk, OnOk};
+ghost use Rattle.mx_format.specs.EventTexts.{outcome_text};
+ghost use Rattle.mx_format.specs.Lines.{each_text};
+ghost use Rattle.mx_lines.specs.Names.{texts_of};
+ghost use Rattle.mx_scripts.specs.Expectations.{Expects, IsMet, IsNotMet, text_after_first};
+
+use crate::line_failure::LineFailure;
+use mx_format::OutcomeText;
+use mx_lines::{LineFault, Quoted, words_in};
+use mx_network::Entry;
+use std::alloc::{AllocError, Global};
+
+/// Compares the outcome of the newest item of a trace, as a text, with the words of a line after
+/// its first.
+///
+/// # Errors
+///
+/// `NoEvent` if the trace has no item, `OtherOutcome` if the texts differ, and `Memory` if memory
+/// runs out.
+pub fn compare_outcome(alloc: Global, line: &str, trace: &[Entry]) -> Result<(), LineFailure>
+    ensures ok { OnOk result (IsMet line.now trace.now) }
+    ensures err { IfErr result (λ why.
+        (why ≡ LineFailure.Memory) ⊎ IsNotMet line.now trace.now why) }
+{
+    let Some(newest) = trace.last() else {
+        return Err(LineFailure::Refused(LineFault::NoEvent));
+    };
+    let found = found_in(alloc, newest)?;
+    let expected = expected_in(alloc, line)?;
+    if found.as_str() != expected.as_str() {
+        return Err(LineFailure::Refused(LineFault::OtherOutcome));
+    }
+    Ok(())
+}
+
+fn found_in(alloc: Global, newest: &Entry) -> Result<String, AllocError>
+    ensures { IfOk result (λ text. string_bytes text ≡ outcome_text newest.now.outcome) }
+{
+    let mut text = String::new(alloc);
+    text.write(OutcomeText(&newest.outcome))?;
+    Ok(text)
+}
+
+/// Returns the words of a line after its first, with a space between them.
+fn expected_in(alloc: Global, line: &str) -> Result<String, AllocError>
+    ensures { IfOk result (λ text. Expects line.now (string_bytes text)) }
+{
+    let words = words_in(alloc, line)?;
+    text_after_first(alloc, words.as_slice())
+}
+
+fn text_after_first(alloc: Global, words: &[&str]) -> Result<String, AllocError>
+    ensures { IfOk result (λ text. string_bytes text ≡ text_after_first (texts_of words.now)) }
+{
+    let mut text = String::new(alloc);
+    if let [_, first, more @ ..] = words {
+        text.push_str(first)?;
+        add_more(more, &mut text)?;
+    }
+    Ok(text)
+}
+
+fn add_more(words: &[&str], text: &mut String) -> Result<(), AllocError>
+    ensures { OnOk result (string_bytes text.new
+        ≡ string_bytes text.old ++ each_text (λ word. codes " " ++ word) (texts_of words.now)) }
+{
+    for word in words {
+        text.push_str(" ")?;
+        text.push_str(word)?;
+    }
+    Ok(())
+}
+
+/// Appends the message that the newest item of a trace has another outcome than a line expects.
+pub(crate) fn add_other_outcome(
+    alloc: Global,
+    line: &str,
+    trace: &[Entry],
+    text: &mut String,
+) -> Result<(), AllocError> {
+    let Some(newest) = trace.last() else {
+        return Ok(());
+    };
+    let found = found_in(alloc, newest)?;
+    let expected = expected_in(alloc, line)?;
+    let found = Quoted(found.as_str());
+    let expected = Quoted(expected.as_str());
+    write!(text, " found {found}, expected {expected}")
+}
