@@ -100,8 +100,8 @@ def numbered(numbers, names):
 class Core:
     """What the algorithms have in common: a node's phase, its numbers, and the letters it puts out.
 
-    An algorithm adds permitted, request (what a node does that begins to wait), leave, tick, deliver, and
-    knows (the facts that are shown of a node).
+    An algorithm adds permitted, request (what a node does that begins to wait), leave, tick, deliver,
+    awaited (the nodes that a node waits for, while it waits) and knows (the facts that are shown of a node).
     """
 
     def __init__(self, me, plan, highest):
@@ -145,11 +145,15 @@ class Core:
         """The stamp of the present request, where there is one."""
         return [] if self.phase == IDLE else fact("request", [stamp_text(self.ours, names)])
 
-    def wanted(self, missing, names):
-        """What a node that waits needs yet, given the nodes whose permission is missing."""
+    def wanted(self, names):
+        """What a node that waits needs yet."""
         if self.phase != WAITING:
             return []
-        return ["may enter"] if self.permitted() else fact("missing", [names[node] for node in missing])
+        return ["may enter"] if self.permitted() else fact("missing", [names[node] for node in self.awaited()])
+
+    def is_ready(self):
+        """Whether the node is inside, or waits and may enter."""
+        return self.phase == INSIDE or self.phase == WAITING and self.permitted()
 
     def entered(self):
         """What an algorithm does on entering; nothing, unless it says so."""
@@ -180,10 +184,12 @@ class Ricart(Core):
     def permitted(self):
         return self.replied.issuperset(self.others)
 
+    def awaited(self):
+        return [node for node in self.others if node not in self.replied]
+
     def knows(self, names):
-        missing = [node for node in self.others if node not in self.replied]
         held_back = [stamp_text(self.deferred[node], names) for node in sorted(self.deferred)]
-        known = fact("clock", [str(self.highest)]) + self.current(names) + self.wanted(missing, names)
+        known = fact("clock", [str(self.highest)]) + self.current(names) + self.wanted(names)
         return known + fact("holds back", held_back)
 
     def request(self):
@@ -353,10 +359,12 @@ class Maekawa(Core):
     def permitted(self):
         return all(arbiter in self.held for arbiter in self.arbiters)
 
+    def awaited(self):
+        return [arbiter for arbiter in self.arbiters if arbiter not in self.held]
+
     def knows(self, names):
-        missing = [arbiter for arbiter in self.arbiters if arbiter not in self.held]
         known = fact("clock", [str(self.highest)]) + self.current(names)
-        known += fact("grants", numbered(self.held, names)) + self.wanted(missing, names)
+        known += fact("grants", numbered(self.held, names)) + self.wanted(names)
         known += fact("failed", [names[arbiter] for arbiter in sorted(self.failed)])
         return known + fact("inquired", numbered(self.inquired, names)) + self.arbiter.knows(names)
 
@@ -477,6 +485,9 @@ class Raymond(Core):
 
     def permitted(self):
         return self.holder == self.me and self.queue[:1] == [self.me]
+
+    def awaited(self):
+        return [] if self.holder == self.me else [self.holder]
 
     def knows(self, names):
         has_it = self.holder == self.me
@@ -856,11 +867,13 @@ class Replay:
         self.registers = plan["registers"]
         self.members = [Member(core) for core in cores(plan)]
         self.parcels = []  # of each, its sender, addressee and letter
+        self.delivered = set()  # the numbers of those that were delivered
         self.put = put  # takes a line
 
     def deliver(self, number):
         """Brings a parcel to its addressee; gives that and the outcome."""
         sender, addressee, letter = self.parcels[number]
+        self.delivered.add(number)
         member = self.members[addressee]
         return member, member.deliver(sender, letter)
 
@@ -896,11 +909,29 @@ class Replay:
         """The line that says how a node stands, and that of what it knows."""
         return [member.closing(self.names[member.core.me], self.registers), member.knowledge(self.names)]
 
+    def stuck(self, under_way=None):
+        """The line of a run that stands still, in a list: with no parcel under way, nodes wait, and no node is ready.
+        Under way are the parcels that were never delivered, unless their numbers are given."""
+        if under_way is None:
+            under_way = set(range(len(self.parcels))) - self.delivered
+        cores = [member.core for member in self.members]
+        waiting = [core for core in cores if core.phase == WAITING]
+        if under_way or not waiting or any(core.is_ready() for core in cores):
+            return []
+        return ["; ".join(["stuck: nothing under way", *map(self.wait, waiting)])]
+
+    def wait(self, core):
+        """That a node waits, and for whom."""
+        awaited = [self.names[node] for node in core.awaited()]
+        return " ".join([self.names[core.me], "waits", *(["for", *awaited] if awaited else [])])
+
     def close(self, with_state=False):
-        """Prints how the nodes stand, perhaps with what each knows, and the verdict."""
+        """Prints how the nodes stand, perhaps with what each knows and whether the run stands still, and the verdict."""
         for member in self.members:
             for line in self.state(member)[: 2 if with_state else 1]:
                 self.put(line)
+        for line in self.stuck() if with_state else ():
+            self.put(line)
         self.put("verdict sound")
 
 

@@ -4,3 +4,4 @@ pub mod EventLemmas
 pub mod ReplayLemmas
 pub mod ShownLemmas
 pub mod ViewedLemmas
+pub mod StandstillLemmas

@@ -32,10 +32,12 @@ use Rattle.mx_commands.specs.Runs.{at_rest, report_from, stepped}
 use Rattle.mx_commands.specs.Shown.{ShowsRunBy, new_lines, shown_closing, shown_entry, shown_from, shown_owner, shown_parcel, shown_step, shown_text, step_text, view_by, view_from, view_texts, where_shown}
 use Rattle.mx_commands.specs.declared.view.View.{View}
 
--- a text, and then a verdict that is sound
-pub with_verdict : (is_json : Bool) (t t1 t2 a : Text) (v : Verdict) → v ≡ Sound → t1 ≡ t ++ a → t2 ≡ t1 ++ verdict_text is_json v → t2 ≡ t ++ (a ++ verdict_text is_json Sound)
-with_verdict is_json t t1 t2 a v sound first second =
-    second ∙ ap₂ (λ (x : Text) (y : Verdict). x ++ verdict_text is_json y) first sound ∙ append_assoc t a (verdict_text is_json Sound)
+-- two texts, and then a verdict that is sound
+pub with_verdict : (is_json : Bool) (t t1 t2 t3 a b : Text) (v : Verdict) → v ≡ Sound → t1 ≡ t ++ a → t2 ≡ t1 ++ b → t3 ≡ t2 ++ verdict_text is_json v → t3 ≡ t ++ (a ++ (b ++ verdict_text is_json Sound))
+with_verdict is_json t t1 t2 t3 a b v sound first second third =
+    let verdict : Text = verdict_text is_json Sound in
+    third ∙ ap₂ (λ (x : Text) (y : Verdict). x ++ verdict_text is_json y) second sound ∙ append_assoc t1 b verdict
+    ∙ ap (λ (x : Text). x ++ (b ++ verdict)) first ∙ append_assoc t a (b ++ verdict)
 
 -- three texts, one after another
 pub three_written : {T E : Type 0} (t t1 t2 t3 a b c : Text) (r : Result T E) → t1 ≡ t ++ a → t2 ≡ t1 ++ b → OnOk r (t3 ≡ t2 ++ c) → OnOk r (t3 ≡ t ++ (a ++ b ++ c))

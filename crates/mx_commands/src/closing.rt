@@ -1,13 +1,15 @@
-//! The lines of a node, and the closing lines of a run: those of all nodes, and of the verdict.
+//! The lines of a node, and the closing lines of a run: those of all nodes, of a run that stands
+//! still, and of the verdict.
 
 ghost use Rattle.std.specs.Prelude.{◌≡◌, ◌<◌, ◌++◌, length, string_bytes, IfOk, OnOk};
 ghost use Rattle.mx_format.specs.Lines.{texts_from};
-ghost use Rattle.mx_commands.specs.Shown.{shown_closing, shown_member, shown_node};
+ghost use Rattle.mx_commands.specs.Shown.{shown_closing, shown_member, shown_node, shown_stuck};
 
+use crate::standstill::stuck_in;
 use crate::verdicts::add_verdict;
 use crate::view::View;
 use mx_explorer::{Verdict, judge};
-use mx_format::{add_facts_line, add_member_line, add_node_json};
+use mx_format::{add_facts_line, add_member_line, add_node_json, add_stuck};
 use mx_knowledge::Knowledge;
 use mx_member::Member;
 use mx_network::Cluster;
@@ -17,7 +19,8 @@ use mx_stamps::NodeId;
 use std::alloc::{AllocError, Global};
 
 impl View {
-    /// Appends what is shown at the end of a run: the nodes, and the verdict. Returns the verdict.
+    /// Appends what is shown at the end of a run: the nodes, whether the run stands still, and the
+    /// verdict. Returns the verdict.
     pub fn add_closing<C: Exclusion + Knowledge>(
         &self,
         alloc: Global,
@@ -31,6 +34,7 @@ impl View {
         ensures sound { IfOk result (λ verdict. verdict ≡ Verdict.Sound) }
     {
         self.add_nodes(alloc, plan, cluster, text)?;
+        self.add_standstill(alloc, plan, cluster, text)?;
         let verdict = judge(cluster.trace());
         add_verdict(self.is_json, verdict, text)?;
         Ok(verdict)
@@ -51,6 +55,25 @@ impl View {
             self.add_member(alloc, plan, node_at(plan, index), member, text)?;
         }
         Ok(())
+    }
+
+    /// Appends the line of a run that stands still, if the view has states.
+    fn add_standstill<C: Exclusion + Knowledge>(
+        &self,
+        alloc: Global,
+        plan: &Plan,
+        cluster: &Cluster<C>,
+        text: &mut String,
+    ) -> Result<(), AllocError>
+        requires { length cluster.now.members ≡ length plan.now.nodes }
+        ensures { OnOk result (string_bytes text.new ≡ string_bytes text.old
+            ++ shown_stuck plan.now self.now C.core C.knows cluster.now) }
+    {
+        if !self.has_state {
+            return Ok(());
+        }
+        let waiters = stuck_in(alloc, plan, cluster)?;
+        add_stuck(plan, self.is_json, waiters.as_slice(), text)
     }
 
     /// Appends what is shown of one node.

@@ -23,8 +23,9 @@ pub struct View {
     pub is_quiet: bool,
     /// Whether JSON is printed, in place of lines.
     pub is_json: bool,
-    /// Whether the lines of its node follow each event, and what a node knows is shown below each
-    /// line of a node. The JSON of a node always has what it knows.
+    /// Whether the lines of its node follow each event, what a node knows is shown below each line
+    /// of a node, and a run that stands still has a line. The JSON of a node always has what it
+    /// knows.
     pub has_state: bool,
 }
 

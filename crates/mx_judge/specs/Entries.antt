@@ -21,10 +21,12 @@ use Rattle.mx_judge.specs.declared.members.Member.TheVariants as member
 use Rattle.mx_judge.specs.declared.faults.ItemFault.{ItemFault}
 use Rattle.mx_judge.specs.declared.faults.ItemFault.TheVariants.{NoOutcome, NotEvent, Wrong}
 
--- the object is that of a parcel, a node or a verdict; it is passed over if it has no `act`
+-- the object is that of a parcel, a node, a run that stands still or a verdict; it is passed over if
+-- it has no `act`
 abbrev pub is_passed_over : Data → Bool
 is_passed_over d =
-    has_member (codes "kind") d || has_member (codes "phase") d || has_member (codes "verdict") d
+    has_member (codes "kind") d || has_member (codes "phase") d || has_member (codes "stuck") d
+    || has_member (codes "verdict") d
 
 -- the text of the first item; empty, if there is none or it is not a text
 abbrev pub first_text : List Data → Text

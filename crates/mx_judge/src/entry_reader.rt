@@ -32,7 +32,10 @@ pub(crate) fn item_in(plan: &Plan, value: &Value) -> Result<Option<Entry>, ItemF
 pub(crate) fn is_passed_over(value: &Value) -> bool
     ensures { result ≡ spec.is_passed_over (view value.now) }
 {
-    has_member(value, "kind") || has_member(value, "phase") || has_member(value, "verdict")
+    has_member(value, "kind")
+        || has_member(value, "phase")
+        || has_member(value, "stuck")
+        || has_member(value, "verdict")
 }
 
 fn is_bare_event(value: &Value) -> bool
