@@ -19,7 +19,7 @@ _mx() {
             draw) words="--seed --steps --walk --loss --repeat --in-order --help" ;;
             script) words="--help" ;;
             play) words="--help" ;;
-            picture) words="--from --to --node --letters --script --help" ;;
+            picture) words="--from --to --node --letters --script --trace --help" ;;
             count) words="--json --script --help" ;;
             judge) words="--json --help" ;;
             explain) words="--script --help" ;;

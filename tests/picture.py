@@ -1,7 +1,8 @@
 """Reads a picture of `mx picture` back, and compares what it shows with what a replay prints.
 
 Usage: tests/picture.py PLAN PRINTED PICTURE [--from K] [--to K] [--node N] [--letters], where PRINTED is what
-`mx replay`, or tests/oracle.py, prints of the same plan and events, and the options are those of the picture. It prints
+`mx replay`, or tests/oracle.py, prints of the same plan and events, and the options are those of the picture; or
+tests/picture.py PLAN TRACE PICTURE --trace JUDGED .., where JUDGED is what `mx judge` prints of the trace. It prints
 each thing that only one of the two has, and is silent where they have the same; and it sees that nothing reaches out of
 the page, and that it has nothing but drawing.
 """
@@ -17,7 +18,7 @@ CUT = 6  # how much shorter a bar is where the event at its end is left out
 COLUMNS = 60, 180  # how far apart the lines of nodes are, at least and at most
 SPAN = 2000  # how far apart the first and the last line are, at most
 GAP = 8  # the room between a text and the next line
-NEAR = {"text": 17, "air": 33}  # how far a text is from its node
+NEAR = {"text": 17, "air": 33, "reason": 17}  # how far a text is from its node
 NAMED_ROWS = 50  # after how many rows the names of the nodes come again
 LONG_ROWS, LONG_NODES = 26, 6  # from how many rows, or nodes, on an arrow is long, so that its text names the sender
 EDGE = 60  # the room at each edge for the indices of the events
@@ -28,6 +29,7 @@ markerWidth markerHeight markerUnits orient href""".split()
 ALGORITHMS = {"ricart": "Ricart and Agrawala's", "maekawa": "Maekawa's", "raymond": "Raymond's"}
 INKS = {"request": "request", "reply": "grant", "locked": "grant", "privilege": "grant"}
 GOSSIP = ["want", "base", "records"]
+ARGUMENTS = ["node", "from", "register", "upto", "parcel"]  # of an event in a trace; a value of `write` comes last
 
 
 class Run:
@@ -59,6 +61,30 @@ class Run:
         return self.parcels[int(args[0])][2] if word == "deliver" else self.names.index(args[0])
 
 
+class Trace(Run):
+    """A trace, without parcels, and what `mx judge` prints of it."""
+
+    def __init__(self, names, text, judged):
+        super().__init__(names, [])
+        self.judged = judged
+        is_array = text.lstrip().startswith("[")
+        items = json.loads(text) if is_array else [json.loads(line) for line in text.splitlines() if line.strip()]
+        self.events = [self.event_of(item) for item in items if "act" in item]
+        self.verdict = judged.splitlines()[1]
+        self.broken, self.why = None, None
+        if broken := re.search(r"^verdict broken at (\d+): (.*)\n(.*)", judged, re.MULTILINE):
+            self.broken, self.why = int(broken[1]), f"{broken[2]}, {broken[3]}"
+
+    @staticmethod
+    def event_of(item):
+        args = [str(item[key]) for key in ARGUMENTS if key in item]
+        args += [str(item["value"])] if item["act"] == "write" else []
+        values = [item[key] for key in ("cause", "number", "count") if key in item]
+        values += [item["value"]] if item["outcome"] == "value" else []
+        outcome = " ".join(map(str, [item["outcome"], *values]))
+        return item["act"], args, outcome, f"{item['act']} {' '.join(args)}: {outcome}"
+
+
 class Part:
     """The part of a run that is drawn."""
 
@@ -84,6 +110,8 @@ class Part:
         word, args, outcome, _ = run.events[index]
         if not self.has_index(index):
             return False
+        if isinstance(run, Trace):
+            return self.node is None or word != "deliver" and self.has_node(run.node_of(run.events[index]))
         if self.letters and word != "deliver" and outcome.split()[0] not in ("asked", "entered", "left", "cancelled"):
             return False
         if self.letters and word == "deliver" and (int(args[0]) in delivered or not run.is_original(int(args[0]))):
@@ -230,6 +258,9 @@ class Drawing:
         self.best[start, self.row] = "right" if start <= to else "left"
         self.add("air", start, self.row, f"#{numbers[0]} {text} to {self.run.names[to]}{more}")
 
+    def is_empty(self):
+        return all(text == ".." for kind, _, text in (thing for thing in self.things if thing[0] == "index"))
+
     def nodes(self):
         """The nodes that have a line."""
         everyone = range(len(self.run.names))
@@ -250,7 +281,7 @@ class Drawing:
         """The positions of the lines: as far apart as the texts want that are between two of them."""
         right, left = Counter(), Counter()
         for thing in self.things:
-            if thing[0] in ("text", "air"):
+            if thing[0] in NEAR:
                 _, node, row, text = thing
                 wants = right if self.best[node, row] == "right" else left
                 wants[node] = max(wants[node], NEAR[thing[0]] + room_of(text))
@@ -260,6 +291,45 @@ class Drawing:
         if sum(columns) > SPAN:
             columns = [max(min(width, SPAN // len(columns)), COLUMNS[0]) for width in wanted]
         return {node: sum(columns[:at]) for at, node in enumerate(nodes)}
+
+
+class TraceDrawing(Drawing):
+    """The same of a trace: each event alone, and a mark at the one that breaks a rule."""
+
+    def leave_out(self, index):
+        event = self.run.events[index]
+        if event[0] != "deliver" and (self.part.last is None or index <= self.part.last):
+            self.change(self.run.node_of(event), event[2], is_cut=True)
+
+    def draw(self, index):
+        event = self.run.events[index]
+        if event[0] != "deliver":
+            super().draw(index)
+            if index == self.run.broken:
+                self.mark(self.run.node_of(event))
+            return
+        self.add("index", self.row, str(index))
+        if index % 10 == 0:
+            self.add("guide", self.row)
+        self.add("aside", self.row, event[3])
+
+    def mark(self, node):
+        """The mark of the event in the present row, and why it is marked, in the next one."""
+        self.add("broken", node, self.row)
+        self.add("title", self.run.why)
+        self.row += 1
+        self.best[node, self.row] = "right"
+        self.add("reason", node, self.row, self.run.why)
+
+    def everything(self):
+        """An event of no node is left of the first line."""
+        first = self.nodes()[0]
+        asides = [thing for thing in self.things if thing[0] == "aside"]
+        self.things = [thing for thing in self.things if thing[0] != "aside"]
+        for _, row, told in asides:
+            self.add("air", first, row, told)
+            self.best[first, row] = "left"
+        return super().everything()
 
 
 def width_of(text):
@@ -346,6 +416,9 @@ def path_of(look, d, node_at):
         return "waits", node(x), top_of(y), foot_of(y + down)
     if line := re.fullmatch(r"M(\d+)-12V(\d+)", d):
         return "line", node(line[1]), row_of(line[2])
+    if broken := re.fullmatch(r"M(\d+) (\d+)m-15 0l-13-7v14z", d):
+        assert look == "broken"
+        return look, node(broken[1]), row_of(broken[2])
     if mark := re.fullmatch(r"M(\d+) (\d+)l(-?)26 13(m-3-3l6 6m0-6l-6 6|m-3 0a3 3 0 1 0 6 0a3 3 0 1 0-6 0)", d):
         x, y, side, end = mark.groups()
         assert look == ("overtaken" if end.startswith("m-3-3") else "pending")
@@ -402,7 +475,7 @@ def read_back(picture, names):
         elif part.tag == SVG + "path":
             thing = path_of(look, part.get("d"), node_at)
             (boxes if thing[0] == "inside" else things).append(thing)
-            if thing[0] in ("arrow", "tip", "start", "overtaken", "pending"):
+            if thing[0] in ("arrow", "tip", "start", "overtaken", "pending", "broken"):
                 things.append(("title", part[0].text))
             if thing[0] == "inside":
                 box_titles.append(part[0].text)
@@ -425,7 +498,7 @@ def read_back(picture, names):
                 sections[node, top_of(y)] = part.text
                 continue
             side = "left" if "left" in look else "right"
-            kind = "air" if "air" in look else "text"
+            kind = next((word for word in ("air", "reason") if word in look), "text")
             assert part.get("dx") == ("-" if side == "left" else "") + str(NEAR[kind])
             things.append((kind, node, row_of(y), part.text))
             sides[node, row_of(y)] = side
@@ -448,22 +521,38 @@ def arguments():
     parser.add_argument("--to", type=int, dest="last")
     parser.add_argument("--node")
     parser.add_argument("--letters", action="store_true")
+    parser.add_argument("--trace")
     return parser.parse_args()
+
+
+def drawing_of(plan, words):
+    """What the picture has to show, and the start of its title and of its heading."""
+    names = plan["nodes"]
+    part = Part(words.first, words.last, names.index(words.node) if words.node else None, words.letters)
+    with open(words.printed, encoding="utf-8") as file:
+        printed = file.read()
+    if words.trace is None:
+        run = Run(names, printed.splitlines())
+        what = f"{ALGORITHMS[plan['algorithm']]} algorithm"
+        drawing, told = Drawing(run, part), ""
+        title = f"{what}, nodes: {' '.join(names)}, events: {len(run.events)}"
+    else:
+        with open(words.trace, encoding="utf-8") as file:
+            run = Trace(names, printed, file.read())
+        what = "Trace"
+        drawing, told = TraceDrawing(run, part), f", {run.verdict}"
+        title = f"{what}, nodes: {' '.join(names)}\n{run.judged}"
+    heading = f"{what}, nodes: {len(names)}, sections entered: {drawing.entered}{told}"
+    return drawing, title, heading + part.text(names) + (", no events" if drawing.is_empty() else "")
 
 
 def main():
     words = arguments()
     with open(words.plan, encoding="utf-8") as file:
         plan = json.load(file)
-    with open(words.printed, encoding="utf-8") as file:
-        run = Run(plan["nodes"], file.read().splitlines())
-    part = Part(words.first, words.last, run.names.index(words.node) if words.node else None, words.letters)
-    drawing = Drawing(run, part)
-    title = f"{ALGORITHMS[plan['algorithm']]} algorithm, nodes: {' '.join(run.names)}, events: {len(run.events)}"
-    heading = f"{ALGORITHMS[plan['algorithm']]} algorithm, nodes: {len(run.names)}, sections entered: {drawing.entered}"
-    heading += part.text(run.names) + ("" if drawing.used else ", no events")
+    drawing, title, heading = drawing_of(plan, words)
     wanted = drawing.everything() + Counter([("title", title), ("heading", heading)])
-    there, sides, places = read_back(words.picture, run.names)
+    there, sides, places = read_back(words.picture, plan["nodes"])
     for thing in (wanted - there).elements():
         print("lacks", *thing)
     for thing in (there - wanted).elements():

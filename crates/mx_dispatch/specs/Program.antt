@@ -4,7 +4,7 @@ use Rattle.mx_plan.specs.Text.{Text}
 use Rattle.mx_io.specs.Told.{Telling}
 use Rattle.mx_cli.specs.Frames.{Runs, alone, both}
 use Rattle.mx_cli.specs.Reports.{Declines, ReportsUsage, Seen}
-use Rattle.mx_cli.specs.Requests.{Request, check, count, draw, explain, explore, judge, live, misfit, picture, play, replay, script}
+use Rattle.mx_cli.specs.Requests.{Request, check, count, draw, explain, explore, judge, live, misfit, picture, picture_trace, play, replay, script}
 use Rattle.mx_commands.specs.Commands.{IsCheck}
 use Rattle.mx_commands.specs.Viewed.{IsReplayed, has_options}
 use Rattle.mx_count.specs.Printed.{IsCount}
@@ -13,6 +13,7 @@ use Rattle.mx_explore.specs.Drawn.{IsDraw}
 use Rattle.mx_explore.specs.Explored.{IsExplored}
 use Rattle.mx_judge.specs.Judged.{IsJudgement}
 use Rattle.mx_picture.specs.Pictures.{IsPictured}
+use Rattle.mx_picture.specs.TracePictures.{IsTracePictured}
 use Rattle.mx_scripts.specs.Printed.{IsOnText, IsScript}
 
 -- What each request does, by what the source states about names, by whether the outputs take all
@@ -30,8 +31,10 @@ Does told (draw plan run) t u old new status =
     Runs (IsDraw run) told (alone plan) t u old new status
 Does told (script names) t u old new status =
     Runs IsScript told (both names true) t u old new status
-Does told (picture names part is_script) t u old new status =
+Does told (picture names part only_letters is_script) t u old new status =
     Runs (IsOnText is_script (IsPictured part)) told (both names true) t u old new status
+Does told (picture_trace names part) t u old new status =
+    Runs (IsTracePictured part) told (both names true) t u old new status
 Does told (count names is_json is_script) t u old new status =
     Runs (IsOnText is_script (IsCount is_json)) told (both names true) t u old new status
 Does told (judge names is_json) t u old new status =

@@ -16,7 +16,7 @@ use mx_explain::explain;
 use mx_explore::{Draw, Explore};
 use mx_io::{Output, Source};
 use mx_judge::Judge;
-use mx_picture::Picture;
+use mx_picture::{Picture, TracePicture};
 use mx_scripts::{OnScript, Script};
 use std::alloc::Global;
 
@@ -106,10 +106,17 @@ fn carry_out<S: Source, O: Output, E: Output>(
         Request::Picture {
             names,
             part,
+            only_letters,
             is_script,
         } => {
-            let picture = Picture(*part);
+            let picture = Picture {
+                part: *part,
+                only_letters: *only_letters,
+            };
             run_text(alloc, &picture, names, true, *is_script, source, out, err)
+        }
+        Request::PictureTrace(names, part) => {
+            run_both(alloc, &TracePicture(*part), names, true, source, out, err)
         }
         Request::Count {
             names,

@@ -1,2 +1,3 @@
 mod PictureLemmas
 mod SheetLemmas
+mod TraceLemmas

@@ -1,5 +1,5 @@
 -- A picture, from its lines, and what is printed where there is none.
-use Rattle.std.proofs.Common.{◌≡◌, ◌∙◌, ◌⊎◌, ◌++◌, ℕ, List, [], None, Result, Ok, Err, ap, false, inl, inr, length, refl, subst, sym, true}
+use Rattle.std.proofs.Common.{◌≡◌, ◌∙◌, ◌⊎◌, ◌++◌, ℕ, Bool, List, [], None, Result, Ok, Err, ap, false, inl, inr, length, refl, subst, sym, true}
 use Rattle.std.specs.Prelude.{codes, string_bytes}
 use Rattle.std.specs.Result.{result_err, result_map_both}
 use Rattle.mx_events.specs.declared.event.Event.{Event}
@@ -16,16 +16,29 @@ use Rattle.mx_cli.specs.declared.stop.Stop.{Stop}
 use Rattle.mx_cli.specs.declared.stop.Stop.TheVariants as stop
 use Rattle.mx_cli.proofs.FrameLemmas.{fault_prints, line_prints, memory_prints, silent_end, text_prints}
 use Rattle.mx_picture.specs.declared.opening.Frame.{Frame}
-use Rattle.mx_picture.specs.Drawn.{IsPicture, opening_line, title_line}
+use Rattle.mx_picture.specs.Drawn.{IsPage, IsPicture, names_text, opening_line, trace_title}
 use Rattle.mx_picture.specs.Pictures.{IsDrawn, IsPictured, IsPicturedBy, node_fault, node_in, part_in, part_on}
 use Rattle.mx_picture.specs.declared.part.Part.{Part as Shown}
 
--- a text to which each part of a picture was appended
-pub picture_is : (p : Fields) (events : ℕ) (frame : Frame) (body t t1 t2 t3 t4 : Text) → t ≡ [] → t1 ≡ t ++ opening_line frame → t2 ≡ t1 ++ title_line p events
-    → t3 ≡ t2 ++ body → t4 ≡ t3 ++ (codes "</svg>" ++ line_feed) → IsPicture p events t4
-picture_is p events frame body t t1 t2 t3 t4 none first second third fourth =
+-- a text to which each part of a page was appended
+pub page_is : (title : Text) (frame : Frame) (body t t1 t2 t3 t4 : Text) → t ≡ [] → t1 ≡ t ++ opening_line frame → t2 ≡ t1 ++ title
+    → t3 ≡ t2 ++ body → t4 ≡ t3 ++ (codes "</svg>" ++ line_feed) → IsPage title t4
+page_is title frame body t t1 t2 t3 t4 none first second third fourth =
     let opened : t1 ≡ opening_line frame = first ∙ ap (λ (s : Text). s ++ opening_line frame) none in
-    (frame, body, fourth ∙ ap (λ (s : Text). s ++ (codes "</svg>" ++ line_feed)) (third ∙ ap (λ (s : Text). s ++ body) (second ∙ ap (λ (s : Text). s ++ title_line p events) opened)))
+    (frame, body, fourth ∙ ap (λ (s : Text). s ++ (codes "</svg>" ++ line_feed)) (third ∙ ap (λ (s : Text). s ++ body) (second ∙ ap (λ (s : Text). s ++ title) opened)))
+
+-- a text to which each part of the title of a trace was appended
+pub trace_title_is : (p : Fields) (judgement t t1 t2 t3 t4 t5 : Text) → t ≡ [] → t1 ≡ t ++ codes "<title>Trace, nodes:" → t2 ≡ t1 ++ names_text p → t3 ≡ t2 ++ line_feed → t4 ≡ t3 ++ judgement
+    → t5 ≡ t4 ++ (codes "</title>" ++ line_feed) → t5 ≡ trace_title p judgement
+trace_title_is p judgement t t1 t2 t3 t4 t5 none first second third fourth fifth =
+    let start : t1 ≡ codes "<title>Trace, nodes:" = first ∙ ap (λ (s : Text). s ++ codes "<title>Trace, nodes:") none in
+    let named = second ∙ ap (λ (s : Text). s ++ names_text p) start in
+    let judged = fourth ∙ ap (λ (s : Text). s ++ judgement) (third ∙ ap (λ (s : Text). s ++ line_feed) named) in
+    fifth ∙ ap (λ (s : Text). s ++ (codes "</title>" ++ line_feed)) judged
+
+-- a page with this title
+pub titled : (a b page : Text) → a ≡ b → IsPage a page → IsPage b page
+titled a b page is h = subst (λ (t : Text). IsPage t page) is h
 
 never_refused : (r : Report) → ShowsOne (IsReport r) true None None is_refused → ⊥
 never_refused r (inl early) = let bad : true ≡ false = early.0 in cc
@@ -51,8 +64,8 @@ module _ (p : Fields) (es : List Event) where
     run_stops r stop.Memory h = memory_prints (IsDrawn p es r.end) o
 
 -- the fault of a part is that of its node
-pub part_fault : (p : Fields) (part : Part) (r : Result Shown Fault) → r ≡ part_in p part → result_err r ≡ node_fault p part.node
-part_fault p part r is = ap result_err is ∙ elim (node_in p part.node) as (λ n. result_err (result_map_both (part_on part) (λ fault. fault) n) ≡ result_err n) [ Ok node ↦ refl | Err fault ↦ refl ]
+pub part_fault : (p : Fields) (part : Part) (only_letters : Bool) (r : Result Shown Fault) → r ≡ part_in p part only_letters → result_err r ≡ node_fault p part.node
+part_fault p part only_letters r is = ap result_err is ∙ elim (node_in p part.node) as (λ n. result_err (result_map_both (part_on part only_letters) (λ fault. fault) n) ≡ result_err n) [ Ok node ↦ refl | Err fault ↦ refl ]
 
 module _ (part : Part) (p : Fields) (text : Text) where
   -- the events that a text lists

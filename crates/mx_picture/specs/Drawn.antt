@@ -37,10 +37,22 @@ abbrev pub title_line : Fields → ℕ → Text
 title_line p events =
     title_start (algorithm_name p.shape) ++ names_text p ++ title_end events
 
--- a picture of a run of this many events: its first line opens it, its second is its title, and its
--- last closes it
-abbrev pub IsPicture : Fields → ℕ → Text → Type 0
-IsPicture p events picture =
+-- the nodes, and then what `judge` prints of the trace
+abbrev pub trace_title : Fields → Text → Text
+trace_title p judgement =
+    codes "<title>Trace, nodes:" ++ names_text p ++ line_feed ++ judgement
+    ++ (codes "</title>" ++ line_feed)
+
+-- a page: its first line opens it, then comes its title, and its last line closes it
+abbrev pub IsPage : Text → Text → Type 0
+IsPage title page =
     (frame : Frame) × (body : Text)
-    × (picture ≡ opening_line frame ++ title_line p events ++ body
-    ++ (codes "</svg>" ++ line_feed))
+    × (page ≡ opening_line frame ++ title ++ body ++ (codes "</svg>" ++ line_feed))
+
+-- a picture of a run of this many events
+abbrev pub IsPicture : Fields → ℕ → Text → Type 0
+IsPicture p events = IsPage (title_line p events)
+
+-- a picture of a trace of which `judge` prints this
+abbrev pub IsTracePicture : Fields → Text → Text → Type 0
+IsTracePicture p judgement = IsPage (trace_title p judgement)

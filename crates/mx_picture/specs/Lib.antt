@@ -1,7 +1,10 @@
 -- Crossings: which places of texts are worse. Drawn: the printed picture. LettersOnly: what
--- `--letters` draws. Overtaken: which parcels are overtaken. Pictures: what `picture` prints.
+-- `--letters` draws. Marks: which events of a trace are shown, and which one is marked. Overtaken:
+-- which parcels are overtaken. Pictures: what `picture` prints. TracePictures: the same of a trace.
 pub mod Crossings
 pub mod Drawn
 pub mod LettersOnly
+pub mod Marks
 pub mod Overtaken
 pub mod Pictures
+pub mod TracePictures

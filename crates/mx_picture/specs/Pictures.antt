@@ -1,5 +1,5 @@
 -- What `picture` prints.
-use Rattle.std.specs.Prelude.{◌≡◌, ℕ, List, Option, None, Some, Result, Ok, Err, length}
+use Rattle.std.specs.Prelude.{◌≡◌, ℕ, Bool, List, Option, None, Some, Result, Ok, Err, length}
 use Rattle.std.specs.Option.{option_map_or}
 use Rattle.std.specs.Result.{result_err, result_map_both}
 use Rattle.mx_events.specs.declared.event.Event.{Event}
@@ -24,12 +24,13 @@ node_in p (Some name) =
     option_map_or (λ node. Ok (Some node)) (node_of p name) (Err (BadText (UnknownName Nodes)))
 
 -- the part that is shown: of this node, or of all
-abbrev pub part_on : Part → Option ℕ → Shown
-part_on part node =
-    record { from = part.from; to = part.to; node = node; only_letters = part.only_letters }
+abbrev pub part_on : Part → Bool → Option ℕ → Shown
+part_on part only_letters node =
+    record { from = part.from; to = part.to; node = node; only_letters = only_letters }
 
-abbrev pub part_in : Fields → Part → Result Shown Fault
-part_in p part = result_map_both (part_on part) (λ fault. fault) (node_in p part.node)
+abbrev pub part_in : Fields → Part → Bool → Result Shown Fault
+part_in p part only_letters =
+    result_map_both (part_on part only_letters) (λ fault. fault) (node_in p part.node)
 
 -- the fault that a node was named that the plan does not have
 abbrev pub node_fault : Fields → Option Text → Option Fault

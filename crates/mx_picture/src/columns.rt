@@ -41,7 +41,7 @@ impl Room {
         }
         for label in labels {
             let index = usize::from(label.node.get());
-            let wanted = label.reach(label.side);
+            let wanted = label.reach();
             if label.side.is_left() {
                 room.left[index] = room.left[index].max(wanted);
             } else {

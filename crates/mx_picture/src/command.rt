@@ -10,7 +10,7 @@ ghost use Rattle.mx_picture.specs.Pictures.{IsDrawn, IsPictured, end_of_run, nod
 use crate::drawing::Drawing;
 use crate::page::page_of;
 use crate::part::Part;
-use mx_cli::{Command, Fault, PictureOptions, Stop, print};
+use mx_cli::{Command, Fault, PicturePart, Stop, print};
 use mx_commands::observe;
 use mx_io::Output;
 use mx_network::Event;
@@ -20,10 +20,14 @@ use std::alloc::Global;
 
 /// `picture`: a picture of the outcomes of the events that the text lists.
 #[derive(Clone, Copy)]
-pub struct Picture<'a>(pub PictureOptions<'a>);
+pub struct Picture<'a> {
+    pub part: PicturePart<'a>,
+    /// Whether only letters are shown.
+    pub only_letters: bool,
+}
 
 impl Command for Picture<'_> {
-    ghost reports = { λ c p text. IsPictured (part_of c.0) p text };
+    ghost reports = { λ c p text. IsPictured (part_of c.part) p text };
 
     fn run<O: Output>(
         &self,
@@ -33,40 +37,45 @@ impl Command for Picture<'_> {
         out: &mut O,
     ) -> Result<u8, Stop> {
         match read_events(alloc, text, plan) {
-            Ok(events) => draw(alloc, plan, &self.0, events.as_slice(), out),
+            Ok(events) => draw(alloc, plan, self, events.as_slice(), out),
             Err(fault) => Err(Stop::from(fault)),
         }
     }
 }
 
-/// Prints the picture that the options ask for. Returns the status.
+/// Prints the picture of these events. Returns the status.
 fn draw<O: Output>(
     alloc: Global,
     plan: &Plan,
-    options: &PictureOptions<'_>,
+    picture: &Picture<'_>,
     events: &[Event],
     out: &mut O,
 ) -> Result<u8, Stop>
     requires { AllNameNodes (length plan.now.nodes) events.now }
     ensures prints { Prints (IsDrawn plan.now events.now
-        (end_of_run plan.now (text_of options.now.node) events.now))
+        (end_of_run plan.now (text_of picture.now.part.node) events.now))
         (sight O.Output out.old) (sight O.Output out.new) result }
 {
-    match part_of(plan, options) {
+    match part_of(plan, &picture.part, picture.only_letters) {
         Ok(part) => print_picture(alloc, plan, &part, events, out),
         Err(fault) => Err(Stop::Fault(fault)),
     }
 }
 
-fn part_of(plan: &Plan, options: &PictureOptions<'_>) -> Result<Part, Fault>
-    ensures { result ≡ part_in plan.now (part_of options.now) }
+/// Returns the part that is named, or the fault that the plan does not have its node.
+pub(crate) fn part_of(
+    plan: &Plan,
+    named: &PicturePart<'_>,
+    only_letters: bool,
+) -> Result<Part, Fault>
+    ensures { result ≡ part_in plan.now (part_of named.now) only_letters }
 {
-    let node = node_in(plan, options.node)?;
+    let node = node_in(plan, named.node)?;
     Ok(Part {
-        from: options.from,
-        to: options.to,
+        from: named.from,
+        to: named.to,
         node,
-        only_letters: options.only_letters,
+        only_letters,
     })
 }
 
@@ -96,6 +105,6 @@ fn print_picture<O: Output>(
 {
     let mut drawing = Drawing::new(alloc, events, part)?;
     observe(alloc, plan, events, &mut drawing)?;
-    let page = page_of(plan, events.len() as u64, part, &drawing.sheet)?;
+    let page = page_of(plan, events.len() as u64, part, &drawing.rows.sheet)?;
     print(page.as_bytes(), 0, out)
 }

@@ -5,7 +5,7 @@ use crate::columns::Columns;
 use crate::crossing::Crossing;
 use crate::open_arrows::OpenArrows;
 use crate::segment::{Rect, SHIFT, Segment};
-use crate::side::Side;
+use crate::side::{Side, Tone};
 use mx_stamps::NodeId;
 use std::alloc::{AllocError, Global};
 
@@ -19,6 +19,7 @@ pub(crate) struct Label {
     pub(crate) node: NodeId,
     pub(crate) y: u64,
     pub(crate) side: Side,
+    pub(crate) tone: Tone,
     pub(crate) width: u64,
     pub(crate) arrows: usize,
     /// The text, escaped.
@@ -26,14 +27,14 @@ pub(crate) struct Label {
 }
 
 impl Label {
-    pub(crate) fn reach(&self, side: Side) -> u64 {
-        side.gap().saturating_add(self.width)
+    pub(crate) fn reach(&self) -> u64 {
+        self.tone.gap().saturating_add(self.width)
     }
 
     fn rect(&self, x: u64, side: Side) -> Rect {
         let node = x.saturating_add(SHIFT);
-        let near = side.gap();
-        let far = self.reach(side);
+        let near = self.tone.gap();
+        let far = self.reach();
         let (left, right) = if side.is_left() {
             (node.saturating_sub(far), node.saturating_sub(near))
         } else {
@@ -120,7 +121,7 @@ pub(crate) fn add_labels(
         let x = columns.x_of(label.node);
         let side = sides.pop().unwrap_or(label.side);
         extent = extent.with(label, x, side);
-        let attributes = side.attributes();
+        let attributes = label.tone.attributes(side);
         let y = label.y;
         let shown = label.text.as_str();
         write!(

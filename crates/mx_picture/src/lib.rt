@@ -1,4 +1,5 @@
-//! `mx picture`: the outcomes of events as a picture, a static SVG in which time runs down.
+//! `mx picture`: the outcomes of events, or a trace, as a picture, a static SVG in which time runs
+//! down.
 #![tactic(auto)]
 
 mod arrows;
@@ -10,6 +11,7 @@ mod labels;
 mod legend;
 mod letters;
 mod links;
+mod marked;
 mod name_rows;
 mod omissions;
 mod open_arrows;
@@ -19,11 +21,16 @@ mod parcels;
 mod part;
 mod phases;
 mod route;
+mod rows;
 mod segment;
 mod shapes;
 mod sheet;
 mod side;
 mod text;
+mod trace_command;
+mod trace_drawing;
+mod trace_page;
 mod undelivered;
 
 pub use command::Picture;
+pub use trace_command::TracePicture;

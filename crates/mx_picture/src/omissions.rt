@@ -5,13 +5,11 @@ use crate::letters::{is_drawn, is_letter};
 use crate::parcels::write_route;
 use crate::part::Part;
 use crate::route::Route;
-use crate::sheet::Sheet;
 use mx_format::Letter;
 use mx_member::SentParcel;
-use mx_network::{Cluster, Entry, Event, Outcome};
-use mx_nodelaws::{Exclusion, Phase};
+use mx_network::{Cluster, Entry, Event};
+use mx_nodelaws::Exclusion;
 use mx_plan::Plan;
-use mx_stamps::NodeId;
 use std::alloc::AllocError;
 
 /// Returns whether the newest event, `entry`, is shown: it is in the drawn part, and an event of a
@@ -23,8 +21,8 @@ pub(crate) fn is_shown<C: Exclusion>(
     cluster: &Cluster<C>,
     drawing: &Drawing,
 ) -> bool {
-    let part = &drawing.part;
-    let flights = drawing.sheet.flights.as_slice();
+    let part = &drawing.rows.part;
+    let flights = drawing.rows.sheet.flights.as_slice();
     if !part.has_index(index)
         || part.only_letters && !is_drawn(&entry.event, &entry.outcome, flights)
     {
@@ -56,67 +54,27 @@ pub(crate) fn concerns<M>(sent: &SentParcel<'_, M>, part: &Part) -> bool {
     is_near && (!part.only_letters || is_letter(sent.parcel))
 }
 
-/// Takes note of the newest event, which is not shown. After the drawn part it changes no phase.
+/// Takes note of the parcel that the newest event delivers, if it delivers one. The event is not
+/// shown.
 pub(crate) fn pass_over<C: Exclusion>(
     plan: &Plan,
-    index: u64,
-    entry: &Entry,
+    event: &Event,
     cluster: &Cluster<C>,
     drawing: &mut Drawing,
 ) -> Result<(), AllocError>
 where
     C::Msg: Letter,
 {
-    match &entry.event {
-        Event::Deliver(number) => pass_delivery(plan, cluster, *number, drawing),
-        event if index <= drawing.part.to => {
-            let node = event.node().unwrap_or_default();
-            change_phase(node, &entry.outcome, false, &mut drawing.sheet)
-        }
-        _ => Ok(()),
-    }
-}
-
-/// Takes note of a delivery that is not shown.
-fn pass_delivery<C: Exclusion>(
-    plan: &Plan,
-    cluster: &Cluster<C>,
-    number: u64,
-    drawing: &mut Drawing,
-) -> Result<(), AllocError>
-where
-    C::Msg: Letter,
-{
-    let Some(sent) = cluster.sent_parcel(number) else {
+    let Event::Deliver(number) = event else {
         return Ok(());
     };
-    if drawing.sheet.is_cut(number) {
-        write_route(plan, number, &sent, &mut drawing.label)?;
+    let Some(sent) = cluster.sent_parcel(*number) else {
+        return Ok(());
+    };
+    let rows = &mut drawing.rows;
+    if rows.sheet.is_cut(*number) {
+        write_route(plan, *number, &sent, &mut rows.label)?;
     }
-    let title = drawing.label.as_str();
-    drawing
-        .sheet
-        .arrive(number, Route::new(&sent), false, title)
-}
-
-/// Changes the phase of a node if the outcome of its event leads to another. `is_shown` says
-/// whether the picture shows the event.
-pub(crate) fn change_phase(
-    node: NodeId,
-    outcome: &Outcome,
-    is_shown: bool,
-    sheet: &mut Sheet,
-) -> Result<(), AllocError> {
-    match outcome {
-        Outcome::Entered(number) => sheet.enter(node, *number, is_shown),
-        Outcome::Left(_) | Outcome::Cancelled => sheet.change(node, Phase::Idle, is_shown),
-        Outcome::Asked(_) => sheet.change(node, Phase::Waiting, is_shown),
-        Outcome::Value(_)
-        | Outcome::Written
-        | Outcome::Sent(_)
-        | Outcome::Settled
-        | Outcome::Delivered
-        | Outcome::Woken
-        | Outcome::Refused(_) => Ok(()),
-    }
+    let title = rows.label.as_str();
+    rows.sheet.arrive(*number, Route::new(&sent), false, title)
 }

@@ -1,12 +1,12 @@
 //! The first two lines of a picture: its size, and its title.
 
-ghost use Rattle.std.specs.Prelude.{◌≡◌, ◌<◌, ◌++◌, OnOk, Some, string_bytes};
-ghost use Rattle.mx_picture.specs.Drawn.{algorithm_name, name_text, names_text, opening_line, title_end, title_line, title_start};
+ghost use Rattle.std.specs.Prelude.{◌≡◌, ◌<◌, ◌++◌, IfOk, OnOk, Some, string_bytes};
+ghost use Rattle.mx_picture.specs.Drawn.{algorithm_name, name_text, names_text, opening_line, title_end, title_line, title_start, trace_title};
 
 use mx_format::name_of;
 use mx_plan::{Plan, Shape};
 use mx_stamps::{MAX_NODES, NodeId};
-use std::alloc::AllocError;
+use std::alloc::{AllocError, Global};
 use std::fmt;
 
 /// What of the plane a picture shows, in pixels: its width and height, and the distance from its
@@ -33,14 +33,36 @@ impl fmt::Display for Frame {
     }
 }
 
-/// Appends the title. Names need no escapes: a plan allows no character in them that XML escapes.
-pub(crate) fn add_title_line(plan: &Plan, events: u64, text: &mut String) -> Result<(), AllocError>
+/// Returns the title of a run of this many events. Names need no escapes: a plan allows no character
+/// in them that XML escapes.
+pub(crate) fn title_of(alloc: Global, plan: &Plan, events: u64) -> Result<String, AllocError>
+    ensures { IfOk result (λ title. string_bytes title ≡ title_line plan.now events) }
+{
+    let mut text = String::new(alloc);
+    add_title(plan, events, &mut text)?;
+    Ok(text)
+}
+
+fn add_title(plan: &Plan, events: u64, text: &mut String) -> Result<(), AllocError>
     ensures { OnOk result (string_bytes text.new
         ≡ string_bytes text.old ++ title_line plan.now events) }
 {
     text.write(TitleStart(algorithm_of(plan)))?;
     add_names(plan, text)?;
     text.write(TitleEnd(events))
+}
+
+/// Returns the title of a trace: the nodes, and the lines that `judge` prints of the trace.
+pub(crate) fn trace_title(alloc: Global, plan: &Plan, judgement: &str) -> Result<String, AllocError>
+    ensures { IfOk result (λ title. string_bytes title ≡ trace_title plan.now judgement.now) }
+{
+    let mut text = String::new(alloc);
+    text.push_str("<title>Trace, nodes:")?;
+    add_names(plan, &mut text)?;
+    text.push_str("\n")?;
+    text.push_str(judgement)?;
+    text.push_str("</title>\n")?;
+    Ok(text)
 }
 
 #[derive(Clone, Copy)]

@@ -1,12 +1,12 @@
 //! The whole picture: its size, its nodes, and all that was drawn.
 
 ghost use Rattle.std.specs.Prelude.{string_bytes, IfOk};
-ghost use Rattle.mx_picture.specs.Drawn.{IsPicture};
+ghost use Rattle.mx_picture.specs.Drawn.{IsPage, IsPicture};
 
 use crate::columns::{Columns, Lanes};
 use crate::labels::Extent;
-use crate::legend::{LEGEND, LEGEND_WIDTH, STYLES};
-use crate::opening::{Frame, add_title_line, algorithm_of};
+use crate::legend::{Legend, RUN_LEGEND, STYLES};
+use crate::opening::{Frame, algorithm_of, title_of};
 use crate::part::Part;
 use crate::segment::y_of;
 use crate::shapes::Shapes;
@@ -40,9 +40,23 @@ const MARGIN: u64 = 40;
 /// The distance of the heading from the edge, in pixels.
 const INDENT: u64 = 16;
 
-/// Returns the frame with room for these columns, for texts of this extent, and for this heading.
-/// All lines end `bottom` pixels below the first row.
-fn frame_of(columns: &Columns, extent: Extent, heading: &str, bottom: u64) -> Frame {
+/// What stands above the rows of a picture: its heading and its legend.
+#[derive(Clone, Copy)]
+pub(crate) struct Head<'a> {
+    pub(crate) heading: &'a str,
+    pub(crate) legend: &'a Legend,
+}
+
+impl Head<'_> {
+    /// Returns the width that the head wants, in pixels.
+    fn width(&self) -> u64 {
+        self.legend.width.max(heading_width(self.heading))
+    }
+}
+
+/// Returns the frame with room for these columns, for texts of this extent, and for this head. All
+/// lines end `bottom` pixels below the first row.
+fn frame_of(columns: &Columns, extent: Extent, head: &Head<'_>, bottom: u64) -> Frame {
     let left = extent
         .left
         .saturating_add(MARGIN)
@@ -56,10 +70,7 @@ fn frame_of(columns: &Columns, extent: Extent, heading: &str, bottom: u64) -> Fr
     Frame {
         left,
         top: HEAD,
-        width: left
-            .saturating_add(right)
-            .max(LEGEND_WIDTH)
-            .max(heading_width(heading)),
+        width: left.saturating_add(right).max(head.width()),
         height: bottom.saturating_add(HEAD + FOOT),
     }
 }
@@ -80,12 +91,14 @@ struct Page<'a> {
     bottom: u64,
 }
 
+/// All of a picture below its title, and its frame.
 #[derive(Drop)]
-struct Body {
+pub(crate) struct Body {
     frame: Frame,
     svg: String,
 }
 
+/// Returns the picture of a run of this many events.
 pub(crate) fn page_of(
     plan: &Plan,
     events: u64,
@@ -94,22 +107,34 @@ pub(crate) fn page_of(
 ) -> Result<String, AllocError>
     ensures { IfOk result (λ page. IsPicture plan.now events (string_bytes page)) }
 {
-    let body = body_of(plan, part, sheet)?;
-    whole_page(sheet.shapes.alloc, plan, events, &body)
+    let title = title_of(sheet.shapes.alloc, plan, events)?;
+    let heading = heading_of(plan, part, sheet)?;
+    let head = Head {
+        heading: heading.as_str(),
+        legend: &RUN_LEGEND,
+    };
+    let body = body_of(plan, part, sheet, head)?;
+    whole_page(sheet.shapes.alloc, title.as_str(), &body)
 }
 
-fn whole_page(alloc: Global, plan: &Plan, events: u64, body: &Body) -> Result<String, AllocError>
-    ensures { IfOk result (λ page. IsPicture plan.now events (string_bytes page)) }
+/// Returns the page with this title, which is its second line, or a few lines from the second on.
+pub(crate) fn whole_page(alloc: Global, title: &str, body: &Body) -> Result<String, AllocError>
+    ensures { IfOk result (λ page. IsPage title.now (string_bytes page)) }
 {
     let mut text = String::new(alloc);
     text.write(body.frame)?;
-    add_title_line(plan, events, &mut text)?;
+    text.push_str(title)?;
     text.push_str(body.svg.as_str())?;
     text.push_str("</svg>\n")?;
     Ok(text)
 }
 
-fn body_of(plan: &Plan, part: &Part, sheet: &Sheet) -> Result<Body, AllocError> {
+pub(crate) fn body_of(
+    plan: &Plan,
+    part: &Part,
+    sheet: &Sheet,
+    head: Head<'_>,
+) -> Result<Body, AllocError> {
     let shapes = &sheet.shapes;
     // In a part of a run, only nodes that act or receive get a line, or all if there are none.
     let lanes = if part.is_whole() || shapes.lanes.len() == 0 {
@@ -119,9 +144,8 @@ fn body_of(plan: &Plan, part: &Part, sheet: &Sheet) -> Result<Body, AllocError> 
     };
     let columns = Columns::new(plan, &lanes, shapes.labels.as_slice());
     let texts = shapes.texts(&columns)?;
-    let heading = heading_of(plan, part, sheet)?;
     let bottom = y_of(sheet.row);
-    let frame = frame_of(&columns, texts.extent, heading.as_str(), bottom);
+    let frame = frame_of(&columns, texts.extent, &head, bottom);
     let page = Page {
         plan,
         shapes,
@@ -131,7 +155,7 @@ fn body_of(plan: &Plan, part: &Part, sheet: &Sheet) -> Result<Body, AllocError> 
     };
     let mut svg = String::new(shapes.alloc);
     svg.reserve(shapes.room())?;
-    add_page(&page, heading.as_str(), texts.svg.as_str(), &mut svg)?;
+    add_page(&page, head, texts.svg.as_str(), &mut svg)?;
     Ok(Body { frame, svg })
 }
 
@@ -139,16 +163,6 @@ fn body_of(plan: &Plan, part: &Part, sheet: &Sheet) -> Result<Body, AllocError> 
 /// run is shown, and whether that part is empty.
 fn heading_of(plan: &Plan, part: &Part, sheet: &Sheet) -> Result<String, AllocError> {
     let mut text = String::new(sheet.shapes.alloc);
-    add_heading(plan, part, sheet, &mut text)?;
-    Ok(text)
-}
-
-fn add_heading(
-    plan: &Plan,
-    part: &Part,
-    sheet: &Sheet,
-    text: &mut String,
-) -> Result<(), AllocError> {
     let algorithm = algorithm_of(plan);
     let nodes = plan.nodes();
     let entered = sheet.entered;
@@ -156,6 +170,17 @@ fn add_heading(
         text,
         "{algorithm} algorithm, nodes: {nodes}, sections entered: {entered}"
     )?;
+    add_part(plan, part, sheet, &mut text)?;
+    Ok(text)
+}
+
+/// Appends to a heading which part is shown, and whether it is empty.
+pub(crate) fn add_part(
+    plan: &Plan,
+    part: &Part,
+    sheet: &Sheet,
+    text: &mut String,
+) -> Result<(), AllocError> {
     if part.from > 0 {
         write!(text, ", from event {}", part.from)?;
     }
@@ -177,11 +202,11 @@ fn add_heading(
 /// Appends all of a page below its title. `texts` is the SVG of the texts beside nodes.
 fn add_page(
     page: &Page<'_>,
-    heading: &str,
+    head: Head<'_>,
     texts: &str,
     text: &mut String,
 ) -> Result<(), AllocError> {
-    add_head(page, heading, text)?;
+    add_head(page, head, text)?;
     add_guides(page, text)?;
     add_indices(page, text)?;
     add_lanes(page, text)?;
@@ -191,7 +216,7 @@ fn add_page(
 }
 
 /// Appends the description, the styles, the white background, the legend and the heading.
-fn add_head(page: &Page<'_>, heading: &str, text: &mut String) -> Result<(), AllocError> {
+fn add_head(page: &Page<'_>, head: Head<'_>, text: &mut String) -> Result<(), AllocError> {
     let mut story = page.shapes.story.as_str();
     if story.is_empty() {
         story = " none.";
@@ -202,15 +227,18 @@ fn add_head(page: &Page<'_>, heading: &str, text: &mut String) -> Result<(), All
     let aside = left.saturating_sub(INDENT);
     write!(
         text,
-        "<desc>Time runs downward; the text of each event is beside its node. Sections:{story}</desc>\n{STYLES}"
+        "<desc>Time runs downward; the text of each event is beside its node. Sections:{story}</desc>\n{STYLES}{}",
+        head.legend.styles
     )?;
     write!(
         text,
-        "<g transform=\"translate(-{left} -{HEAD})\">\n<path class=\"paper\" d=\"M0 0h{width}v{height}h-{width}z\"/>\n<g transform=\"translate(0 22)\">\n{LEGEND}</g>\n</g>\n"
+        "<g transform=\"translate(-{left} -{HEAD})\">\n<path class=\"paper\" d=\"M0 0h{width}v{height}h-{width}z\"/>\n<g transform=\"translate(0 22)\">\n{}</g>\n</g>\n",
+        head.legend.svg
     )?;
     write!(
         text,
-        "<text class=\"heading\" x=\"-{aside}\" y=\"-66\">{heading}</text>\n"
+        "<text class=\"heading\" x=\"-{aside}\" y=\"-66\">{}</text>\n",
+        head.heading
     )
 }
 

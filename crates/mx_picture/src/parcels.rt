@@ -5,7 +5,7 @@ use crate::drawing::Drawing;
 use crate::letters::is_original;
 use crate::omissions::concerns;
 use crate::route::Route;
-use crate::side::Side;
+use crate::side::Tone;
 use mx_format::{Letter, add_parcel, name_of};
 use mx_member::{Parcel, SentParcel};
 use mx_network::{Cluster, Event};
@@ -28,22 +28,16 @@ where
         return Ok(());
     };
     let route = Route::new(&sent);
-    write_route(plan, number, &sent, &mut drawing.label)?;
-    drawing
-        .sheet
-        .arrive(number, route, true, drawing.label.as_str())?;
-    write_parcel(plan, number, sent.parcel, &mut drawing.label)?;
-    if drawing.sheet.is_far(number, route) {
-        write!(drawing.label, " from {}", name_of(plan, sent.from))?;
+    let rows = &mut drawing.rows;
+    write_route(plan, number, &sent, &mut rows.label)?;
+    rows.sheet.arrive(number, route, true, rows.label.as_str())?;
+    write_parcel(plan, number, sent.parcel, &mut rows.label)?;
+    if rows.sheet.is_far(number, route) {
+        write!(rows.label, " from {}", name_of(plan, sent.from))?;
     }
-    let label = drawing.label.as_str();
-    drawing.sheet.dot(sent.to, false, label)?;
-    let side = if route.is_left() {
-        Side::Left
-    } else {
-        Side::Right
-    };
-    drawing.sheet.text(sent.to, side, label)
+    let label = rows.label.as_str();
+    rows.sheet.dot(sent.to, false, label)?;
+    rows.sheet.text(sent.to, route.side(), label)
 }
 
 /// Notes the parcels that the newest event sent, from `before` on. Draws those of the drawn part
@@ -59,17 +53,16 @@ pub(crate) fn draw_sent<C: Exclusion>(
 where
     C::Msg: Letter,
 {
-    let known = drawing.sheet.shapes.undelivered.len();
+    let known = drawing.rows.sheet.shapes.undelivered.len();
     for (number, sent) in cluster.parcels_from(before) {
-        let is_shown = is_event_shown && concerns(&sent, &drawing.part);
-        drawing
-            .sheet
-            .send(is_shown, is_original(event, sent.parcel))?;
+        let rows = &mut drawing.rows;
+        let is_shown = is_event_shown && concerns(&sent, &rows.part);
+        rows.sheet.send(is_shown, is_original(event, sent.parcel))?;
         if is_shown && !drawing.arriving.contains(&number) {
-            write_route(plan, number, &sent, &mut drawing.label)?;
-            drawing
-                .sheet
-                .add_undelivered(number, Route::new(&sent), drawing.label.as_str())?;
+            write_route(plan, number, &sent, &mut rows.label)?;
+            let title = rows.label.as_str();
+            rows.sheet
+                .add_undelivered(number, Route::new(&sent), title)?;
         }
     }
     draw_undelivered(plan, cluster, known, drawing)
@@ -86,7 +79,7 @@ fn draw_undelivered<C: Exclusion>(
 where
     C::Msg: Letter,
 {
-    let undelivered = drawing.sheet.shapes.undelivered.as_slice();
+    let undelivered = drawing.rows.sheet.shapes.undelivered.as_slice();
     let Some(first) = undelivered.get(known) else {
         return Ok(());
     };
@@ -96,18 +89,16 @@ where
     let Some(sent) = cluster.sent_parcel(number) else {
         return Ok(());
     };
-    drawing.sheet.next_row()?;
-    write_parcel(plan, number, sent.parcel, &mut drawing.label)?;
-    write!(drawing.label, " to {}", name_of(plan, sent.to))?;
+    let rows = &mut drawing.rows;
+    rows.sheet.next_row()?;
+    write_parcel(plan, number, sent.parcel, &mut rows.label)?;
+    write!(rows.label, " to {}", name_of(plan, sent.to))?;
     if more > 0 {
-        write!(drawing.label, ", and {more} more")?;
+        write!(rows.label, ", and {more} more")?;
     }
-    let side = if route.is_left() {
-        Side::LeftInAir
-    } else {
-        Side::RightInAir
-    };
-    drawing.sheet.text(route.from, side, drawing.label.as_str())
+    let label = rows.label.as_str();
+    rows.sheet
+        .text_with(route.from, route.side(), Tone::Air, label)
 }
 
 /// Replaces the label by the number and the text of a parcel.

@@ -1,3 +1,6 @@
+ghost use Rattle.std.specs.Prelude.{◌≡◌};
+ghost use Rattle.mx_picture.specs.Marks.{shows_index, shows_node};
+
 use mx_stamps::NodeId;
 
 /// The events from the index `from` to `to`, which is included, of all nodes or of one. Only
@@ -11,11 +14,15 @@ pub(crate) struct Part {
 }
 
 impl Part {
-    pub(crate) fn has_index(&self, index: u64) -> bool {
+    pub(crate) fn has_index(&self, index: u64) -> bool
+        ensures { result ≡ shows_index self.now index }
+    {
         self.from <= index && index <= self.to
     }
 
-    pub(crate) fn has_node(&self, node: NodeId) -> bool {
+    pub(crate) fn has_node(&self, node: NodeId) -> bool
+        ensures { result ≡ shows_node self.now.node node }
+    {
         match self.node {
             Some(shown) => shown == node,
             None => true,

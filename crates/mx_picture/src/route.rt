@@ -1,5 +1,6 @@
 //! The routes of parcels, and the styles of their arrows.
 
+use crate::side::Side;
 use mx_format::{Letter, Style};
 use mx_member::{Parcel, SentParcel};
 use mx_stamps::NodeId;
@@ -36,5 +37,14 @@ impl Route {
 
     pub(crate) fn is_left(&self) -> bool {
         self.to.get() < self.from.get()
+    }
+
+    /// Returns the side of its sender on which the parcel leaves: the right, if it goes back to it.
+    pub(crate) fn side(&self) -> Side {
+        if self.is_left() {
+            Side::Left
+        } else {
+            Side::Right
+        }
     }
 }

@@ -26,6 +26,27 @@ pub(crate) struct Dot {
     pub(crate) title: String,
 }
 
+/// The mark of the event that breaks a rule: a triangle that points to it from the left.
+#[derive(Drop)]
+pub(crate) struct Mark {
+    pub(crate) node: NodeId,
+    pub(crate) y: u64,
+    /// The title, escaped.
+    pub(crate) title: String,
+}
+
+impl Mark {
+    fn add_to(&self, columns: &Columns, text: &mut String) -> Result<(), AllocError> {
+        let x = columns.x_of(self.node);
+        let y = self.y;
+        let title = self.title.as_str();
+        write!(
+            text,
+            "<path class=\"broken\" d=\"M{x} {y}m-15 0l-13-7v14z\"><title>{title}</title></path>\n"
+        )
+    }
+}
+
 #[derive(Drop)]
 pub(crate) struct Texts {
     pub(crate) svg: String,
@@ -46,6 +67,7 @@ pub(crate) struct Shapes {
     pub(crate) arrows: Vec<Arrow>,
     pub(crate) names: Vec<NameRow>,
     pub(crate) dots: Vec<Dot>,
+    pub(crate) marks: Vec<Mark>,
     pub(crate) labels: Vec<Label>,
     /// The SVG of the events' indices, which both edges show.
     pub(crate) indices: String,
@@ -68,6 +90,7 @@ impl Shapes {
             arrows: Vec::new(alloc),
             names: Vec::new(alloc),
             dots: Vec::new(alloc),
+            marks: Vec::new(alloc),
             labels: Vec::new(alloc),
             indices: String::new(alloc),
             guides: Vec::new(alloc),
@@ -138,7 +161,7 @@ impl Shapes {
         Ok(())
     }
 
-    /// Appends dots, and the numbers of sections.
+    /// Appends dots, the numbers of sections, and the mark of the event that breaks a rule.
     pub(crate) fn add_marks(&self, columns: &Columns, text: &mut String) -> Result<(), AllocError> {
         for dot in &self.dots {
             let class = if dot.is_refused {
@@ -156,6 +179,9 @@ impl Shapes {
         }
         for bar in &self.bars {
             bar.add_number(columns, text)?;
+        }
+        for mark in &self.marks {
+            mark.add_to(columns, text)?;
         }
         Ok(())
     }

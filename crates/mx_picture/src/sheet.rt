@@ -9,8 +9,8 @@ use crate::name_rows::{NAMED_ROWS, NameRow};
 use crate::phases::PhaseSpan;
 use crate::route::Route;
 use crate::segment::{MAX_ROWS, y_of};
-use crate::shapes::{Dot, Shapes};
-use crate::side::Side;
+use crate::shapes::{Dot, Mark, Shapes};
+use crate::side::{Side, Tone};
 use crate::text::{add_escaped, escaped, width_of};
 use crate::undelivered::Undelivered;
 use mx_nodelaws::Phase;
@@ -140,18 +140,54 @@ impl Sheet {
         Ok(())
     }
 
+    /// Writes a text beside a node, about an event of the node.
     pub(crate) fn text(&mut self, node: NodeId, side: Side, raw: &str) -> Result<(), AllocError> {
-        let text = escaped(self.shapes.alloc, raw)?;
+        self.text_with(node, side, Tone::Event, raw)
+    }
+
+    /// Writes a text beside a node, which acts or receives.
+    pub(crate) fn text_with(
+        &mut self,
+        node: NodeId,
+        side: Side,
+        tone: Tone,
+        raw: &str,
+    ) -> Result<(), AllocError> {
         self.shapes.lanes.add(node);
+        self.label(node, side, tone, raw)
+    }
+
+    /// Writes a text left of the lines of all nodes, about an event of a node that is not known.
+    pub(crate) fn text_aside(&mut self, raw: &str) -> Result<(), AllocError> {
+        // without a line, a node is at the place of the first line
+        self.label(NodeId::default(), Side::Left, Tone::Air, raw)
+    }
+
+    fn label(&mut self, node: NodeId, side: Side, tone: Tone, raw: &str) -> Result<(), AllocError> {
+        let text = escaped(self.shapes.alloc, raw)?;
         self.shapes.labels.push(Label {
             node,
             y: y_of(self.row),
             side,
+            tone,
             width: width_of(raw),
             arrows: self.shapes.arrows.len(),
             text,
         })?;
         Ok(())
+    }
+
+    /// Marks the current event, one of the node, as the one that breaks a rule, and writes why in
+    /// the next row.
+    pub(crate) fn mark(&mut self, node: NodeId, why: &str) -> Result<(), AllocError> {
+        let title = escaped(self.shapes.alloc, why)?;
+        self.shapes.marks.push(Mark {
+            node,
+            y: y_of(self.row),
+            title,
+        })?;
+        self.next_row()?;
+        self.text_with(node, Side::Right, Tone::Reason, why)
     }
 
     /// Appends this text, about the current event, to the description of the picture.

@@ -1,11 +1,8 @@
-/// The place of a text: to the left or right of its node, or on that side beside the marks of
-/// parcels that no event delivers (in the air).
+/// The place of a text: to the left or right of its node.
 #[derive(Clone, Copy)]
 pub(crate) enum Side {
     Left,
     Right,
-    LeftInAir,
-    RightInAir,
 }
 
 impl Side {
@@ -13,32 +10,44 @@ impl Side {
         match self {
             Side::Left => Side::Right,
             Side::Right => Side::Left,
-            Side::LeftInAir => Side::RightInAir,
-            Side::RightInAir => Side::LeftInAir,
         }
     }
 
     pub(crate) fn is_left(self) -> bool {
-        match self {
-            Side::Left | Side::LeftInAir => true,
-            Side::Right | Side::RightInAir => false,
-        }
+        matches!(self, Side::Left)
     }
+}
 
+/// What a text is about, which decides how it is written and how far from its node.
+#[derive(Clone, Copy)]
+pub(crate) enum Tone {
+    /// An event of the node.
+    Event,
+    /// What is in the air: parcels that no event delivers, beside their marks, or an event of a
+    /// node that is not known.
+    Air,
+    /// Why an event breaks a rule.
+    Reason,
+}
+
+impl Tone {
     /// Returns the distance between the text and its node, in pixels.
     pub(crate) fn gap(self) -> u64 {
         match self {
-            Side::Left | Side::Right => 17,
-            Side::LeftInAir | Side::RightInAir => 33,
+            Tone::Event | Tone::Reason => 17,
+            Tone::Air => 33,
         }
     }
 
-    pub(crate) fn attributes(self) -> &'static str {
-        match self {
-            Side::Left => " class=\"left\" dx=\"-17\"",
-            Side::Right => " dx=\"17\"",
-            Side::LeftInAir => " class=\"air left\" dx=\"-33\"",
-            Side::RightInAir => " class=\"air\" dx=\"33\"",
+    /// Returns the class of a text on a side, and its distance from the node.
+    pub(crate) fn attributes(self, side: Side) -> &'static str {
+        match (self, side) {
+            (Tone::Event, Side::Left) => " class=\"left\" dx=\"-17\"",
+            (Tone::Event, Side::Right) => " dx=\"17\"",
+            (Tone::Air, Side::Left) => " class=\"air left\" dx=\"-33\"",
+            (Tone::Air, Side::Right) => " class=\"air\" dx=\"33\"",
+            (Tone::Reason, Side::Left) => " class=\"reason left\" dx=\"-17\"",
+            (Tone::Reason, Side::Right) => " class=\"reason\" dx=\"17\"",
         }
     }
 }

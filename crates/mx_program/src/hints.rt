@@ -59,7 +59,8 @@ fn hint_for<'a>(request: &Request<'a>) -> Option<Hint<'a>> {
         | Request::Count { names, .. }
         | Request::Judge { names, .. } => (names.plan, Some(names.events)),
         Request::Explain { plan, second, .. } => (*plan, *second),
-        Request::Misfit(_) => return None,
+        // `explain` reads no trace
+        Request::PictureTrace(..) | Request::Misfit(_) => return None,
     };
     let is_script = match request {
         Request::Script(_) => true,

@@ -14,7 +14,7 @@ returns-in-Ok g c =
     let es = c.args.events.now in
     let o = sight g.O.Output c.args.out.now in
     let n = sight g.O.Output c.print_picture.new.out in
-    let none = part_fault p (part_of c.args.options.now) (Ok c.in-Ok.part) c.in-Ok.ensures in
+    let none = part_fault p (part_of c.args.picture.now.part) c.args.picture.now.only_letters (Ok c.in-Ok.part) c.in-Ok.ensures in
     record {
       prints = subst (λ (f : Option Fault). Prints (IsDrawn p es (option_map_or has_fault f (run_by p p.shape es).end)) o n c.print_picture.result) none c.print_picture.ensures.prints;
     }
@@ -23,6 +23,6 @@ pub returns-in-Err : goal.returns-in-Err
 returns-in-Err g c =
     let p = c.args.plan.now in
     let es = c.args.events.now in
-    let known = part_fault p (part_of c.args.options.now) (Err c.in-Err.fault) c.in-Err.ensures in
+    let known = part_fault p (part_of c.args.picture.now.part) c.args.picture.now.only_letters (Err c.in-Err.fault) c.in-Err.ensures in
     let is = ap (λ (f : Option Fault). option_map_or has_fault f (run_by p p.shape es).end) (sym known) in
-    record { prints = fault_drawn p es (sight g.O.Output c.args.out.now) (end_of_run p (text_of c.args.options.now.node) es) c.in-Err.fault is }
+    record { prints = fault_drawn p es (sight g.O.Output c.args.out.now) (end_of_run p (text_of c.args.picture.now.part.node) es) c.in-Err.fault is }
