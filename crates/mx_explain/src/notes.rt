@@ -8,7 +8,7 @@ use crate::spot::offset_of;
 use mx_cli::Fault;
 use mx_commands::Sink;
 use mx_events::Event;
-use mx_format::{EventText, Letter, OutcomeText, add_facts_line};
+use mx_format::{EventText, OutcomeText, add_facts_line};
 use mx_knowledge::Knowledge;
 use mx_network::Cluster;
 use mx_nodelaws::Exclusion;
@@ -30,6 +30,8 @@ pub(crate) struct Notes {
     more: u64,
     pub(crate) sent: u64,
     pub(crate) fault: Option<Fault>,
+    /// The number of the newest line of a script.
+    line: u64,
     /// The line of a script that cannot be done, unless one of its words is wrong.
     bad_line: Option<Note>,
 }
@@ -61,20 +63,20 @@ impl<C: Exclusion + Knowledge> Sink<Cluster<C>> for Notes {
     }
 }
 
-impl<C: Exclusion + Knowledge> Recorder<State<C>> for Notes
-where
-    C::Msg: Letter,
-{
+impl<C: Exclusion + Knowledge> Recorder<State<C>> for Notes {
+    fn line(&mut self, number: u64) {
+        self.line = number;
+    }
+
     fn event(
         &mut self,
         plan: &Plan,
-        number: u64,
         event: &SessionEvent,
+        _before: u64,
         state: &State<C>,
     ) -> Result<(), AllocError> {
-        let cluster = state.cluster();
         match event {
-            SessionEvent::Happens(_) => self.note_newest(plan, cluster, number),
+            SessionEvent::Happens(_) => self.note_newest(plan, state.cluster(), self.line),
             SessionEvent::IsLost(_) | SessionEvent::LinksChange(_) => Ok(()),
         }
     }
@@ -101,6 +103,7 @@ impl Notes {
             more: 0,
             sent: 0,
             fault: None,
+            line: 0,
             bad_line: None,
         }
     }

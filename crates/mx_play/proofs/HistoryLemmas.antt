@@ -1,21 +1,26 @@
 -- What happens, one event after another.
-use Rattle.std.proofs.Common.{◌≡◌, ◌≤◌, ◌<◌, ◌∙◌, ℕ, zero, suc, List, [], ◌∷◌, ◌++◌, Result, Ok, length, take, drop, get_or, drop-cons, add-one, ◌+◌, refl, sym, ap, subst, append_assoc}
+use Rattle.std.proofs.Common.{◌≡◌, ◌≤◌, ◌<◌, ◌∙◌, ℕ, zero, suc, List, [], ◌∷◌, ◌++◌, Result, Ok, Err, OnOk, length, take, drop, get_or, drop-cons, add-one, ◌+◌, refl, sym, ap, subst, append_assoc}
 use Rattle.std.proofs.lemmas.List.{drop_all}
-use Rattle.std.specs.Prelude.{slice_get}
+use Rattle.std.specs.Prelude.{slice_get, string_bytes}
 use Rattle.mx_stamps.proofs.Lists.{append_nil}
 use Rattle.mx_nodelaws.specs.Core.{Core}
+use Rattle.mx_events.specs.declared.event.Event.{Event}
 use Rattle.mx_network.specs.Step.{ClusterState, RunsTo}
+use Rattle.mx_network.proofs.Happening.{noted as in_trace}
+use Rattle.mx_trace.specs.declared.outcome.Entry.{Entry}
 use Rattle.mx_plan.specs.Text.{Text}
 use Rattle.mx_plan.specs.Fields.{Fields}
 use Rattle.mx_scripts.specs.Fates.{Fates, noted}
 use Rattle.mx_scripts.specs.States.{Brings, IsAllowed, RunState}
 use Rattle.mx_scripts.specs.declared.state.SessionEvent.{SessionEvent}
 use Rattle.mx_scripts.specs.declared.state.SessionEvent.TheVariants.{Happens, IsLost, LinksChange}
-use Rattle.mx_format.specs.ParcelTexts.{parcel_lines}
-use Rattle.mx_commands.specs.Runs.{event_lines}
-use Rattle.mx_commands.proofs.RunLemmas.{grows}
-use Rattle.mx_play.specs.Histories.{CanLead, Leads, Makes, events_in, made_text, new_text, text_from}
+use Rattle.mx_scripts.specs.Told.{IsBroughtTo, IsTold}
+use Rattle.mx_commands.specs.Runs.{text_of}
+use Rattle.mx_commands.proofs.RunLemmas.{grows, has_newest}
+use Rattle.mx_play.specs.Histories.{CanLead, Leads, Makes, events_in, made_text}
 use Rattle.mx_play.specs.Printed.{lost_text}
+use Rattle.mx_play.specs.Sessions.{AddsOne}
+use Rattle.mx_play.specs.declared.printed_events.PrintedEvents.{PrintedEvents}
 
 same_Ok : {A E : Type 0} (x y : A) → ◌≡◌ {A = Result A E} (Ok x) (Ok y) → x ≡ y
 same_Ok x y e = cc
@@ -100,37 +105,66 @@ module _ {H S M : Type 0} (core : Core H S M) where
   pub leads_end : (done : List SessionEvent) (i : ℕ) (now last : RunState S M) → length done ≤ i → Leads core now (drop i done) last → last ≡ now
   leads_end done i now last le x = subst (λ (l : List SessionEvent). Leads core now l last) (drop_all i done le) x
 
+  -- an event of the cluster has the newest item of the trace, and sent parcels after those before
+  pub has_newest_item : (e : Event) (before : ℕ) (new : RunState S M) (g : ClusterState S M) → g ≡ new.cluster → IsBroughtTo core (Happens e) before new
+      → (0 < length g.trace) × (before ≤ length g.sent)
+  has_newest_item e before new g is x =
+      let old : RunState S M = x.0 in
+      let step = x.1.0 in
+      let n = in_trace core old.cluster e new.cluster step in (
+        subst (λ (h : ClusterState S M). 0 < length h.trace) (sym is) (has_newest new.cluster.trace old.cluster.trace (record { event = e; outcome = n.0 }) n.1),
+        subst (λ (h : ClusterState S M). before ≤ length h.sent) (sym is) (subst (λ (k : ℕ). k ≤ length new.cluster.sent) (sym x.2) (grows core old.cluster new.cluster e step).1),
+      )
+
   module _ (letter_text : Fields → M → Text) (p : Fields) where
     pub makes_leads : (es : List SessionEvent) (old new : RunState S M) (t : Text) → Makes core letter_text p old es new t → Leads core old es new
     makes_leads [] old new t x = x.0
     makes_leads (e ∷ es) old new t x = (x.0, x.2, x.3, makes_leads es x.0 new x.1 x.5)
 
-    pub makes_append : (es fs : List SessionEvent) (old mid new : RunState S M) (t s : Text) → Makes core letter_text p old es mid t
-        → Makes core letter_text p mid fs new s → Makes core letter_text p old (es ++ fs) new (t ++ s)
-    makes_append [] fs old mid new t s x y =
-        subst (λ (m : RunState S M). Makes core letter_text p m fs new (t ++ s)) x.0
-        (subst (λ (r : Text). Makes core letter_text p mid fs new (r ++ s)) (sym x.1) y)
-    makes_append (e ∷ es) fs old mid new t s x y =
-        let next : RunState S M = x.0 in
-        let rest : Text = x.1 in
-        let first : Text = made_text core letter_text p e old next in
-        (next, rest ++ s, x.2, x.3, ap (λ (l : Text). l ++ s) x.4 ∙ append_assoc first rest s, makes_append es fs next mid new rest s x.5 y)
+    -- ---- an event, and what is printed of it
 
-    pub makes_one : (e : SessionEvent) (old new : RunState S M) → IsAllowed old e → Brings core old e new → Makes core letter_text p old (e ∷ []) new (made_text core letter_text p e old new)
-    makes_one e old new a b = (new, [], a, b, sym (append_nil (made_text core letter_text p e old new)), (refl, refl))
+    pub newest_made : {T E : Type 0} (e : Event) (before : ℕ) (new : RunState S M) (g : ClusterState S M) (r : Result T E) (t t' : Text) → g ≡ new.cluster
+        → ((old : ClusterState S M) (entry : Entry) → g.trace ≡ old.trace ++ entry ∷ [] → before ≡ length old.sent → OnOk r (t' ≡ t ++ text_of core letter_text p (length old.trace) old g))
+        → (old : RunState S M) → Brings core old (Happens e) new → before ≡ length old.cluster.sent → OnOk r (t' ≡ t ++ made_text core letter_text p (Happens e) old new)
+    newest_made e before new g r t t' is printed old brings sent =
+        let n = in_trace core old.cluster e new.cluster brings.0 in
+        subst (λ (h : ClusterState S M). OnOk r (t' ≡ t ++ text_of core letter_text p (length old.cluster.trace) old.cluster h)) is
+        (printed old.cluster (record { event = e; outcome = n.0 }) (ap (λ (h : ClusterState S M). h.trace) is ∙ n.1) sent)
 
-    -- the text from these places on
-    text_is : (event parcel : ℕ) (old new : RunState S M) (g : ClusterState S M) (t t' : Text) → event ≡ length old.cluster.trace → parcel ≡ length old.cluster.sent → g ≡ new.cluster
-        → t' ≡ t ++ (event_lines p event (drop event g.trace) ++ parcel_lines letter_text p parcel (drop parcel g.sent)) → t' ≡ t ++ new_text core letter_text p old new
-    text_is event parcel old new g t t' is_event is_parcel is x =
-        x ∙ ap (λ (h : ClusterState S M). t ++ (event_lines p event (drop event h.trace) ++ parcel_lines letter_text p parcel (drop parcel h.sent))) is
-        ∙ ap (λ (k : ℕ). t ++ (event_lines p k (drop k new.cluster.trace) ++ parcel_lines letter_text p parcel (drop parcel new.cluster.sent))) is_event
-        ∙ ap (λ (k : ℕ). t ++ (event_lines p (length old.cluster.trace) (drop (length old.cluster.trace) new.cluster.trace) ++ parcel_lines letter_text p k (drop k new.cluster.sent))) is_parcel
+    pub lost_made : {T E : Type 0} (k : ℕ) (old new : RunState S M) (g : ClusterState S M) (r : Result T E) (t t' : Text) → g ≡ new.cluster
+        → OnOk r (t' ≡ t ++ lost_text letter_text p k (slice_get g.sent k)) → OnOk r (t' ≡ t ++ made_text core letter_text p (IsLost k) old new)
+    lost_made k old new g r t t' is x = subst (λ (h : ClusterState S M). OnOk r (t' ≡ t ++ lost_text letter_text p k (slice_get h.sent k))) is x
 
-    -- what is printed of an event
-    pub made_is : (e : SessionEvent) (events parcels : ℕ) (old new : RunState S M) (g : ClusterState S M) (t t' : Text) → events ≡ length old.cluster.trace → parcels ≡ length old.cluster.sent → g ≡ new.cluster
-        → t' ≡ t ++ text_from letter_text p e events parcels g → t' ≡ t ++ made_text core letter_text p e old new
-    made_is (Happens e) events parcels old new g t t' is_event is_parcel is x = text_is events parcels old new g t t' is_event is_parcel is x
-    made_is (IsLost k) events parcels old new g t t' is_event is_parcel is x =
-        x ∙ ap (λ (h : ClusterState S M). t ++ lost_text letter_text p k (slice_get h.sent k)) is
-    made_is (LinksChange change) events parcels old new g t t' is_event is_parcel is x = x
+    -- ---- the events of a line, and what is printed of them
+
+    pub adds_one : {T E : Type 0} (r : Result T E) (line next : PrintedEvents) (e : SessionEvent) (old new : RunState S M) → next.events.items ≡ line.events.items ++ e ∷ []
+        → OnOk r (string_bytes next.text ≡ string_bytes line.text ++ made_text core letter_text p e old new) → OnOk r (AddsOne core letter_text p line e old new next)
+    adds_one (Ok t) line next e old new listed printed = record { listed = listed; printed = printed }
+    adds_one (Err why) line next e old new listed printed = tt
+
+    -- these events were added to those of a line, with what is printed of them
+    pub record Adds (es : List SessionEvent) (old new : RunState S M) (line last : PrintedEvents) : Type 0 where
+      pub made : Text
+      pub makes : Makes core letter_text p old es new made
+      pub listed : last.events.items ≡ line.events.items ++ es
+      pub printed : string_bytes last.text ≡ string_bytes line.text ++ made
+
+    pub told_adds : (es : List SessionEvent) (old new : RunState S M) (line last : PrintedEvents) → IsTold core (AddsOne core letter_text p) es old new line last → Adds es old new line last
+    told_adds [] old new line last x = record {
+      made = [];
+      makes = (x.0, refl);
+      listed = ap (λ (l : PrintedEvents). l.events.items) x.1 ∙ sym (append_nil line.events.items);
+      printed = ap (λ (l : PrintedEvents). string_bytes l.text) x.1 ∙ sym (append_nil (string_bytes line.text));
+    }
+    told_adds (e ∷ es) old new line last x =
+        let mid : RunState S M = x.0 in
+        let next : PrintedEvents = x.1 in
+        let one = x.4 in
+        let rest = told_adds es mid new next last x.5 in
+        let first : Text = made_text core letter_text p e old mid in
+        record {
+          made = first ++ rest.made;
+          makes = (mid, rest.made, x.2, x.3, refl, rest.makes);
+          listed = rest.listed ∙ ap (λ (l : List SessionEvent). l ++ es) one.listed ∙ append_assoc line.events.items (e ∷ []) es;
+          printed = rest.printed ∙ ap (λ (l : Text). l ++ rest.made) one.printed ∙ append_assoc (string_bytes line.text) first rest.made;
+        }

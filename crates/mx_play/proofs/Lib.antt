@@ -1,6 +1,5 @@
 mod ViewLemmas
 pub mod HistoryLemmas
-mod InterpreterLemmas
 pub mod SessionLemmas
 mod SessionLineLemmas
 mod TypedLemmas

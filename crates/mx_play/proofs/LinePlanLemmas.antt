@@ -10,9 +10,9 @@ use Rattle.mx_play.specs.LineTurns.{AsksFor, Comes, HasFault, IsInputOf, Means, 
 use Rattle.mx_play.specs.Played.{IsLinePlan}
 use Rattle.mx_play.specs.declared.input.Input.{Input}
 use Rattle.mx_play.specs.declared.input.Input.TheVariants as input
-use Rattle.mx_play.specs.declared.lines.LineRead.{LineRead}
-use Rattle.mx_play.specs.declared.lines.LineRead.TheVariants as read
-use Rattle.mx_play.specs.declared.lines.TheConstants.{MAX_LINE}
+use Rattle.mx_play.specs.declared.line_sources.LineRead.{LineRead}
+use Rattle.mx_play.specs.declared.line_sources.LineRead.TheVariants as read
+use Rattle.mx_play.specs.declared.line_sources.TheConstants.{MAX_LINE}
 
 line_is_end : ◌≡◌ {A = LineRead} read.Line read.End → ⊥
 line_is_end e = cc

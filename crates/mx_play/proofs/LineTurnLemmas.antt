@@ -12,7 +12,7 @@ use Rattle.mx_play.specs.Commands.{IsTurnOf, Turn, executes, refuses, rests}
 use Rattle.mx_play.specs.LineTurns.{AreTurnsOf, AsksFor, HasFault, IsInputOf, IsTurnOfLine, ReadsInput, ends, has_ended, is_end}
 use Rattle.mx_play.specs.Sessions.{SessionState}
 use Rattle.mx_play.specs.Turns.{CanRefuse, Takes}
-use Rattle.mx_play.specs.declared.faults.InputFault.{InputFault}
+use Rattle.mx_play.specs.declared.input_fault.InputFault.{InputFault}
 use Rattle.mx_play.specs.declared.input.Input.{Input}
 use Rattle.mx_play.specs.declared.input.Input.TheVariants as input
 

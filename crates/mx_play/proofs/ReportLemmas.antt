@@ -14,7 +14,7 @@ use Rattle.mx_cli.proofs.OutputLemmas.{Appends-keeps, Appends-nil}
 use Rattle.mx_play.specs.Commands.{Turn, turn_fault}
 use Rattle.mx_play.specs.Printed.{AreAsides, GetsAsides, IsReported, aside, asides}
 use Rattle.mx_play.specs.Turns.{AreReported, Reports}
-use Rattle.mx_play.specs.declared.faults.InputFault.{InputFault}
+use Rattle.mx_play.specs.declared.input_fault.InputFault.{InputFault}
 
 -- ---- prompts
 

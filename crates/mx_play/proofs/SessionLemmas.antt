@@ -1,5 +1,6 @@
 -- What lines make of a session.
 use Rattle.std.proofs.Common.{◌≡◌, ◌≤◌, ◌-◌, ◌∙◌, ◌⊎◌, ℕ, zero, suc, List, [], ◌∷◌, ◌++◌, length, take, drop, slice_index_or, refl, sym, ap, subst, append_assoc, inl, inr}
+use Rattle.std.specs.Prelude.{string_bytes}
 use Rattle.mx_stamps.specs.Lists.{IsIn}
 use Rattle.mx_stamps.proofs.Lists.{append_nil}
 use Rattle.mx_nodelaws.specs.Core.{Core}
@@ -14,14 +15,16 @@ use Rattle.mx_scripts.specs.Lines.{Performs, Repeats}
 use Rattle.mx_scripts.specs.Played.{AreOver}
 use Rattle.mx_scripts.specs.Scripts.{IsOver}
 use Rattle.mx_scripts.specs.States.{IsDrawnOf, RunState}
+use Rattle.mx_scripts.specs.Told.{IsTold}
 use Rattle.mx_scripts.specs.declared.state.SessionEvent.{SessionEvent}
 use Rattle.mx_scripts.specs.declared.state.SessionEvent.TheVariants.{Happens, IsLost, LinksChange}
 use Rattle.mx_scripts.proofs.LineLemmas.{next_drawn}
 use Rattle.mx_play.specs.Histories.{CanLead, Leads, Makes, events_in, first_state}
-use Rattle.mx_play.specs.Sessions.{Adds, Extends, IsSession, SessionState, at_start, undone_in}
+use Rattle.mx_play.specs.Sessions.{AddsOne, IsSession, SessionState, at_start, undone_in}
 use Rattle.mx_play.specs.Turns.{IsDone, IsRedone, IsUndone}
+use Rattle.mx_play.specs.declared.printed_events.PrintedEvents.{PrintedEvents}
 use Rattle.mx_play.specs.declared.undo.Undone.{Undone}
-use Rattle.mx_play.proofs.HistoryLemmas.{leads_append, leads_members, leads_one, leads_prefix, leads_split, makes_leads}
+use Rattle.mx_play.proofs.HistoryLemmas.{Adds, leads_append, leads_members, leads_one, leads_prefix, leads_split, makes_leads, told_adds}
 
 -- ---- what happened is over these nodes and registers
 
@@ -77,9 +80,9 @@ module _ (nodes registers : ℕ) where
         subst (λ (l : List SessionEvent). Over l) (sym x.4)
         (over_append x.1 x.2 (performs_over 0 x.1 old x.0 x.3) (repeats_over times x.2 x.0 new x.5))
 
-take_first : {X : Type 0} (xs ys : List X) → take (length xs) (xs ++ ys) ≡ xs
-take_first [] ys = refl
-take_first {X} (x ∷ xs) ys = ap (λ (l : List X). x ∷ l) (take_first xs ys)
+take_whole : {X : Type 0} (xs : List X) → take (length xs) xs ≡ xs
+take_whole [] = refl
+take_whole {X} (x ∷ xs) = ap (λ (l : List X). x ∷ l) (take_whole xs)
 
 take_and_drop : {X : Type 0} (n : ℕ) (xs : List X) → xs ≡ take n xs ++ drop n xs
 take_and_drop zero xs = refl
@@ -215,52 +218,61 @@ module _ {H S M : Type 0} (core : Core H S M) (p : Fields) (shape : H) where
   pub can_truncate : (n : ℕ) (a : SessionState S M) → G a → CanLead core first (take n a.done)
   can_truncate n a g = leads_prefix core n a.done first a.state g.leads
 
-  -- what was there before a line that went on
-  module _ (a b : SessionState S M) (n : ℕ) (g : G a) (x : Extends a b) (here : n ≡ length a.done) where
+  -- what was there before a line that went on, and is not among the events of the session
+  module _ (a b : SessionState S M) (n : ℕ) (g : G a) (listed : b.done ≡ a.done) (here : n ≡ length a.done) where
     before_it : take n b.done ≡ a.done
-    before_it = ap (λ (k : ℕ). take k b.done) here ∙ ap (λ (l : List SessionEvent). take (length a.done) l) x.done ∙ take_first a.done x.more
+    before_it = ap (take n) listed ∙ ap (λ (k : ℕ). take k a.done) here ∙ take_whole a.done
 
     -- can happen again
     pub can_return : CanLead core first (take n b.done)
     can_return = subst (λ (l : List SessionEvent). CanLead core first l) (sym before_it) (a.state, g.leads)
 
     -- and then all is as before
-    pub is_as_before : (c : SessionState S M) → Leads core first (take n b.done) c.state → c.done ≡ take n b.done → c.marks ≡ b.marks → c.undone ≡ b.undone → c ≡ a
-    is_as_before c leads listed same kept =
+    pub is_as_before : (c : SessionState S M) → b.marks ≡ a.marks → b.undone ≡ a.undone → Leads core first (take n b.done) c.state → c.done ≡ take n b.done → c.marks ≡ b.marks → c.undone ≡ b.undone → c ≡ a
+    is_as_before c marks undone leads cut same kept =
         let again : Leads core first a.done c.state = subst (λ (l : List SessionEvent). Leads core first l c.state) before_it leads in
-        same_session c a (leads_one core a.done first c.state a.state again g.leads) (listed ∙ before_it) (same ∙ x.marks) (kept ∙ x.undone)
+        same_session c a (leads_one core a.done first c.state a.state again g.leads) (cut ∙ before_it) (same ∙ marks) (kept ∙ undone)
 
   pub same_holds : (a b : SessionState S M) → b ≡ a → G a → IsSession core p shape b
   same_holds a b same g = subst G (sym same) g
 
-  module _ (letter_text : Fields → M → Text) (line : Line) (a b c : SessionState S M) (before : ℕ) (es : List SessionEvent) (t t' : Text) (over : IsOver (length p.nodes) (length p.registers) line.order)
-      (repeats : Repeats core line.order line.times a.state es b.state) (adds : Adds core letter_text p es a b t t') (empty : t ≡ []) (here : before ≡ length a.done)
-      (state : c.state ≡ b.state) (done : c.done ≡ b.done) (marks : c.marks ≡ b.marks ++ before ∷ []) (undone : c.undone ≡ []) where
+  module _ (letter_text : Fields → M → Text) (line : Line) (a b c : SessionState S M) (before : ℕ) (es : List SessionEvent) (start printed : PrintedEvents) (t t' : Text)
+      (over : IsOver (length p.nodes) (length p.registers) line.order) (repeats : Repeats core line.order line.times a.state es b.state) (told : IsTold core (AddsOne core letter_text p) es a.state b.state start printed)
+      (no_events : start.events.items ≡ []) (no_text : string_bytes start.text ≡ []) (empty : t ≡ []) (here : before ≡ length a.done)
+      (listed : b.done ≡ a.done) (marked : b.marks ≡ a.marks) (state : c.state ≡ b.state) (done : c.done ≡ b.done ++ printed.events.items) (marks : c.marks ≡ b.marks ++ before ∷ []) (undone : c.undone ≡ [])
+      (text : t' ≡ t ++ string_bytes printed.text) where
     events_over : O es
     events_over = repeats_over (length p.nodes) (length p.registers) core line.order over line.times es a.state b.state repeats
+
+    adds : Adds core letter_text p es a.state b.state start printed
+    adds = told_adds core letter_text p es a.state b.state start printed told
 
     makes_here : Makes core letter_text p a.state es c.state adds.made
     makes_here = subst (λ (s : RunState S M). Makes core letter_text p a.state es s adds.made) (sym state) adds.makes
 
-    -- a line was done
-    pub line_done : IsDone core letter_text p line a c t'
-    line_done = record {
+    all_done : c.done ≡ a.done ++ es
+    all_done = done ∙ ap (λ (l : List SessionEvent). l ++ printed.events.items) listed ∙ ap (λ (l : List SessionEvent). a.done ++ l) (adds.listed ∙ ap (λ (l : List SessionEvent). l ++ es) no_events)
+
+    is_done : IsDone core letter_text p line a c t'
+    is_done = record {
       events = es;
       repeats = subst (λ (s : RunState S M). Repeats core line.order line.times a.state es s) (sym state) repeats;
-      makes = subst (λ (l : Text). Makes core letter_text p a.state es c.state l) (sym (adds.printed ∙ ap (λ (l : Text). l ++ adds.made) empty)) makes_here;
+      makes = subst (λ (l : Text). Makes core letter_text p a.state es c.state l)
+          (sym (text ∙ ap (λ (l : Text). l ++ string_bytes printed.text) empty ∙ adds.printed ∙ ap (λ (l : Text). l ++ adds.made) no_text)) makes_here;
       over = events_over;
-      done = done ∙ adds.done;
-      marks = marks ∙ ap (λ (l : List ℕ). l ++ before ∷ []) adds.marks ∙ ap (λ (n : ℕ). a.marks ++ n ∷ []) here;
+      done = all_done;
+      marks = marks ∙ ap (λ (l : List ℕ). l ++ before ∷ []) marked ∙ ap (λ (n : ℕ). a.marks ++ n ∷ []) here;
       undone = undone;
     }
 
-    -- and this is a session
-    pub line_session : G a → IsSession core p shape c
-    line_session g =
-        let listed = done ∙ adds.done in
-        session_back a c g
-        (subst (λ (l : List SessionEvent). Leads core first l c.state) (sym listed)
-        (leads_append core a.done es first a.state c.state g.leads (makes_leads core letter_text p es a.state c.state adds.made makes_here)))
-        (subst O (sym listed) (over_append (length p.nodes) (length p.registers) a.done es g.over events_over))
-        (subst (λ (l : List Undone). CanLead core c.state (undone_in l)) (sym undone) (c.state, refl))
-        (subst (λ (l : List Undone). O (undone_in l)) (sym undone) (over_none (length p.nodes) (length p.registers)))
+    -- a line was done, and this is a session
+    pub line_done : G a → IsDone core letter_text p line a c t' × IsSession core p shape c
+    line_done g = (
+      is_done,
+      session_back a c g
+          (subst (λ (l : List SessionEvent). Leads core first l c.state) (sym all_done)
+          (leads_append core a.done es first a.state c.state g.leads (makes_leads core letter_text p es a.state c.state adds.made makes_here)))
+          (subst O (sym all_done) (over_append (length p.nodes) (length p.registers) a.done es g.over events_over))
+          (subst (λ (l : List Undone). CanLead core c.state (undone_in l)) (sym undone) (c.state, refl))
+          (subst (λ (l : List Undone). O (undone_in l)) (sym undone) (over_none (length p.nodes) (length p.registers))),
+    )

@@ -4,8 +4,8 @@ use Rattle.std.specs.Prelude.{cond, not, if◌then◌else◌}
 use Rattle.std.specs.List.{after_first, before_first, position_or_len}
 use Rattle.mx_plan.specs.Text.{Text}
 use Rattle.mx_play.specs.Lines.{ReadsNext, before_lines, lines_of}
-use Rattle.mx_play.specs.declared.lines.LineRead.TheVariants.{Line, TooLong}
-use Rattle.mx_play.specs.declared.lines.TheConstants.{MAX_LINE}
+use Rattle.mx_play.specs.declared.line_sources.LineRead.TheVariants.{Line, TooLong}
+use Rattle.mx_play.specs.declared.line_sources.TheConstants.{MAX_LINE}
 
 -- the number of bytes before a line feed
 abbrev place : Text → ℕ

@@ -21,7 +21,7 @@ use Rattle.mx_play.specs.Turns.{AreReported, HasDone, HasExecuted, HasExpected, 
 use Rattle.mx_play.specs.Commands.{Turn, executes, refuses, turn_fault}
 use Rattle.mx_play.specs.Lines.{lines_of}
 use Rattle.mx_play.specs.LineTurns.{AreTurnsOf, ReadsInput, ends, has_ended, is_end}
-use Rattle.mx_play.specs.declared.faults.InputFault.{InputFault}
+use Rattle.mx_play.specs.declared.input_fault.InputFault.{InputFault}
 use Rattle.mx_play.specs.declared.input.Input.{Input}
 use Rattle.mx_play.specs.declared.input.Input.TheVariants as input
 use Rattle.mx_play.proofs.HistoryLemmas.{leads_runs}

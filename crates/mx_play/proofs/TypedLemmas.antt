@@ -8,9 +8,9 @@ use Rattle.mx_stamps.proofs.Lists.{append_nil}
 use Rattle.mx_plan.specs.Text.{Text}
 use Rattle.mx_play.specs.Lines.{ReadsNext, before_lines, lines_of}
 use Rattle.mx_play.specs.TypedLines.{AddsByte, Bytes, HasNoFeed, Holds, IsTaking, TakesByte, TakesOn, read_of}
-use Rattle.mx_play.specs.declared.lines.LineRead.{LineRead}
-use Rattle.mx_play.specs.declared.lines.LineRead.TheVariants.{End, Unreadable}
-use Rattle.mx_play.specs.declared.lines.TheConstants.{MAX_LINE}
+use Rattle.mx_play.specs.declared.line_sources.LineRead.{LineRead}
+use Rattle.mx_play.specs.declared.line_sources.LineRead.TheVariants.{End, Unreadable}
+use Rattle.mx_play.specs.declared.line_sources.TheConstants.{MAX_LINE}
 use Rattle.mx_play.specs.declared.typed_lines.ByteRead.{ByteRead}
 use Rattle.mx_play.specs.declared.typed_lines.ByteRead.TheVariants as byte_read
 

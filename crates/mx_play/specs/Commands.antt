@@ -8,7 +8,7 @@ use Rattle.mx_lines.specs.declared.commands.SessionCommand.TheVariants.{Does}
 use Rattle.mx_plan.specs.Text.{Text}
 use Rattle.mx_plan.specs.Fields.{Fields}
 use Rattle.mx_scripts.specs.Scripts.{IsOver}
-use Rattle.mx_play.specs.declared.faults.InputFault.{InputFault}
+use Rattle.mx_play.specs.declared.input_fault.InputFault.{InputFault}
 use Rattle.mx_play.specs.declared.input.Input.{Input}
 use Rattle.mx_play.specs.declared.input.Input.TheVariants as input
 

@@ -1,12 +1,10 @@
 -- What happens to a cluster and its parcels, one event after another, and what is then printed.
-use Rattle.std.specs.Prelude.{ℕ, ◌≡◌, List, [], ◌∷◌, ◌++◌, drop, length, slice_get}
+use Rattle.std.specs.Prelude.{◌≡◌, List, [], ◌∷◌, ◌++◌, length, slice_get}
 use Rattle.mx_nodelaws.specs.Core.{Core}
 use Rattle.mx_events.specs.declared.event.Event.{Event}
 use Rattle.mx_plan.specs.Text.{Text}
 use Rattle.mx_plan.specs.Fields.{Fields}
-use Rattle.mx_network.specs.Step.{ClusterState}
-use Rattle.mx_format.specs.ParcelTexts.{parcel_lines}
-use Rattle.mx_commands.specs.Runs.{at_rest, event_lines, text_of}
+use Rattle.mx_commands.specs.Runs.{at_rest, text_of}
 use Rattle.mx_scripts.specs.States.{Brings, IsAllowed, RunState, before_any}
 use Rattle.mx_scripts.specs.declared.state.SessionEvent.{SessionEvent}
 use Rattle.mx_scripts.specs.declared.state.SessionEvent.TheVariants.{Happens, IsLost, LinksChange}
@@ -23,17 +21,6 @@ events_in [] = []
 events_in (Happens e ∷ es) = e ∷ events_in es
 events_in (IsLost k ∷ es) = events_in es
 events_in (LinksChange change ∷ es) = events_in es
-
--- what is printed of an event that happened, by the cluster after it; `events` and `parcels` are the
--- numbers of the first new event and parcel
-abbrev pub text_from : {S M : Type 0} → (Fields → M → Text) → Fields → SessionEvent → ℕ → ℕ
-    → ClusterState S M → Text
-text_from letter_text p (Happens e) events parcels g =
-    event_lines p events (drop events g.trace)
-    ++ parcel_lines letter_text p parcels (drop parcels g.sent)
-text_from letter_text p (IsLost k) events parcels g =
-    lost_text letter_text p k (slice_get g.sent k)
-text_from letter_text p (LinksChange change) events parcels g = change_line p change
 
 module _ {H S M : Type 0} (core : Core H S M) where
   -- these events lead from one state to another: they happen in turn, each in a state that allows

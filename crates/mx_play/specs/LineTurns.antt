@@ -13,11 +13,11 @@ use Rattle.mx_plan.specs.Text.{Text}
 use Rattle.mx_plan.specs.Fields.{Fields}
 use Rattle.mx_play.specs.Lines.{lines_of}
 use Rattle.mx_play.specs.Commands.{Turn, executes, refuses, rests}
-use Rattle.mx_play.specs.declared.faults.InputFault.{InputFault}
-use Rattle.mx_play.specs.declared.faults.InputFault.TheVariants.{NotText, Line, TooLong, TooFew, NoUndo}
+use Rattle.mx_play.specs.declared.input_fault.InputFault.{InputFault}
+use Rattle.mx_play.specs.declared.input_fault.InputFault.TheVariants.{NotText, Line, TooLong, TooFew, NoUndo}
 use Rattle.mx_play.specs.declared.input.Input.{Input}
 use Rattle.mx_play.specs.declared.input.Input.TheVariants as input
-use Rattle.mx_play.specs.declared.lines.TheConstants.{MAX_LINE}
+use Rattle.mx_play.specs.declared.line_sources.TheConstants.{MAX_LINE}
 
 abbrev pub ends : Turn → Bool
 ends (executes End from) = true

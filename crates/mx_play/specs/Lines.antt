@@ -1,9 +1,9 @@
 -- The lines of a session.
 use Rattle.std.specs.Prelude.{ℕ, ◌≡◌, ◌≤◌, ◌<◌, ◌==◌, ⊤, Bool, true, false, List, [], ◌∷◌, Option, Some, IfSome, length, option_map, if◌then◌else◌}
 use Rattle.mx_plan.specs.Text.{Text}
-use Rattle.mx_play.specs.declared.lines.LineRead.{LineRead}
-use Rattle.mx_play.specs.declared.lines.LineRead.TheVariants.{Line, TooLong, End, Unreadable}
-use Rattle.mx_play.specs.declared.lines.TheConstants.{MAX_LINE}
+use Rattle.mx_play.specs.declared.line_sources.LineRead.{LineRead}
+use Rattle.mx_play.specs.declared.line_sources.LineRead.TheVariants.{Line, TooLong, End, Unreadable}
+use Rattle.mx_play.specs.declared.line_sources.TheConstants.{MAX_LINE}
 
 -- these lines, with a byte put before the first; if there are none, a line of that byte alone
 abbrev pub before_lines : ℕ → List Text → List Text

@@ -10,8 +10,8 @@ use Rattle.mx_plan.specs.Fields.{Fields}
 use Rattle.mx_format.specs.ParcelTexts.{parcel_text, route_text}
 use Rattle.mx_scripts.specs.declared.line_failure.LineFailure.{LineFailure}
 use Rattle.mx_scripts.specs.declared.line_failure.LineFailure.TheVariants as failure
-use Rattle.mx_play.specs.declared.faults.InputFault.{InputFault}
-use Rattle.mx_play.specs.declared.faults.InputFault.TheVariants as input_fault
+use Rattle.mx_play.specs.declared.input_fault.InputFault.{InputFault}
+use Rattle.mx_play.specs.declared.input_fault.InputFault.TheVariants as input_fault
 
 -- ---- faults
 

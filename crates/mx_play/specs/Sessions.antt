@@ -1,12 +1,13 @@
 -- What the lines of a session did.
-use Rattle.std.specs.Prelude.{ℕ, ◌≡◌, List, [], ◌∷◌, ◌++◌, length}
+use Rattle.std.specs.Prelude.{ℕ, ◌≡◌, List, [], ◌∷◌, ◌++◌, length, string_bytes}
 use Rattle.mx_nodelaws.specs.Core.{Core}
 use Rattle.mx_plan.specs.Text.{Text}
 use Rattle.mx_plan.specs.Fields.{Fields}
 use Rattle.mx_scripts.specs.Played.{AreOver}
-use Rattle.mx_scripts.specs.States.{Brings, RunState}
+use Rattle.mx_scripts.specs.States.{RunState}
 use Rattle.mx_scripts.specs.declared.state.SessionEvent.{SessionEvent}
-use Rattle.mx_play.specs.Histories.{CanLead, Leads, Makes, events_in, first_state, made_text}
+use Rattle.mx_play.specs.Histories.{CanLead, Leads, events_in, first_state, made_text}
+use Rattle.mx_play.specs.declared.printed_events.PrintedEvents.{PrintedEvents}
 use Rattle.mx_play.specs.declared.undo.Undone.{Undone}
 
 -- the cluster and its parcels as they are now; the events that happened, in order; for each line
@@ -39,31 +40,11 @@ pub record IsSession {H S M : Type 0} (core : Core H S M) (p : Fields) (shape : 
   pub redoes : CanLead core s.state (undone_in s.undone)
   pub later : AreOver (length p.nodes) (length p.registers) (events_in (undone_in s.undone))
 
--- more events happened, of a line that is not done yet
-pub record Extends {S M : Type 0} (old new : SessionState S M) : Type 0 where
-  pub more : List SessionEvent
-  pub done : new.done ≡ old.done ++ more
-  pub marks : new.marks ≡ old.marks
-  pub undone : new.undone ≡ old.undone
-
 module _ {H S M : Type 0} (core : Core H S M) (letter_text : Fields → M → Text) (p : Fields) where
-  -- these events happened, of a line that is not done yet, and what is printed of them was added to
-  -- the text
-  pub record Adds (events : List SessionEvent) (old new : SessionState S M) (text text' : Text)
-      : Type 0 where
-    pub made : Text
-    pub makes : Makes core letter_text p old.state events new.state made
-    pub done : new.done ≡ old.done ++ events
-    pub marks : new.marks ≡ old.marks
-    pub undone : new.undone ≡ old.undone
-    pub printed : text' ≡ text ++ made
-
-  -- one event happened, of a line that is not done yet, and what is printed of it was added to the
-  -- text
-  pub record AddsOne (event : SessionEvent) (old new : SessionState S M) (text text' : Text)
-      : Type 0 where
-    pub brings : Brings core old.state event new.state
-    pub done : new.done ≡ old.done ++ event ∷ []
-    pub marks : new.marks ≡ old.marks
-    pub undone : new.undone ≡ old.undone
-    pub printed : text' ≡ text ++ made_text core letter_text p event old.state new.state
+  -- an event, which leads from one state to another, was added to those of a line, and what is
+  -- printed of it to their text
+  pub record AddsOne (line : PrintedEvents) (event : SessionEvent) (old new : RunState S M)
+      (line' : PrintedEvents) : Type 0 where
+    pub listed : line'.events.items ≡ line.events.items ++ event ∷ []
+    pub printed : string_bytes line'.text
+        ≡ string_bytes line.text ++ made_text core letter_text p event old new

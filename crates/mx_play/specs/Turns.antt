@@ -29,8 +29,8 @@ use Rattle.mx_play.specs.Sessions.{SessionState, at_start}
 use Rattle.mx_play.specs.SessionScripts.{session_script}
 use Rattle.mx_play.specs.Views.{mark_line, view_text}
 use Rattle.mx_play.specs.declared.input.Input.{Input}
-use Rattle.mx_play.specs.declared.faults.InputFault.{InputFault}
-use Rattle.mx_play.specs.declared.faults.InputFault.TheVariants as input_fault
+use Rattle.mx_play.specs.declared.input_fault.InputFault.{InputFault}
+use Rattle.mx_play.specs.declared.input_fault.InputFault.TheVariants as input_fault
 use Rattle.mx_play.specs.declared.undo.Undone.{Undone}
 
 -- an output got what is reported of line k, which has this fault or none

@@ -3,9 +3,9 @@ use Rattle.std.specs.Prelude.{ℕ, ◌≡◌, ◌≤◌, ◌<◌, ◌-◌, ◌==
 use Rattle.std.specs.Io.KnownBytes.{Consumes, IsAtEnd, Keeps, prepend_known}
 use Rattle.mx_plan.specs.Text.{Text}
 use Rattle.mx_play.specs.Lines.{ReadsNext, lines_of}
-use Rattle.mx_play.specs.declared.lines.LineRead.{LineRead}
-use Rattle.mx_play.specs.declared.lines.LineRead.TheVariants.{Line, TooLong}
-use Rattle.mx_play.specs.declared.lines.TheConstants.{MAX_LINE}
+use Rattle.mx_play.specs.declared.line_sources.LineRead.{LineRead}
+use Rattle.mx_play.specs.declared.line_sources.LineRead.TheVariants.{Line, TooLong}
+use Rattle.mx_play.specs.declared.line_sources.TheConstants.{MAX_LINE}
 use Rattle.mx_play.specs.declared.typed_lines.ByteRead.{ByteRead}
 use Rattle.mx_play.specs.declared.typed_lines.ByteRead.TheVariants as byte_read
 use Rattle.mx_play.specs.declared.typed_lines.Typed.{Typed}

@@ -8,9 +8,9 @@ ghost use Rattle.mx_cli.specs.Reports.{Answers, Declines, seen};
 ghost use Rattle.mx_cli.specs.Frames.{IsRunStatus};
 ghost use Rattle.mx_play.specs.Played.{HasPlayed, IsPlayedBy, PlaysAs};
 
-use crate::lines::Lines;
+use crate::line_sources::Lines;
+use crate::session_by_plan::run_by_plan;
 use crate::session_files::fetch_start;
-use crate::shapes::run_by_plan;
 use mx_cli::{Names, PlanAndText, Request, close, parse, refuse};
 use mx_io::{Output, Source};
 use std::alloc::Global;

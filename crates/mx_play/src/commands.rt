@@ -10,9 +10,9 @@ ghost use Rattle.mx_play.specs.Views.{mark_line};
 ghost use Rattle.mx_lines.specs.Names.{texts_of};
 ghost use Rattle.mx_scripts.specs.Scripts.{IsOver};
 
-use crate::faults::InputFault;
 use crate::help::add_words;
-use crate::interpreter::repeat;
+use crate::input_fault::InputFault;
+use crate::printed_events::PrintedEvents;
 use crate::run_texts::add_events;
 use crate::session::{Session, Setting};
 use crate::session_script::add_script;
@@ -22,7 +22,7 @@ use mx_format::Letter;
 use mx_knowledge::Knowledge;
 use mx_lines::{Line, SessionCommand, words_in};
 use mx_nodelaws::Exclusion;
-use mx_scripts::{LineFailure, compare_outcome};
+use mx_scripts::{LineFailure, compare_outcome, repeat};
 use std::alloc::{AllocError, Global};
 use std::str;
 
@@ -73,7 +73,7 @@ where
     }
 }
 
-fn do_line<C: Exclusion>(
+fn do_line<C: Exclusion + Knowledge>(
     setting: &Setting<'_, C>,
     line: &Line,
     session: &mut Session<C>,
@@ -91,9 +91,10 @@ where
         IsSession C.core setting.now.plan.now setting.now.shape.now session.new) }
 {
     let before = event_count(session);
-    match repeat(setting, line, session, text) {
+    let mut printed = PrintedEvents::new(setting.alloc);
+    match repeat(setting.plan, line, &mut session.state, &mut printed) {
         Ok(()) => {
-            commit(before, session)?;
+            commit(before, &printed, session, text)?;
             Ok(None)
         }
         Err(failure) => {
@@ -101,18 +102,28 @@ where
                 return Err(AllocError);
             }
             truncate(setting, before, session)?;
-            text.clear();
             Ok(Some(InputFault::Line(failure)))
         }
     }
 }
 
-fn commit<C: Exclusion>(before: usize, session: &mut Session<C>) -> Result<(), AllocError>
+/// Adds a line that was done to a session. There were `before` events before it.
+fn commit<C: Exclusion>(
+    before: usize,
+    line: &PrintedEvents,
+    session: &mut Session<C>,
+    text: &mut String,
+) -> Result<(), AllocError>
     ensures state { session.new.state ≡ session.old.state }
-    ensures done { session.new.done ≡ session.old.done }
+    ensures done { OnOk result
+        (session.new.done ≡ session.old.done ++ line.now.events.items) }
     ensures marks { OnOk result (session.new.marks ≡ session.old.marks ++ before ∷ []) }
     ensures undone { OnOk result (session.new.undone ≡ []) }
+    ensures printed { OnOk result
+        (string_bytes text.new ≡ string_bytes text.old ++ string_bytes line.now.text) }
 {
+    text.push_str(line.text.as_str())?;
+    session.done.extend_from_slice(line.events.as_slice())?;
     session.marks.push(before)?;
     session.undone.clear();
     Ok(())

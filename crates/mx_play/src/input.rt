@@ -5,8 +5,8 @@ ghost use Rattle.mx_play.specs.Commands.{IsInput};
 ghost use Rattle.mx_play.specs.LineTurns.{Means, MeansText, ReadsInput, is_end};
 ghost use Rattle.mx_play.specs.Printed.{GetsAsides};
 
-use crate::faults::InputFault;
-use crate::lines::{LineRead, Lines};
+use crate::input_fault::InputFault;
+use crate::line_sources::{LineRead, Lines};
 use mx_cli::{Fault, Named, Stop};
 use mx_io::{Output, OutputFault};
 use mx_lines::{SessionCommand, read_command, words_in};

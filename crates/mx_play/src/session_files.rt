@@ -6,7 +6,7 @@ ghost use Rattle.mx_cli.specs.Requests.{text_of};
 ghost use Rattle.mx_play.specs.Lines.{AreLeft, session_lines};
 ghost use Rattle.mx_play.specs.Played.{IsLinePlan, IsPlanNamed, IsScriptOf, told_of_script};
 
-use crate::lines::{LineRead, Lines};
+use crate::line_sources::{LineRead, Lines};
 use mx_cli::{Fault, Named, PlanAndText, Stop, fetch, fetch_plan, plan_in};
 use mx_io::Source;
 use mx_plan::Plan;

@@ -10,9 +10,9 @@ ghost use Rattle.mx_play.specs.Sessions.{IsSession, at_start};
 ghost use Rattle.mx_play.specs.Turns.{HasRun, HasTurned, IsPlayed, PrintsTurn, Reports, RunsOn, TakesTurn};
 
 use crate::commands::execute;
-use crate::faults::{InputFault, InputFaultLine, message_about};
 use crate::input::{Input, greet, is_end, read_input};
-use crate::lines::{Lines, Listed};
+use crate::input_fault::{InputFault, InputFaultLine, message_about};
+use crate::line_sources::{Lines, Listed};
 use crate::run_texts::add_end;
 use crate::session::{Session, Setting};
 use mx_cli::{Fault, Named, Stop, write_line};

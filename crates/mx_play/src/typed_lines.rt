@@ -1,7 +1,7 @@
 ghost use Rattle.std.specs.Prelude.{◌≡◌, ◌<◌, IfOk};
 ghost use Rattle.mx_play.specs.TypedLines.{AddsByte, Bytes, IsTaking, TakesByte, TakesOn, lines_to_come, read_of, to_come};
 
-use crate::lines::{LineRead, Lines, MAX_LINE};
+use crate::line_sources::{LineRead, Lines, MAX_LINE};
 use mx_io::{Counted, MAX_BYTES};
 use std::alloc::AllocError;
 use std::io::{ErrorKind, Read};

@@ -6,7 +6,7 @@ ghost use Rattle.mx_play.specs.Printed.{if_done, steps_line};
 ghost use Rattle.mx_play.specs.Sessions.{IsSession};
 ghost use Rattle.mx_play.specs.Turns.{HasRedone, HasUndone, redone_text, undone_text};
 
-use crate::faults::InputFault;
+use crate::input_fault::InputFault;
 use crate::session::{Session, Setting, first_state};
 use mx_format::Letter;
 use mx_knowledge::Knowledge;

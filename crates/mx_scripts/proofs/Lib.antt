@@ -8,3 +8,4 @@ pub mod StopLemmas
 pub mod OverLemmas
 pub mod LineLemmas
 mod PartitionLemmas
+pub mod ToldLemmas

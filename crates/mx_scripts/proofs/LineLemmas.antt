@@ -277,31 +277,24 @@ module _ {H S M : Type 0} (core : Core H S M) (p : Fields) where
       let mid : RunState S M = x.0 in
       all_few texts mid new x.2 (text_few text old mid x.1 few)
 
-  -- the file of what lines did
-  pub file_of_lines : (script : Text) (start : ClusterState S M) (last : RunState S M) (trace : List Entry) (text : Text) → start.trace ≡ [] → DoesAll core p (lines script) (before_any start) last
-      → trace ≡ last.cluster.trace → text ≡ file_text p (events_of trace) → IsFileOfScript core p start script text
-  file_of_lines script start last trace text empty does same is = record {
-    last = last;
-    does = does;
-    is = is ∙ ap (λ (t : List Entry). file_text p (events_of t)) same;
-    few = all_few (lines script) (before_any start) last does (subst (λ (t : List Entry). length t ≤ MAX_EVENTS) (sym empty) (omega arith));
-    file = file_of_played core p start last.cluster trace text empty (all_plays (lines script) (before_any start) last does) same is;
-  }
-
-  pub file_from : {T E : Type 0} (bytes : T → Text) (script : Text) (start : ClusterState S M) (old last : RunState S M) (r : Result T E) → old ≡ before_any start → start.trace ≡ []
-      → OnOk r (DoesAll core p (lines script) old last) → IfOk r (λ t. bytes t ≡ file_text p (events_of last.cluster.trace)) → IfOk r (λ t. IsFileOfScript core p start script (bytes t))
-  file_from bytes script start old last (Ok t) fresh empty does is =
-      file_of_lines script start last last.cluster.trace (bytes t) empty (subst (λ (s : RunState S M). DoesAll core p (lines script) s last) fresh does) refl is
-  file_from bytes script start old last (Err e) fresh empty does is = tt
+  -- the file of what lines did, from before any parcel was sent
+  pub file_from : (script : Text) (start : ClusterState S M) (old last : RunState S M) (text : Text) → old ≡ before_any start → start.trace ≡ [] → DoesAll core p (lines script) old last
+      → text ≡ file_text p (events_of last.cluster.trace) → IsFileOfScript core p start script text
+  file_from script start old last text fresh empty done is =
+      let does : DoesAll core p (lines script) (before_any start) last = subst (λ (s : RunState S M). DoesAll core p (lines script) s last) fresh done in
+      record {
+        last = last;
+        does = does;
+        is = is;
+        few = all_few (lines script) (before_any start) last does (subst (λ (t : List Entry). length t ≤ MAX_EVENTS) (sym empty) (omega arith));
+        file = file_of_played core p start last.cluster last.cluster.trace text empty (all_plays (lines script) (before_any start) last does) refl is;
+      }
 
   -- lines that give no file, from before any parcel was sent
-  stops_from : (script line : Text) (start : ClusterState S M) (old : RunState S M) → old ≡ before_any start → StopsBy core p (lines script) old line → StopsFrom core p start script line
-  stops_from script line start old fresh h = record { stops = subst (λ (s : RunState S M). StopsBy core p (lines script) s line) fresh h }
-
-  pub none_from : {T : Type 0} (script : Text) (start : ClusterState S M) (old : RunState S M) (r : Result T Stop) → old ≡ before_any start
-      → IfErr r (HasLine (StopsBy core p (lines script) old)) → IfErr r (HasLine (StopsFrom core p start script))
-  none_from script start old (Ok t) fresh h = tt
-  none_from script start old (Err s) fresh h = line_as s (λ line. stops_from script line start old fresh) h
+  pub stops_from : (script : Text) (start : ClusterState S M) (old : RunState S M) (s : Stop) → old ≡ before_any start → HasLine (StopsBy core p (lines script) old) s
+      → HasLine (StopsFrom core p start script) s
+  stops_from script start old s fresh h =
+      line_as {P = StopsBy core p (lines script) old} {Q = StopsFrom core p start script} s (λ line x. record { stops = subst (λ (now : RunState S M). StopsBy core p (lines script) now line) fresh x }) h
 
   -- ---- a loop over the lines
 
@@ -315,6 +308,12 @@ module _ {H S M : Type 0} (core : Core H S M) (p : Fields) where
   does_more lines line old mid new x y =
       subst (λ (l : List Text). DoesAll core p l old new) (sym (map-append (λ (text : Bor Text). text.now) lines (line ∷ [])))
       (all_more (texts_of lines) line.now old mid new x y)
+
+  -- a line was done, and more is known of its events
+  pub line_does : {T E : Type 0} (r : Result T E) (text : Text) (line : Line) (old new : RunState S M) (X : List SessionEvent → Type 0) → Reads p text (script_line.Does line)
+      → OnOk r ((es : List SessionEvent) × Repeats core line.order line.times old es new × X es) → OnOk r (DoesText core p text old new)
+  line_does (Ok t) text line old new X reads x = (script_line.Does line, reads, (x.0, x.1))
+  line_does (Err e) text line old new X reads x = tt
 
   -- ---- a line that is not done
 

@@ -5,6 +5,7 @@ pub mod Links
 pub mod Fates
 pub mod States
 pub mod Expectations
+pub mod Told
 pub mod Lines
 pub mod ScriptFiles
 pub mod Printed

@@ -21,6 +21,7 @@ pub use files::{add_file, file_of, reads_back};
 pub use in_flight::InFlight;
 pub use line_failure::{LineFailure, RefusedLine, message_of};
 pub use on_script::OnScript;
-pub use recorder::Recorder;
+pub use recorder::{Led, Recorder};
+pub use script::repeat;
 pub use script_command::{Script, run_script};
 pub use state::{SessionEvent, State};

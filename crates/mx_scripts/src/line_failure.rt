@@ -68,16 +68,6 @@ impl From<StepFault> for LineFailure {
     }
 }
 
-impl fmt::Display for LineFailure {
-    fn fmt<W: fmt::Write>(&self, f: &mut fmt::Formatter<W>) -> fmt::Result {
-        match self {
-            LineFailure::WrongWord(error) => write!(f, "{}", error.fault),
-            LineFailure::Refused(fault) => write!(f, "{fault}"),
-            LineFailure::Memory => f.write_str("out of memory"),
-        }
-    }
-}
-
 /// A line of a script that is refused.
 #[derive(Drop)]
 pub struct RefusedLine {

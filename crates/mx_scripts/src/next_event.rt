@@ -43,7 +43,11 @@ impl<C: Exclusion> State<C> {
     ///
     /// `NotUnderWay` or `NotDelivered` if there is no such parcel, `LinkCut` for a delivery over a
     /// cut link, and `TooMany` for an event of the cluster beyond 1,000,000.
-    pub fn next_event(&self, order: &Order, done: u64) -> Result<Option<SessionEvent>, LineFault>
+    pub(crate) fn next_event(
+        &self,
+        order: &Order,
+        done: u64,
+    ) -> Result<Option<SessionEvent>, LineFault>
         ensures next { IfOk result
             (IsNext self.now.fates self.now.cluster.sent order.now done) }
         ensures allowed { IfOk result (λ next. IfSome next (IsAllowed self.now)) }

@@ -1,11 +1,11 @@
 //! `script`: the events that the lines of a script ask for, as a file.
 
 ghost use Rattle.std.specs.Prelude.{◌≡◌, ◌⊎◌, List, [], string_bytes, IfErr, IfOk, OnOk};
-ghost use Rattle.std.specs.Str.Lines.{lines};
-ghost use Rattle.mx_scripts.specs.Lines.{Does, DoesAll, DoesText, IsNotDone, Misreads, Performs, Reads, StopsAfter, StopsBy, StopsWithin};
+ghost use Rattle.mx_scripts.specs.Lines.{DoesText, IsNotDone, Misreads, Performs, Reads, Repeats, StopsAfter, StopsWithin};
 ghost use Rattle.mx_scripts.specs.ScriptFiles.{IsFileOfScript, IsScriptFile, StopsFrom, StopsInPlan};
 ghost use Rattle.mx_scripts.specs.Scripts.{HasLine, IsLineOf};
 ghost use Rattle.mx_scripts.specs.States.{Brings, IsAllowed, IsNotApplied, before_any};
+ghost use Rattle.mx_scripts.specs.Told.{IsTold};
 ghost use Rattle.mx_scripts.specs.declared.state.SessionEvent.{SessionEvent};
 
 use crate::expectation::compare_outcome;
@@ -56,30 +56,16 @@ fn file_of_script<C: Exclusion, K: Recorder<State<C>>>(
     ensures err { IfErr result (HasLine
         (StopsFrom C.core plan.now state.old.cluster script.now)) }
 {
-    do_script(alloc, plan, script, state, recorder)?;
-    let text = file_of(alloc, plan, state.trace())?;
-    Ok(text)
-}
-
-fn do_script<C: Exclusion, K: Recorder<State<C>>>(
-    alloc: Global,
-    plan: &Plan,
-    script: &str,
-    state: &mut State<C>,
-    recorder: &mut K,
-) -> Result<(), Stop>
-    ensures ok { OnOk result (DoesAll C.core plan.now (lines script.now) state.old state.new) }
-    ensures err { IfErr result (HasLine
-        (StopsBy C.core plan.now (lines script.now) state.old)) }
-{
     let mut number = 0u64;
     for line in script.lines() {
         number = number.saturating_add(1);
-        if let Err(failure) = do_line(alloc, plan, number, line, state, recorder) {
+        recorder.line(number);
+        if let Err(failure) = do_line(alloc, plan, line, state, recorder) {
             return Err(refuse(alloc, plan, number, failure, line, state, recorder));
         }
     }
-    Ok(())
+    let text = file_of(alloc, plan, state.trace())?;
+    Ok(text)
 }
 
 /// Tells the recorder of a line that is not done. Returns why the script stops: with the line of the
@@ -107,7 +93,6 @@ fn refuse<C: Exclusion, K: Recorder<State<C>>>(
 fn do_line<C: Exclusion, K: Recorder<State<C>>>(
     alloc: Global,
     plan: &Plan,
-    number: u64,
     line: &str,
     state: &mut State<C>,
     recorder: &mut K,
@@ -116,7 +101,7 @@ fn do_line<C: Exclusion, K: Recorder<State<C>>>(
     ensures err { IfErr result (IsNotDone C.core plan.now line.now state.old) }
 {
     match line_in(alloc, plan, line)? {
-        ScriptLine::Does(line) => repeat(plan, number, &line, state, recorder),
+        ScriptLine::Does(line) => repeat(plan, &line, state, recorder),
         ScriptLine::Expects => compare_outcome(alloc, line, state.trace()),
         ScriptLine::Nothing => Ok(()),
     }
@@ -134,39 +119,48 @@ fn line_in(alloc: Global, plan: &Plan, line: &str) -> Result<ScriptLine, LineFai
     }
 }
 
-fn repeat<C: Exclusion, K: Recorder<State<C>>>(
+/// Does what a line asks for, as often as it says, and tells the recorder of each event. After an
+/// error only a part of the line is done.
+///
+/// # Errors
+///
+/// `Refused` if the line stops, and `Memory` if memory runs out.
+pub fn repeat<C: Exclusion, K: Recorder<State<C>>>(
     plan: &Plan,
-    number: u64,
     line: &Line,
     state: &mut State<C>,
     recorder: &mut K,
 ) -> Result<(), LineFailure>
-    ensures ok { OnOk result (Does C.core line.now state.old state.new) }
+    ensures ok { OnOk result ((es : List SessionEvent)
+        × Repeats C.core line.now.order line.now.times state.old es state.new
+        × IsTold C.core (λ k. K.noted k plan.now) es state.old state.new
+        recorder.old recorder.new) }
     ensures err { IfErr result
         (StopsWithin C.core line.now.order line.now.times state.old) }
 {
     for _count in 0..line.times {
-        perform(plan, number, &line.order, state, recorder)?;
+        perform(plan, &line.order, state, recorder)?;
     }
     Ok(())
 }
 
 fn perform<C: Exclusion, K: Recorder<State<C>>>(
     plan: &Plan,
-    number: u64,
     order: &Order,
     state: &mut State<C>,
     recorder: &mut K,
 ) -> Result<(), LineFailure>
     ensures ok { OnOk result ((es : List SessionEvent)
-        × Performs C.core order.now 0 state.old es state.new) }
+        × Performs C.core order.now 0 state.old es state.new
+        × IsTold C.core (λ k. K.noted k plan.now) es state.old state.new
+        recorder.old recorder.new) }
     ensures err { IfErr result (λ why. (es : List SessionEvent)
         × StopsAfter C.core order.now 0 state.old es why) }
 {
     for count in 0..u64::MAX {
         let next = state.next_event(order, count)?;
         match next {
-            Some(event) => do_event(plan, number, &event, state, recorder)?,
+            Some(event) => do_event(plan, &event, state, recorder)?,
             None => return Ok(()),
         }
     }
@@ -175,16 +169,18 @@ fn perform<C: Exclusion, K: Recorder<State<C>>>(
 
 fn do_event<C: Exclusion, K: Recorder<State<C>>>(
     plan: &Plan,
-    number: u64,
     event: &SessionEvent,
     state: &mut State<C>,
     recorder: &mut K,
 ) -> Result<(), LineFailure>
     requires { IsAllowed state.old event.now }
     ensures ok { OnOk result (Brings C.core state.old event.now state.new) }
+    ensures noted { OnOk result
+        (K.noted recorder.old plan.now event.now state.old state.new recorder.new) }
     ensures err { IfErr result (IsNotApplied C.core state.old event.now state.new) }
 {
+    let before = state.cluster().sent();
     state.apply(event)?;
-    recorder.event(plan, number, event, state)?;
+    recorder.event(plan, event, before, state)?;
     Ok(())
 }

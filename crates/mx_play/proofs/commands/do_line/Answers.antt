@@ -1,38 +1,56 @@
-use Rattle.std.proofs.Common.{refl, string_bytes}
+use Rattle.std.proofs.Common.{ap, refl, string_bytes, subst}
 use Rattle.mx_format.specs.LetterTexts.{letter_text}
-use Rattle.mx_play.proofs.SessionLemmas.{can_return, is_as_before, line_done, line_session, same_holds}
+use Rattle.mx_scripts.specs.Lines.{Repeats, StopsWithin}
+use Rattle.mx_scripts.specs.Told.{IsTold}
+use Rattle.mx_play.specs.Sessions.{AddsOne, SessionState}
+use Rattle.mx_play.proofs.SessionLemmas.{can_return, is_as_before, line_done, same_holds}
 use Rattle.mx_play.proofs.commands.do_line.Goals as goal
 
-pub returns-in_ok-commit-in-Ok-clause-done : goal.returns-in_ok-commit-in-Ok-clause-done
-returns-in_ok-commit-in-Ok-clause-done g c =
+pub returns-in_ok-commit-in-Ok : goal.returns-in_ok-commit-in-Ok
+returns-in_ok-commit-in-Ok g c =
     let s = c.args.setting.now in
+    let core = g.C.Exclusion.core in
+    let lt = letter_text g.C.Msg.Letter.parts in
+    let line = c.args.line.now in
+    let i = c.session.inside in
+    let a = c.args.session.now in
+    let b : SessionState g.row.C.Denot g.row.C-Msg.Denot = record { state = c.repeat.new.state; done = i.done.items; marks = i.marks.items; undone = i.undone.items } in
+    let start = c.new-printed.result in
+    let printed = c.repeat.new.recorder in
     let r = c.in-Ok.ensures.ok in
+    let repeats = subst (λ (x : SessionState g.row.C.Denot g.row.C-Msg.Denot). Repeats core line.order line.times x.state r.0 b.state) c.session.view_is r.1 in
+    let told = subst (λ (x : SessionState g.row.C.Denot g.row.C-Msg.Denot). IsTold core (AddsOne core lt s.plan.now) r.0 x.state b.state start printed) c.session.view_is r.2 in
+    let listed = ap (λ (x : SessionState g.row.C.Denot g.row.C-Msg.Denot). x.done) c.session.view_is in
+    let marked = ap (λ (x : SessionState g.row.C.Denot g.row.C-Msg.Denot). x.marks) c.session.view_is in
     let k = c.in_ok-commit-in-Ok.ensures in
-    line_done g.C.Exclusion.core s.plan.now s.shape.now (letter_text g.C.Msg.Letter.parts) c.args.line.now c.args.session.now c.repeat.new.session c.commit.new.session c.event_count-before.result r.0
-    (string_bytes c.args.text.now) (string_bytes c.repeat.new.text) c.requires.over r.1 r.2 c.requires.empty c.event_count-before.ensures k.state k.done k.marks k.undone
-
-pub returns-in_ok-commit-in-Ok-clause-is : goal.returns-in_ok-commit-in-Ok-clause-is
-returns-in_ok-commit-in-Ok-clause-is g c =
-    let s = c.args.setting.now in
-    let r = c.in-Ok.ensures.ok in
-    let k = c.in_ok-commit-in-Ok.ensures in
-    line_session g.C.Exclusion.core s.plan.now s.shape.now (letter_text g.C.Msg.Letter.parts) c.args.line.now c.args.session.now c.repeat.new.session c.commit.new.session c.event_count-before.result r.0
-    (string_bytes c.args.text.now) (string_bytes c.repeat.new.text) c.requires.over r.1 r.2 c.requires.empty c.event_count-before.ensures k.state k.done k.marks k.undone c.requires.is
+    let done = line_done core s.plan.now s.shape.now lt line a b c.commit.new.session c.event_count-before.result r.0 start printed (string_bytes c.args.text.now) (string_bytes c.commit.new.text) c.requires.over
+    repeats told c.new-printed.ensures.events c.new-printed.ensures.text c.requires.empty c.event_count-before.ensures listed marked k.state k.done k.marks k.undone k.printed c.requires.is in
+    record { done = done.0; is = done.1 }
 
 pub truncate-requires : goal.truncate-requires
 truncate-requires g c =
     let s = c.args.setting.now in
-    (search c.requires-raw, can_return g.C.Exclusion.core s.plan.now s.shape.now c.args.session.now c.repeat.new.session c.event_count-before.result c.requires.is c.in-Err.ensures.err c.event_count-before.ensures)
+    let i = c.session.inside in
+    let b : SessionState g.row.C.Denot g.row.C-Msg.Denot = record { state = c.repeat.new.state; done = i.done.items; marks = i.marks.items; undone = i.undone.items } in
+    let listed = ap (λ (x : SessionState g.row.C.Denot g.row.C-Msg.Denot). x.done) c.session.view_is in
+    (search c.requires-raw, can_return g.C.Exclusion.core s.plan.now s.shape.now c.args.session.now b c.event_count-before.result c.requires.is listed c.event_count-before.ensures)
 
 pub returns-in_ok-truncate-in-Err : goal.returns-in_ok-truncate-in-Err
 returns-in_ok-truncate-in-Err g c =
     let s = c.args.setting.now in
+    let core = g.C.Exclusion.core in
+    let i = c.session.inside in
+    let a = c.args.session.now in
+    let b : SessionState g.row.C.Denot g.row.C-Msg.Denot = record { state = c.repeat.new.state; done = i.done.items; marks = i.marks.items; undone = i.undone.items } in
+    let listed = ap (λ (x : SessionState g.row.C.Denot g.row.C-Msg.Denot). x.done) c.session.view_is in
+    let marked = ap (λ (x : SessionState g.row.C.Denot g.row.C-Msg.Denot). x.marks) c.session.view_is in
+    let kept = ap (λ (x : SessionState g.row.C.Denot g.row.C-Msg.Denot). x.undone) c.session.view_is in
     let t = c.in_ok-truncate-in-Err.ensures in
-    let same = is_as_before g.C.Exclusion.core s.plan.now s.shape.now c.args.session.now c.repeat.new.session c.event_count-before.result c.requires.is c.in-Err.ensures.err c.event_count-before.ensures
-    c.truncate.new.session t.leads t.done t.marks t.undone in
+    let same = is_as_before core s.plan.now s.shape.now a b c.event_count-before.result c.requires.is listed c.event_count-before.ensures c.truncate.new.session marked kept t.leads t.done t.marks t.undone in
+    let stops = subst (λ (x : SessionState g.row.C.Denot g.row.C-Msg.Denot). StopsWithin core c.args.line.now.order c.args.line.now.times x.state c.in-Err.failure) c.session.view_is c.in-Err.ensures.err in
     record {
-      done = ((c.in-Err.failure, c.in-Err.ensures.stops, c.in_default.not-Memory, refl), record { same = same; printed = c.clear.ensures.bytes });
-      is = same_holds g.C.Exclusion.core s.plan.now s.shape.now c.args.session.now c.truncate.new.session same c.requires.is;
+      done = ((c.in-Err.failure, stops, c.in_default.not-Memory, refl), record { same = same; printed = c.requires.empty });
+      is = same_holds core s.plan.now s.shape.now a c.truncate.new.session same c.requires.is;
     }
 
 pub event_count-before-requires : goal.event_count-before-requires

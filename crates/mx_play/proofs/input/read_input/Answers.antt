@@ -1,7 +1,7 @@
 use Rattle.std.proofs.Common.{IfSome, List, ℕ, subst}
 use Rattle.mx_play.specs.Lines.{ReadsNext}
 use Rattle.mx_play.specs.LineTurns.{Means}
-use Rattle.mx_play.specs.declared.lines.LineRead.{LineRead}
+use Rattle.mx_play.specs.declared.line_sources.LineRead.{LineRead}
 use Rattle.mx_play.proofs.LinePlanLemmas.{line_input}
 use Rattle.mx_play.proofs.input.read_input.Goals as goal
 

@@ -1,5 +1,5 @@
 use Rattle.std.proofs.Common.{◌≡◌, ◌≤◌, ◌-◌, ℕ, ap, arith, length, rules, refl}
-use Rattle.mx_play.specs.declared.faults.InputFault.TheVariants as input_fault
+use Rattle.mx_play.specs.declared.input_fault.InputFault.TheVariants as input_fault
 use Rattle.mx_play.proofs.SessionLemmas.{can_truncate, session_undone, was_undone}
 use Rattle.mx_play.proofs.undo.undo_lines.Goals as goal
 

@@ -1,7 +1,7 @@
 use Rattle.std.proofs.Common.{arith, subst}
 use Rattle.mx_lines.specs.declared.line.ScriptLine.{ScriptLine}
 use Rattle.mx_scripts.specs.Lines.{IsNotDone, Reads}
-use Rattle.mx_scripts.proofs.LineLemmas.{err_of, misread, not_expected, not_repeated}
+use Rattle.mx_scripts.proofs.LineLemmas.{err_of, line_does, misread, not_expected, not_repeated}
 use Rattle.mx_scripts.proofs.script.do_line.Goals as goal
 
 pub line_in-requires : goal.line_in-requires
@@ -17,6 +17,11 @@ returns-in_err-line-clause-err g c =
     let why = c.in_err-line.field-0.0 in
     err_of (IsNotDone g.C.Exclusion.core p c.args.line.now old) c.from_residual.result why c.from_residual.ensures.1
     (misread g.C.Exclusion.core p c.args.line.now old why c.in_err-line.ensures.err)
+
+pub returns-in-Does-clause-ok : goal.returns-in-Does-clause-ok
+returns-in-Does-clause-ok g c =
+    let reads = subst (λ (read : ScriptLine). Reads c.args.plan.now c.args.line.now read) c.in-Does.is c.in_ok-line.ensures.ok in
+    line_does g.C.Exclusion.core c.args.plan.now c.repeat.result c.args.line.now c.in-Does.line c.args.state.now c.repeat.new.state _ reads c.repeat.ensures.ok
 
 pub returns-in-Does-clause-err : goal.returns-in-Does-clause-err
 returns-in-Does-clause-err g c =

@@ -1,21 +1,56 @@
-use Rattle.std.proofs.Common.{◌∙◌, List, Ok, ap, string_bytes}
-use Rattle.std.specs.Str.Lines.{lines}
-use Rattle.mx_cli.specs.declared.stop.Stop.{Stop}
+use Rattle.std.proofs.Common.{◌≡◌, ◌∙◌, ◌+◌, ◌-◌, ◌^◌, ◌∷◌, [], ℕ, List, ap, arith, length, min, refl, rules, string_bytes, subst}
+use Rattle.std.proofs.lemmas.Iterator.Consumers.{YieldsList-end, YieldsList-so_far, YieldsList-turn}
+use Rattle.std.proofs.lemmas.Iterator.Splits.{YieldsList-from_lines}
+use Rattle.std.proofs.lemmas.List.{length-append}
+use Rattle.mx_plan.specs.Text.{Text}
 use Rattle.mx_trace.specs.declared.outcome.Entry.{Entry}
 use Rattle.mx_scripts.specs.Files.{file_text}
-use Rattle.mx_scripts.specs.Lines.{StopsBy}
+use Rattle.mx_scripts.specs.Lines.{DoesAll}
 use Rattle.mx_scripts.specs.Played.{events_of}
-use Rattle.mx_scripts.specs.Scripts.{HasLine}
-use Rattle.mx_scripts.proofs.LineLemmas.{err_of, file_from, none_from}
+use Rattle.mx_scripts.proofs.LineLemmas.{does_more, file_from, stops_from, stops_here, stops_line}
 use Rattle.mx_scripts.proofs.script.file_of_script.Goals as goal
+
+-- the number of the next line
+next_number : (number next count : ℕ) → number ≡ min count (2 ^ 64 - 1) → next ≡ min (number + 1) (2 ^ 64 - 1) → next ≡ min (count + 1) (2 ^ 64 - 1)
+next_number number next count is h = omega (arith, is, h)
+
+pub loop-line-init : goal.loop-line-init
+loop-line-init g c = record { does = refl; number = refl }
+
+pub loop-line-preserved : goal.loop-line-preserved
+loop-line-preserved g c =
+    let l = c.loop-line in
+    let more = length-append l.yielded (c.in-Some.line ∷ []) in
+    let next = next_number l.number c.saturating_add-number.result (length l.yielded) l.invariant.number c.saturating_add-number.ensures in
+    record {
+      does = does_more g.C.Exclusion.core c.args.plan.now l.yielded c.in-Some.line c.args.state.now l.state c.do_line.new.state l.invariant.does c.in_default.ensures.ok;
+      number = omega (arith, more, next);
+    }
 
 pub returns-clause-ok : goal.returns-clause-ok
 returns-clause-ok g c =
-    file_from g.C.Exclusion.core c.args.plan.now {E = Stop} string_bytes c.args.script.now c.args.state.now.cluster c.args.state.now c.do_script.new.state (Ok c.in_ok-text.text) c.requires.fresh
-    c.requires.empty c.in_ok-do_script.ensures.ok (c.in_ok-text.ensures ∙ ap (λ (t : List Entry). file_text c.args.plan.now (events_of t)) c.trace.ensures)
+    let l = c.loop-line in
+    let ended = YieldsList-end (YieldsList-from_lines {s = c.into_iter-line-iterator.result} c.args.script.now cc) l.yielded _ l.yielded_by _ _ c.in-None.is c.next.ensures.steps in
+    let does = subst (λ (texts : List Text). DoesAll g.C.Exclusion.core c.args.plan.now texts c.args.state.now l.state) ended.0 l.invariant.does in
+    file_from g.C.Exclusion.core c.args.plan.now c.args.script.now c.args.state.now.cluster c.args.state.now l.state (string_bytes c.in_ok-text.text) c.requires.fresh c.requires.empty does
+    (c.in_ok-text.ensures ∙ ap (λ (t : List Entry). file_text c.args.plan.now (events_of t)) c.trace.ensures)
 
-pub returns-in_err-do_script-clause-err : goal.returns-in_err-do_script-clause-err
-returns-in_err-do_script-clause-err g c =
-    let failed = c.in_err-do_script in
-    none_from g.C.Exclusion.core c.args.plan.now c.args.script.now c.args.state.now.cluster c.args.state.now c.from_residual.result c.requires.fresh
-    (err_of (HasLine (StopsBy g.C.Exclusion.core c.args.plan.now (lines c.args.script.now) c.args.state.now)) c.from_residual.result failed.field-0.0 c.from_residual.ensures.1 failed.ensures.err)
+pub returns-in-Err-clause-err : goal.returns-in-Err-clause-err
+returns-in-Err-clause-err g c =
+    let l = c.loop-line in
+    let road = YieldsList-from_lines {s = c.into_iter-line-iterator.result} c.args.script.now cc in
+    let so_far = YieldsList-so_far road l.yielded _ l.yielded_by in
+    let turn = YieldsList-turn road l.yielded _ l.yielded_by _ _ c.in-Some.line c.in-Some.is c.next.ensures.steps in
+    let next = next_number l.number c.saturating_add-number.result (length l.yielded) l.invariant.number c.saturating_add-number.ensures in
+    let stops = stops_here g.C.Exclusion.core c.args.plan.now _ l.yielded c.in-Some.line.now c.args.state.now l.state c.in-Err.failure l.invariant.does so_far turn c.in-Err.ensures.err in
+    stops_from g.C.Exclusion.core c.args.plan.now c.args.script.now c.args.state.now.cluster c.args.state.now c.refuse.result c.requires.fresh
+    (stops_line g.C.Exclusion.core c.args.plan.now _ c.args.state.now (length l.yielded) c.saturating_add-number.result c.in-Err.failure c.refuse.result next stops c.refuse.ensures)
+
+pub do_line-requires : goal.do_line-requires
+do_line-requires g c = search rules
+
+pub refuse-requires : goal.refuse-requires
+refuse-requires g c = first_of (omega arith, search c.requires-raw, search (rules, c.requires-raw))
+
+pub trace-requires : goal.trace-requires
+trace-requires g c = first_of (omega arith, search c.requires-raw, search (rules, c.requires-raw))

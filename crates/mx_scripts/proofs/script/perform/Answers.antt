@@ -10,7 +10,7 @@ use Rattle.mx_scripts.proofs.LineLemmas.{err_of, performs_next, stops_next}
 use Rattle.mx_scripts.proofs.script.perform.Goals as goal
 
 pub loop-count-init : goal.loop-count-init
-loop-count-init g c = record { does = λ last es x. (es, x); stops = λ why es x. (es, x) }
+loop-count-init g c = record { does = λ last told es x. (es, x.0, x.1); stops = λ why es x. (es, x) }
 
 pub do_event-requires : goal.do_event-requires
 do_event-requires g c =
@@ -24,18 +24,21 @@ loop-count-preserved g c =
     let e = c.in-Some.event in
     let next = subst (λ (o : Option SessionEvent). IsNext s.fates s.cluster.sent c.args.order.now l.count o) c.in-Some.is c.in_ok-next.ensures.next in
     let allowed = subst (λ (o : Option SessionEvent). IfSome o (IsAllowed s)) c.in-Some.is c.in_ok-next.ensures.allowed in
+    let done = c.in_ok-do_event-in-Some.ensures in
     record {
-      does = λ last es x. l.invariant.does last (e ∷ es)
-          (performs_next g.C.Exclusion.core c.args.order.now l.count e es s c.do_event.new.state last next allowed c.in_ok-do_event-in-Some.ensures.ok x);
+      does = λ last told es x. l.invariant.does last told (e ∷ es) (
+        performs_next g.C.Exclusion.core c.args.order.now l.count e es s c.do_event.new.state last next allowed done.ok x.0,
+        (c.do_event.new.state, c.do_event.new.recorder, allowed, done.ok, done.noted, x.1),
+      );
       stops = λ why es x. l.invariant.stops why (e ∷ es)
-          (stops_next g.C.Exclusion.core c.args.order.now l.count e es s c.do_event.new.state why next allowed c.in_ok-do_event-in-Some.ensures.ok x);
+          (stops_next g.C.Exclusion.core c.args.order.now l.count e es s c.do_event.new.state why next allowed done.ok x);
     }
 
 pub returns-in-None-clause-ok : goal.returns-in-None-clause-ok
 returns-in-None-clause-ok g c =
     let s = c.loop-count.state in
     let next = subst (λ (o : Option SessionEvent). IsNext s.fates s.cluster.sent c.args.order.now c.loop-count.count o) c.in-None.is c.in_ok-next.ensures.next in
-    c.loop-count.invariant.does s [] (refl, next)
+    c.loop-count.invariant.does s c.loop-count.recorder [] ((refl, next), (refl, refl))
 
 pub returns-in_err-next-clause-err : goal.returns-in_err-next-clause-err
 returns-in_err-next-clause-err g c =

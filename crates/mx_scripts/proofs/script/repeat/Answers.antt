@@ -1,6 +1,7 @@
-use Rattle.std.proofs.Common.{◌≡◌, ◌++◌, ◌-◌, [], ℕ, arith, subst}
+use Rattle.std.proofs.Common.{◌≡◌, ◌++◌, ◌-◌, [], ℕ, arith, refl, subst}
 use Rattle.mx_scripts.specs.Lines.{Repeats, StopsWithin}
 use Rattle.mx_scripts.proofs.LineLemmas.{err_of, repeats_end, repeats_next, within_here, within_next}
+use Rattle.mx_scripts.proofs.ToldLemmas.{told_append}
 use Rattle.mx_scripts.proofs.script.repeat.Goals as goal
 
 pub perform-requires : goal.perform-requires
@@ -11,7 +12,7 @@ loop-count-init g c =
     let line = c.args.line.now in
     let n : line.times - 0 ≡ line.times = omega arith in
     record {
-      does = λ last es x. (es, subst (λ (k : ℕ). Repeats g.C.Exclusion.core line.order k c.args.state.now es last) n x);
+      does = λ last told es x. (es, subst (λ (k : ℕ). Repeats g.C.Exclusion.core line.order k c.args.state.now es last) n x.0, x.1);
       stops = λ why x. subst (λ (k : ℕ). StopsWithin g.C.Exclusion.core line.order k c.args.state.now why) n x;
     }
 
@@ -21,17 +22,19 @@ loop-count-preserved g c =
     let line = c.args.line.now in
     let once = c.in_ok-perform.ensures.ok in
     record {
-      does = λ last es x. l.invariant.does last (once.0 ++ es)
-          (repeats_next g.C.Exclusion.core line.order line.times l._count once.0 es l.state c.perform.new.state last c.loop-count-test.true once.1 x);
+      does = λ last told es x. l.invariant.does last told (once.0 ++ es) (
+        repeats_next g.C.Exclusion.core line.order line.times l._count once.0 es l.state c.perform.new.state last c.loop-count-test.true once.1 x.0,
+        told_append g.C.Exclusion.core (λ k. g.K.Recorder.noted k c.args.plan.now) once.0 es l.state c.perform.new.state last l.recorder c.perform.new.recorder told once.2 x.1,
+      );
       stops = λ why x. l.invariant.stops why
-          (within_next g.C.Exclusion.core line.order line.times l._count l.state c.perform.new.state why c.loop-count-test.true once x);
+          (within_next g.C.Exclusion.core line.order line.times l._count l.state c.perform.new.state why c.loop-count-test.true (once.0, once.1) x);
     }
 
 pub returns-clause-ok : goal.returns-clause-ok
 returns-clause-ok g c =
     let l = c.loop-count in
     let line = c.args.line.now in
-    l.invariant.does l.state [] (repeats_end g.C.Exclusion.core line.order line.times l._count l.state c.loop-count-test.false)
+    l.invariant.does l.state l.recorder [] (repeats_end g.C.Exclusion.core line.order line.times l._count l.state c.loop-count-test.false, (refl, refl))
 
 pub returns-in_err-perform-clause-err : goal.returns-in_err-perform-clause-err
 returns-in_err-perform-clause-err g c =

@@ -1,6 +1,6 @@
 use Rattle.std.proofs.Common.{Option, subst}
 use Rattle.mx_play.specs.TypedLines.{TakesOn, to_come}
-use Rattle.mx_play.specs.declared.lines.LineRead.{LineRead}
+use Rattle.mx_play.specs.declared.line_sources.LineRead.{LineRead}
 use Rattle.mx_play.proofs.TypedLemmas.{taking_first}
 use Rattle.mx_play.proofs.typed_lines.TypedLines.next.Goals as goal
 

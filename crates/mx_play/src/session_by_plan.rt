@@ -4,7 +4,7 @@ ghost use Rattle.std.specs.Prelude.{◌≡◌, IfOk};
 ghost use Rattle.mx_cli.specs.Reports.{seen};
 ghost use Rattle.mx_play.specs.Played.{IsPlayedBy};
 
-use crate::lines::Lines;
+use crate::line_sources::Lines;
 use crate::session::{Setting, first_session};
 use crate::session_run::run_session;
 use mx_cli::{PlanAndText, Stop};

@@ -1,7 +1,7 @@
 use Rattle.std.proofs.Common.{length, rules, subst}
 use Rattle.mx_plan.specs.Fields.{IsShape}
 use Rattle.mx_plan.specs.declared.shape.Shape.{Shape}
-use Rattle.mx_play.proofs.shapes.run_by_plan.Goals as goal
+use Rattle.mx_play.proofs.session_by_plan.run_by_plan.Goals as goal
 
 pub run_session-requires : goal.run_session-requires
 run_session-requires g c =

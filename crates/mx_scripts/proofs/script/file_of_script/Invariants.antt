@@ -1,7 +1,7 @@
 use Rattle.std.proofs.Common.{◌≡◌, ◌-◌, ◌^◌, length, min}
 use Rattle.mx_lines.specs.Names.{texts_of}
 use Rattle.mx_scripts.specs.Lines.{DoesAll}
-use Rattle.mx_scripts.proofs.script.do_script.Given as goal
+use Rattle.mx_scripts.proofs.script.file_of_script.Given as goal
 
 abbrev pub invariant-loop-line : goal.invariant-loop-line
 invariant-loop-line g l = record {
