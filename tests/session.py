@@ -182,7 +182,7 @@ class Session:
         for number in self.under_way():
             if not named or self.names[self.cluster.parcels[number][1]] in named:
                 lines.append(f"  {self.parcel_line(number)}")
-        return lines
+        return lines if named else lines + self.cluster.stuck(self.under_way())
 
     def listed(self):
         if not self.events:

@@ -23,7 +23,7 @@ pub(crate) fn explain_events(
     plan: &Plan,
     notes: &Notes,
 ) -> ReportResult {
-    notes.add_refused(report, &part)?;
+    notes.add_warnings(report, &part)?;
     let Some(fault) = notes.fault else {
         return Ok(());
     };

@@ -6,9 +6,9 @@ use crate::location::Part;
 use crate::report::{MAX_LINES, Report, ReportResult};
 use crate::spot::offset_of;
 use mx_cli::Fault;
-use mx_commands::Sink;
+use mx_commands::{Sink, stuck_in, stuck_nodes};
 use mx_events::Event;
-use mx_format::{EventText, OutcomeText, add_facts_line};
+use mx_format::{EventText, OutcomeText, Waiter, add_facts_line, add_stuck};
 use mx_knowledge::Knowledge;
 use mx_network::Cluster;
 use mx_nodelaws::Exclusion;
@@ -34,6 +34,10 @@ pub(crate) struct Notes {
     line: u64,
     /// The line of a script that cannot be done, unless one of its words is wrong.
     bad_line: Option<Note>,
+    /// The last event, or the last line with one, and the warning that the run stands still then.
+    stuck: Option<Note>,
+    /// No parcel of a script below this number is under way any more.
+    under_way: u64,
 }
 
 impl<C: Exclusion + Knowledge> Sink<Cluster<C>> for Notes {
@@ -54,11 +58,13 @@ impl<C: Exclusion + Knowledge> Sink<Cluster<C>> for Notes {
 
     fn end(
         &mut self,
-        _alloc: Global,
-        _plan: &Plan,
-        _cluster: &Cluster<C>,
+        alloc: Global,
+        plan: &Plan,
+        cluster: &Cluster<C>,
         _text: &mut String,
     ) -> Result<u8, AllocError> {
+        let waiters = stuck_in(alloc, plan, cluster)?;
+        self.note_stuck(plan, newest_index(cluster), waiters.as_slice())?;
         Ok(0)
     }
 }
@@ -75,10 +81,10 @@ impl<C: Exclusion + Knowledge> Recorder<State<C>> for Notes {
         _before: u64,
         state: &State<C>,
     ) -> Result<(), AllocError> {
-        match event {
-            SessionEvent::Happens(_) => self.note_newest(plan, state.cluster(), self.line),
-            SessionEvent::IsLost(_) | SessionEvent::LinksChange(_) => Ok(()),
+        if let SessionEvent::Happens(_) = event {
+            self.note_newest(plan, state.cluster(), self.line)?;
         }
+        self.note_standstill(plan, state)
     }
 
     fn refused(
@@ -87,6 +93,7 @@ impl<C: Exclusion + Knowledge> Recorder<State<C>> for Notes {
         line: &RefusedLine,
         _state: &State<C>,
     ) -> Result<(), AllocError> {
+        self.stuck = None;
         if !line.is_unread {
             let text = format!(in self.alloc; " {}{}", line.fault, line.message.as_str())?;
             self.bad_line = Some((line.number, text));
@@ -105,6 +112,8 @@ impl Notes {
             fault: None,
             line: 0,
             bad_line: None,
+            stuck: None,
+            under_way: 0,
         }
     }
 
@@ -131,12 +140,66 @@ impl Notes {
         Ok(())
     }
 
-    pub(crate) fn add_refused(&self, report: &mut Report, part: &Part<'_>) -> ReportResult {
-        for (k, text) in &self.refused {
-            let offset = offset_of(self.alloc, part.text, &[*k as usize])?;
-            report.add_at(part, offset, text.as_str())?;
+    /// Notes whether a script stands still after an event of its newest line.
+    fn note_standstill<C: Exclusion + Knowledge>(
+        &mut self,
+        plan: &Plan,
+        state: &State<C>,
+    ) -> Result<(), AllocError> {
+        self.stuck = None;
+        let members = state.cluster().members();
+        // the cluster is that of the plan, but the recorder's contract does not say so
+        if self.has_under_way(state) || members.len() != plan.nodes() as usize {
+            return Ok(());
         }
-        report.count(part.file, self.more)
+        let waiters = stuck_nodes(self.alloc, plan, members)?;
+        self.note_stuck(plan, self.line, waiters.as_slice())
+    }
+
+    /// Whether a parcel is under way. None becomes so again, so each is looked at only until then.
+    fn has_under_way<C: Exclusion>(&mut self, state: &State<C>) -> bool {
+        let sent = state.cluster().sent();
+        for number in self.under_way..sent {
+            if state.is_under_way(number) {
+                self.under_way = number;
+                return true;
+            }
+        }
+        self.under_way = sent;
+        false
+    }
+
+    fn note_stuck(&mut self, plan: &Plan, number: u64, waiters: &[Waiter]) -> ReportResult {
+        if waiters.is_empty() {
+            return Ok(());
+        }
+        let mut line = String::new(self.alloc);
+        add_stuck(plan, false, waiters, &mut line)?;
+        let text = format!(in self.alloc; " warning: {}", line.as_str().trim())?;
+        self.stuck = Some((number, text));
+        Ok(())
+    }
+
+    pub(crate) fn add_warnings(&self, report: &mut Report, part: &Part<'_>) -> ReportResult {
+        for (k, text) in &self.refused {
+            self.add_at_event(report, part, *k, text.as_str())?;
+        }
+        report.count(part.file, self.more)?;
+        match &self.stuck {
+            Some((k, text)) => self.add_at_event(report, part, *k, text.as_str()),
+            None => Ok(()),
+        }
+    }
+
+    fn add_at_event(
+        &self,
+        report: &mut Report,
+        part: &Part<'_>,
+        k: u64,
+        text: &str,
+    ) -> ReportResult {
+        let offset = offset_of(self.alloc, part.text, &[k as usize])?;
+        report.add_at(part, offset, text)
     }
 
     pub(crate) fn explain_script(&self, report: &mut Report, part: &Part<'_>) -> ReportResult {
@@ -144,12 +207,12 @@ impl Notes {
             report.add_at(part, part.offset_of_line(*number), text.as_str())?;
         }
         report.count(part.file, self.more)?;
-        match &self.bad_line {
-            Some((number, text)) => {
-                report.add_at(part, part.offset_of_line(*number), text.as_str())
+        for note in [&self.stuck, &self.bad_line] {
+            if let Some((number, text)) = note {
+                report.add_at(part, part.offset_of_line(*number), text.as_str())?;
             }
-            None => Ok(()),
         }
+        Ok(())
     }
 }
 
@@ -161,7 +224,7 @@ fn refusal<C: Exclusion + Knowledge>(
     event: &Event,
     cause: Cause,
 ) -> Result<String, AllocError> {
-    let index = (cluster.trace().len() as u64).saturating_sub(1);
+    let index = newest_index(cluster);
     let outcome = Outcome::Refused(cause);
     let outcome = OutcomeText(&outcome);
     let said = EventText { plan, event };
@@ -170,6 +233,11 @@ fn refusal<C: Exclusion + Knowledge>(
         add_known(alloc, plan, cluster, *node, &mut text)?;
     }
     Ok(text)
+}
+
+/// Returns the index of the newest event of a cluster, or 0 before the first.
+fn newest_index<C: Exclusion>(cluster: &Cluster<C>) -> u64 {
+    (cluster.trace().len() as u64).saturating_sub(1)
 }
 
 /// Appends what a node knows, in the words that `show` of `mx play` prints.

@@ -1,10 +1,9 @@
 -- A walk: what happens next in a cluster, by the words (32-bit numbers) of a generator.
-use Rattle.std.specs.Prelude.{ℕ, zero, suc, ◌+◌, ◌-◌, ◌*◌, ◌/◌, ◌%◌, ◌&&◌, ◌||◌, Bool, false, not, List, [], ◌∷◌, ◌++◌, Option, Some, None, length, max, min, nat_eq, nat_lt, position, slice_get, slice_index_or, if◌then◌else◌}
+use Rattle.std.specs.Prelude.{ℕ, zero, suc, ◌+◌, ◌-◌, ◌*◌, ◌/◌, ◌%◌, ◌&&◌, Bool, false, not, List, [], ◌∷◌, ◌++◌, Option, Some, None, length, max, min, nat_eq, nat_lt, position, slice_get, slice_index_or, if◌then◌else◌}
 use Rattle.std.specs.List.{range_with_len, swap_remove}
 use Rattle.std.specs.Option.{option_map_or}
 use Rattle.rand_pcg.specs.Lcg.{Lcg}
 use Rattle.mx_nodelaws.specs.Core.{Core}
-use Rattle.mx_nodelaws.specs.Phases.{is_inside}
 use Rattle.mx_nodelaws.specs.declared.phase.Phase.{Phase}
 use Rattle.mx_nodelaws.specs.declared.phase.Phase.TheVariants.{Idle, Waiting, Inside}
 use Rattle.mx_member.specs.Member.{MemberState, first_gap}
@@ -15,6 +14,7 @@ use Rattle.mx_network.specs.Step.{ClusterState}
 use Rattle.mx_explorer.specs.Drawn.{after_words, word}
 use Rattle.mx_explorer.specs.Weather.{generator_of}
 use Rattle.mx_cli.specs.declared.request.Conditions.{Conditions}
+use Rattle.mx_commands.specs.Standstill.{is_ready}
 use Rattle.mx_explore.specs.declared.stepper.Stepper.{Stepper}
 
 -- ---- what a node does by itself
@@ -136,12 +136,8 @@ abbrev pub is_delivery : ℕ → Bool → Bool
 is_delivery chance is_calm = not is_calm && (not (nat_lt chance 4) && nat_lt chance 52)
 
 module _ {H S M : Type 0} (core : Core H S M) where
-  -- the node may enter, or is inside
-  abbrev pub is_ready : MemberState S → Bool
-  is_ready m = core.can_enter m.core || is_inside (core.phase m.core)
-
   abbrev pub is_ready_at : List (MemberState S) → ℕ → Bool
-  is_ready_at members i = option_map_or is_ready (slice_get members i) false
+  is_ready_at members i = option_map_or (is_ready core) (slice_get members i) false
 
   -- the first ready node among this many, from `any + offset` on in cyclic order; or `any`, if
   -- none is ready

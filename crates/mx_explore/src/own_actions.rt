@@ -3,8 +3,9 @@
 ghost use Rattle.std.specs.Prelude.{◌≡◌, ◌≤◌, ◌<◌, ◌-◌, ◌%◌, nat_lt};
 ghost use Rattle.mx_member.specs.Member.{first_gap};
 ghost use Rattle.mx_explorer.specs.Drawn.{after_words, word};
-ghost use Rattle.mx_explore.specs.Walk.{acted, actor, idle_by, inside_by, is_ready, is_ready_at, member_act, node_act, other_by, ready_from, waiting_by};
+ghost use Rattle.mx_explore.specs.Walk.{acted, actor, idle_by, inside_by, is_ready_at, member_act, node_act, other_by, ready_from, waiting_by};
 
+use mx_commands::is_ready;
 use mx_explorer::{draw_below, draw_node};
 use mx_journal::Journal;
 use mx_member::Member;
@@ -238,10 +239,4 @@ fn is_ready_at<C: Exclusion>(cluster: &Cluster<C>, node: NodeId) -> bool
         Some(member) => is_ready(member),
         None => false,
     }
-}
-
-fn is_ready<C: Exclusion>(member: &Member<C>) -> bool
-    ensures { result ≡ is_ready C.core member.now }
-{
-    member.can_enter() || matches!(member.phase(), Phase::Inside(_))
 }

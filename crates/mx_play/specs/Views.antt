@@ -1,6 +1,8 @@
 -- What is shown of a session.
-use Rattle.std.specs.Prelude.{ℕ, ◌&&◌, List, [], ◌++◌, Option, Some, None, codes, slice_get, if◌then◌else◌}
+use Rattle.std.specs.Prelude.{ℕ, ◌&&◌, Bool, false, List, [], ◌++◌, Option, Some, None, codes, length, slice_get, if◌then◌else◌}
+use Rattle.std.specs.List.{list_any}
 use Rattle.std.specs.Option.{option_map_or}
+use Rattle.mx_stamps.specs.Lists.{each_below}
 use Rattle.mx_nodelaws.specs.Core.{Core}
 use Rattle.mx_member.specs.Member.{MemberState}
 use Rattle.mx_member.specs.declared.parcel.Parcel.{Parcel}
@@ -12,9 +14,15 @@ use Rattle.mx_knowledge.specs.Facts.{Known}
 use Rattle.mx_format.specs.FactTexts.{facts_line}
 use Rattle.mx_format.specs.NodeTexts.{member_line}
 use Rattle.mx_format.specs.ParcelTexts.{parcel_line}
+use Rattle.mx_format.specs.StuckTexts.{stuck_text}
+use Rattle.mx_commands.specs.Standstill.{stuck_nodes}
 use Rattle.mx_scripts.specs.Fates.{is_under_way}
 use Rattle.mx_scripts.specs.States.{RunState}
 use Rattle.mx_play.specs.Cuts.{cut_lines, is_to}
+
+-- some parcel is under way
+abbrev pub has_under_way : {S M : Type 0} → RunState S M → Bool
+has_under_way s = list_any (is_under_way s.fates) (each_below (λ k. k) (length s.cluster.sent))
 
 module _ {H S M : Type 0} (core : Core H S M) (knows : S → List Known) (p : Fields) where
   -- the line of a node, and that of what it knows
@@ -25,6 +33,14 @@ module _ {H S M : Type 0} (core : Core H S M) (knows : S → List Known) (p : Fi
   abbrev pub standing_lines : Option ℕ → ClusterState S M → Text
   standing_lines None g = texts_from node_shown 0 g.members
   standing_lines (Some node) g = option_map_or (node_shown node) (slice_get g.members node) []
+
+  -- the line of a session that stands still, unless a node was named: no parcel is under way, and
+  -- no node is ready
+  abbrev pub stuck_shown : Option ℕ → RunState S M → Text
+  stuck_shown None s =
+      if has_under_way s then []
+      else stuck_text false p (stuck_nodes core knows s.cluster.members)
+  stuck_shown (Some node) s = []
 
 module _ {H S M : Type 0} (core : Core H S M) (letter_text : Fields → M → Text) (p : Fields) where
   -- the line of a parcel, if it is under way to the node that was named, or to any node if none was
@@ -37,12 +53,12 @@ module _ {H S M : Type 0} (core : Core H S M) (letter_text : Fields → M → Te
   abbrev pub waiting_lines : Option ℕ → RunState S M → Text
   waiting_lines to s = texts_from (waiting_line to s) 0 s.cluster.sent
 
-  -- what `show` prints: the node that was named, or all, and then its cut links, or all, and the
-  -- parcels under way to it, or to any node
+  -- what `show` prints: the node that was named, or all, and then its cut links, or all, the
+  -- parcels under way to it, or to any node, and whether the session stands still
   abbrev pub view_text : (S → List Known) → Option ℕ → RunState S M → Text
   view_text knows to s =
       standing_lines core knows p to s.cluster ++ cut_lines p to s.fates.links
-      ++ waiting_lines to s
+      ++ waiting_lines to s ++ stuck_shown core knows p to s
 
 abbrev pub mark_line : Text → Text
 mark_line word = codes "mark " ++ word ++ line_feed

@@ -18,6 +18,7 @@ mod session_run;
 mod session_script;
 mod shown_nodes;
 mod shown_parcels;
+mod shown_standstill;
 mod typed_lines;
 mod undo;
 mod views;

@@ -8,6 +8,7 @@ use crate::cuts::add_cuts;
 use crate::session::Setting;
 use crate::shown_nodes::add_standing;
 use crate::shown_parcels::add_waiting;
+use crate::shown_standstill::add_standstill;
 use mx_format::Letter;
 use mx_knowledge::Knowledge;
 use mx_nodelaws::Exclusion;
@@ -30,5 +31,6 @@ where
 {
     add_standing(setting, to, state.cluster(), text)?;
     add_cuts(setting.plan, to, state.in_flight(), text)?;
-    add_waiting(setting.plan, to, state, text)
+    add_waiting(setting.plan, to, state, text)?;
+    add_standstill(setting, to, state, text)
 }
