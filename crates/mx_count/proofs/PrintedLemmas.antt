@@ -1,5 +1,5 @@
 -- What is printed of counts, from what was read.
-use Rattle.std.proofs.Common.{◌≡◌, ◌∙◌, ◌⊎◌, List, Result, Ok, Err, Bool, ap, inl, inr, subst, sym}
+use Rattle.std.proofs.Common.{◌≡◌, ◌∙◌, ◌⊎◌, List, Result, Ok, Err, OnOk, Bool, ap, inl, inr, subst, sym}
 use Rattle.mx_events.specs.declared.event.Event.{Event}
 use Rattle.mx_plan.specs.Text.{Text}
 use Rattle.mx_plan.specs.Fields.{Fields}
@@ -21,3 +21,8 @@ module _ (is_json : Bool) (p : Fields) (text : Text) where
   pub no_count : (fault : PlanFault) (o : Sight) (s : Stop) → (events_at p text ≡ Err fault) ⊎ (fault ≡ plan_fault.Memory) → s ≡ stop_at fault → Prints (IsCount is_json p text) o o (Err s)
   no_count fault o s (inl read) is = text_prints (IsCount is_json p text) o s fault (inl (ap (λ (t : Result (List Event) PlanFault). where_read t (count_report is_json p)) (sym read))) is
   no_count fault o s (inr out) is = text_prints (IsCount is_json p text) o s fault (inr out) is
+
+-- nothing is said of a result
+pub nothing_said : {T E : Type 0} (r : Result T E) → OnOk r (Unit {0})
+nothing_said (Ok t) = tt
+nothing_said (Err e) = tt

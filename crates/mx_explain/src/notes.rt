@@ -81,10 +81,7 @@ impl<C: Exclusion + Knowledge> Recorder<State<C>> for Notes {
         _before: u64,
         state: &State<C>,
     ) -> Result<(), AllocError> {
-        if let SessionEvent::Happens(_) = event {
-            self.note_newest(plan, state.cluster(), self.line)?;
-        }
-        self.note_standstill(plan, state)
+        self.note_event(plan, event, state)
     }
 
     fn refused(
@@ -138,6 +135,20 @@ impl Notes {
         let text = refusal(self.alloc, plan, cluster, &newest.event, cause)?;
         self.refused.push((number, text))?;
         Ok(())
+    }
+
+    /// Notes an event of the newest line of a script, if it is refused, and whether the run stands
+    /// still after it.
+    fn note_event<C: Exclusion + Knowledge>(
+        &mut self,
+        plan: &Plan,
+        event: &SessionEvent,
+        state: &State<C>,
+    ) -> Result<(), AllocError> {
+        if let SessionEvent::Happens(_) = event {
+            self.note_newest(plan, state.cluster(), self.line)?;
+        }
+        self.note_standstill(plan, state)
     }
 
     /// Notes whether a script stands still after an event of its newest line.

@@ -1,5 +1,5 @@
 -- A walk: what happens next in a cluster, by the words (32-bit numbers) of a generator.
-use Rattle.std.specs.Prelude.{ℕ, zero, suc, ◌+◌, ◌-◌, ◌*◌, ◌/◌, ◌%◌, ◌&&◌, Bool, false, not, List, [], ◌∷◌, ◌++◌, Option, Some, None, length, max, min, nat_eq, nat_lt, position, slice_get, slice_index_or, if◌then◌else◌}
+use Rattle.std.specs.Prelude.{ℕ, zero, suc, ◌+◌, ◌-◌, ◌*◌, ◌/◌, ◌%◌, ◌&&◌, ◌||◌, Bool, false, not, List, [], ◌∷◌, ◌++◌, Option, Some, None, length, max, min, nat_eq, nat_lt, position, slice_get, slice_index_or, if◌then◌else◌}
 use Rattle.std.specs.List.{range_with_len, swap_remove}
 use Rattle.std.specs.Option.{option_map_or}
 use Rattle.rand_pcg.specs.Lcg.{Lcg}

@@ -2,4 +2,4 @@ mod ItemLemmas
 mod LineLemmas
 mod SceneLemmas
 mod ReachLemmas
-mod JudgeLemmas
+pub mod JudgeLemmas

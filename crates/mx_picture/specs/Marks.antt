@@ -46,10 +46,14 @@ mark_of marked = record { index = marked.index; why = string_bytes marked.why }
 abbrev pub why_at : ℕ → Mark → Option Text
 why_at k mark = if mark.index == k then Some mark.why else None
 
--- which rule an event breaks, its place in the text of the trace, and why it breaks the rule
+-- which rule an event breaks, by its name, its place in the text of the trace, and why it breaks
+-- the rule
+abbrev pub why_of : Text → Text → ℕ → Text → Text
+why_of clause word place reason =
+    clause ++ codes ", " ++ word ++ codes " " ++ decimal place ++ codes ": " ++ reason
+
 abbrev pub why_text : Clause → Text → ℕ → Text → Text
-why_text clause word place reason =
-    clause_text clause ++ codes ", " ++ word ++ codes " " ++ decimal place ++ codes ": " ++ reason
+why_text clause = why_of (clause_text clause)
 
 -- the mark of a trace with this verdict: the first event that breaks a rule
 abbrev pub marked_by : Fields → Text → Listed → Verdict → Option Mark

@@ -1,9 +1,9 @@
 //! The event of a trace that a picture marks.
 
-ghost use Rattle.std.specs.Prelude.{◌≡◌, IfOk, Some, option_map, string_bytes};
+ghost use Rattle.std.specs.Prelude.{◌≡◌, ◌++◌, IfOk, OnOk, Some, option_map, string_bytes};
 ghost use Rattle.mx_judge.specs.Judged.{IsVerdictOf};
 ghost use Rattle.mx_judge.specs.Listed.{listed};
-ghost use Rattle.mx_picture.specs.Marks.{mark_of, marked_by, why_at, why_text};
+ghost use Rattle.mx_picture.specs.Marks.{mark_of, marked_by, why_at, why_of, why_text};
 
 use mx_explorer::{Clause, Verdict};
 use mx_judge::{Trace, clause_word, reason_for};
@@ -63,6 +63,20 @@ fn why_text(
     ensures { IfOk result (λ text.
         string_bytes text ≡ why_text clause word.now place reason.now) }
 {
-    let clause = clause_word(clause);
-    format!(in alloc; "{clause}, {word} {place}: {reason}")
+    let mut text = String::new(alloc);
+    add_why(clause_word(clause), word, place, reason, &mut text)?;
+    Ok(text)
+}
+
+fn add_why(
+    clause: &str,
+    word: &str,
+    place: u64,
+    reason: &str,
+    text: &mut String,
+) -> Result<(), AllocError>
+    ensures { OnOk result (string_bytes text.new
+        ≡ string_bytes text.old ++ why_of clause.now word.now place reason.now) }
+{
+    write!(text, "{clause}, {word} {place}: {reason}")
 }

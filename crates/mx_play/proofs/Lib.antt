@@ -9,6 +9,7 @@ mod ReportLemmas
 pub mod TurnLemmas
 pub mod PlayedLemmas
 mod CommandLemmas
+pub mod ExpectationLemmas
 mod WordLemmas
 mod SameLineLemmas
 mod RequestLemmas

@@ -8,12 +8,15 @@ use Rattle.mx_scripts.specs.declared.state.SessionEvent.{SessionEvent}
 use Rattle.mx_scripts.specs.declared.state.SessionEvent.TheVariants.{Happens, IsLost, LinksChange}
 use Rattle.mx_play.specs.Cuts.{change_line}
 
+-- the line that loses the oldest parcel under way from one node to another
+abbrev pub lose_line : Fields → ℕ → ℕ → Text
+lose_line p from to = codes "lose " ++ name_of p from ++ codes " " ++ name_of p to ++ line_feed
+
 module _ {P : Type 0} (p : Fields) where
   -- the line that loses the oldest parcel under way over the link of this one
   abbrev pub loss_line : Option (ℕ × ℕ × P) → Text
   loss_line None = []
-  loss_line (Some parcel) =
-      codes "lose " ++ name_of p parcel.0 ++ codes " " ++ name_of p parcel.1 ++ line_feed
+  loss_line (Some parcel) = lose_line p parcel.0 parcel.1
 
   module _ (sent : List (ℕ × ℕ × P)) where
     -- the line of a script that asks for this event

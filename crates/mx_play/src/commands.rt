@@ -14,7 +14,7 @@ use crate::help::add_words;
 use crate::input_fault::InputFault;
 use crate::printed_events::PrintedEvents;
 use crate::run_texts::add_events;
-use crate::session::{Session, Setting};
+use crate::session::{Session, Setting, trace_of};
 use crate::session_script::add_script;
 use crate::undo::{event_count, redo_and_print, truncate, undo_and_print};
 use crate::views::show;
@@ -137,10 +137,14 @@ fn expect<C: Exclusion>(
 ) -> Result<Option<InputFault>, AllocError>
     ensures { IfOk result (HasExpected line.now session.now) }
 {
-    match compare_outcome(alloc, text_of(line), session.state.cluster().trace()) {
+    match compare_outcome(alloc, text_of(line), trace_of(&session.state)) {
         Ok(()) => Ok(None),
-        Err(LineFailure::Memory) => Err(AllocError),
-        Err(failure) => Ok(Some(InputFault::Line(failure))),
+        Err(failure) => {
+            if let LineFailure::Memory = failure {
+                return Err(AllocError);
+            }
+            Ok(Some(InputFault::Line(failure)))
+        }
     }
 }
 

@@ -5,6 +5,7 @@ ghost use Rattle.mx_play.specs.Histories.{first_state};
 ghost use Rattle.mx_play.specs.Sessions.{at_start};
 
 use crate::undo::Undone;
+use mx_network::Entry;
 use mx_nodelaws::Exclusion;
 use mx_plan::Plan;
 use mx_scripts::{SessionEvent, State};
@@ -40,6 +41,12 @@ impl<C: Exclusion> Model for Session<C> {
       marks = s.marks.items;
       undone = s.undone.items;
     } };
+}
+
+pub(crate) fn trace_of<C: Exclusion>(state: &State<C>) -> &[Entry]
+    ensures { result.now ≡ state.now.cluster.trace }
+{
+    state.cluster().trace()
 }
 
 pub(crate) fn first_state<C: Exclusion>(setting: &Setting<'_, C>) -> Result<State<C>, AllocError>

@@ -14,7 +14,7 @@ use crate::input::{Input, greet, is_end, read_input};
 use crate::input_fault::{InputFault, InputFaultLine, message_about};
 use crate::line_sources::{Lines, Listed};
 use crate::run_texts::add_end;
-use crate::session::{Session, Setting};
+use crate::session::{Session, Setting, trace_of};
 use mx_cli::{Fault, Named, Stop, write_line};
 use mx_format::Letter;
 use mx_io::Output;
@@ -217,7 +217,7 @@ fn report_fault<C: Exclusion, E: Output>(
     ensures { OnOk result
         (Reports number (Some fault.now) (E.written err.old) (E.written err.new)) }
 {
-    let trace = session.state.cluster().trace();
+    let trace = trace_of(&session.state);
     let message = message_about(setting.alloc, setting.plan, fault, line, trace)?;
     let said = InputFaultLine {
         number,

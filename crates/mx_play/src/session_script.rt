@@ -3,15 +3,16 @@
 ghost use Rattle.std.specs.Prelude.{◌≡◌, ◌++◌, slice_get, string_bytes, OnOk};
 ghost use Rattle.mx_format.specs.EventTexts.{event_text};
 ghost use Rattle.mx_plan.specs.Text.{line_feed};
-ghost use Rattle.mx_play.specs.SessionScripts.{asking_line, loss_line, session_script};
+ghost use Rattle.mx_play.specs.SessionScripts.{asking_line, lose_line, loss_line, session_script};
 
 use crate::cuts::add_change;
 use crate::session::Session;
 use mx_format::{EventText, name_of};
+use mx_member::SentParcel;
 use mx_network::{Cluster, Event};
 use mx_nodelaws::Exclusion;
 use mx_plan::Plan;
-use mx_scripts::SessionEvent;
+use mx_scripts::{SessionEvent, State};
 use std::alloc::AllocError;
 
 /// Appends a line for each event of a session, which asks for that event.
@@ -23,7 +24,19 @@ pub(crate) fn add_script<C: Exclusion>(
     ensures { OnOk result (string_bytes text.new ≡ string_bytes text.old
         ++ session_script plan.now session.now.state.cluster.sent session.now.done) }
 {
-    add_lines(plan, session.state.cluster(), session.done.as_slice(), text)
+    add_all(plan, &session.state, session.done.as_slice(), text)
+}
+
+fn add_all<C: Exclusion>(
+    plan: &Plan,
+    state: &State<C>,
+    events: &[SessionEvent],
+    text: &mut String,
+) -> Result<(), AllocError>
+    ensures { OnOk result (string_bytes text.new ≡ string_bytes text.old
+        ++ session_script plan.now state.now.cluster.sent events.now) }
+{
+    add_lines(plan, state.cluster(), events, text)
 }
 
 fn add_lines<C: Exclusion>(
@@ -75,10 +88,19 @@ fn add_loss<C: Exclusion>(
         ++ loss_line plan.now (slice_get cluster.now.sent number)) }
 {
     match cluster.sent_parcel(number) {
-        Some(sent) => {
-            let (from, to) = (name_of(plan, sent.from), name_of(plan, sent.to));
-            writeln!(text, "lose {from} {to}")
-        }
+        Some(sent) => add_lost_parcel(plan, &sent, text),
         None => Ok(()),
     }
+}
+
+fn add_lost_parcel<M>(
+    plan: &Plan,
+    sent: &SentParcel<'_, M>,
+    text: &mut String,
+) -> Result<(), AllocError>
+    ensures { OnOk result (string_bytes text.new ≡ string_bytes text.old
+        ++ lose_line plan.now sent.now.from sent.now.to) }
+{
+    let (from, to) = (name_of(plan, sent.from), name_of(plan, sent.to));
+    writeln!(text, "lose {from} {to}")
 }

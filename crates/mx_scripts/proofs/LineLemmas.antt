@@ -21,7 +21,7 @@ use Rattle.mx_lines.specs.declared.line.ScriptLine.TheVariants as script_line
 use Rattle.mx_lines.specs.declared.orders.Order.{Order}
 use Rattle.mx_lines.specs.declared.orders.Order.TheVariants as order
 use Rattle.mx_lines.specs.declared.orders.Scope.TheVariants.{Link}
-use Rattle.mx_scripts.specs.Expectations.{IsNotMet}
+use Rattle.mx_scripts.specs.Expectations.{IsMet, IsNotMet}
 use Rattle.mx_scripts.specs.Fates.{Fates, is_under_way}
 use Rattle.mx_scripts.specs.Lines.{DoesAll, DoesRead, DoesText, IsNext, Once, Performs, IsNotDone, Misreads, Reads, Repeats, StopsAfter, StopsAt, StopsBy, StopsWithin}
 use Rattle.mx_scripts.specs.Files.{file_text}
@@ -325,6 +325,11 @@ module _ {H S M : Type 0} (core : Core H S M) (p : Fields) where
       → IfErr r (StopsWithin core line.order line.times old) → IfErr r (IsNotDone core p text old)
   not_repeated (Ok t) text line old reads x = tt
   not_repeated (Err why) text line old reads x = inr (inr (inl (line, reads, x)))
+
+  -- the newest item has the outcome that the line expects
+  pub expected_done : {T E : Type 0} (r : Result T E) (text : Text) (old : RunState S M) → Reads p text script_line.Expects → OnOk r (IsMet text old.cluster.trace) → OnOk r (DoesText core p text old old)
+  expected_done (Ok t) text old reads x = (script_line.Expects, reads, (refl, x))
+  expected_done (Err e) text old reads x = tt
 
   not_met : (text : Text) (old : RunState S M) (why : LineFailure) → Reads p text script_line.Expects → (why ≡ failure.Memory) ⊎ IsNotMet text old.cluster.trace why → IsNotDone core p text old why
   not_met text old why reads (inl x) = inl x

@@ -24,7 +24,7 @@ pub fn compare_outcome(alloc: Global, line: &str, trace: &[Entry]) -> Result<(),
     ensures err { IfErr result (λ why.
         (why ≡ LineFailure.Memory) ⊎ IsNotMet line.now trace.now why) }
 {
-    let Some(newest) = trace.last() else {
+    let Some((newest, _before)) = trace.split_last() else {
         return Err(LineFailure::Refused(LineFault::NoEvent));
     };
     let found = found_in(alloc, newest)?;

@@ -1,4 +1,5 @@
-use Rattle.std.proofs.Common.{ap, refl, string_bytes, subst}
+use Rattle.std.proofs.Common.{ap, arith, refl, rules, string_bytes, subst}
+use Rattle.std.proofs.lemmas.Grind.{common_steps}
 use Rattle.mx_format.specs.LetterTexts.{letter_text}
 use Rattle.mx_scripts.specs.Lines.{Repeats, StopsWithin}
 use Rattle.mx_scripts.specs.Told.{IsTold}
@@ -6,8 +7,8 @@ use Rattle.mx_play.specs.Sessions.{AddsOne, SessionState}
 use Rattle.mx_play.proofs.SessionLemmas.{can_return, is_as_before, line_done, same_holds}
 use Rattle.mx_play.proofs.commands.do_line.Goals as goal
 
-pub returns-in_ok-commit-in-Ok : goal.returns-in_ok-commit-in-Ok
-returns-in_ok-commit-in-Ok g c =
+pub returns-in-Ok : goal.returns-in-Ok
+returns-in-Ok g c =
     let s = c.args.setting.now in
     let core = g.C.Exclusion.core in
     let lt = letter_text g.C.Msg.Letter.parts in
@@ -35,8 +36,8 @@ truncate-requires g c =
     let listed = ap (λ (x : SessionState g.row.C.Denot g.row.C-Msg.Denot). x.done) c.session.view_is in
     (search c.requires-raw, can_return g.C.Exclusion.core s.plan.now s.shape.now c.args.session.now b c.event_count-before.result c.requires.is listed c.event_count-before.ensures)
 
-pub returns-in_ok-truncate-in-Err : goal.returns-in_ok-truncate-in-Err
-returns-in_ok-truncate-in-Err g c =
+pub returns : goal.returns
+returns g c =
     let s = c.args.setting.now in
     let core = g.C.Exclusion.core in
     let i = c.session.inside in
@@ -57,7 +58,7 @@ pub event_count-before-requires : goal.event_count-before-requires
 event_count-before-requires g c = search c.requires-raw
 
 pub repeat-requires : goal.repeat-requires
-repeat-requires g c = search c.requires-raw
+repeat-requires g c = first_of (omega arith, search (rules, c.requires-raw), grind (arith, common_steps))
 
 pub commit-requires : goal.commit-requires
 commit-requires g c = search c.requires-raw

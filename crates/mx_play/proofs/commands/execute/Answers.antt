@@ -5,6 +5,7 @@ use Rattle.mx_format.specs.LetterTexts.{letter_text}
 use Rattle.mx_play.specs.Sessions.{SessionState}
 use Rattle.mx_play.specs.Views.{mark_line}
 use Rattle.mx_play.proofs.TurnLemmas.{executed_expect, executed_line, executed_redo, executed_undo}
+use Rattle.mx_play.proofs.ExpectationLemmas.{whatever}
 use Rattle.mx_play.proofs.commands.execute.Goals as goal
 
 pub do_line-requires : goal.do_line-requires
@@ -78,7 +79,7 @@ returns-in-Expects-clause-executed g c =
     (string_bytes c.args.text.now) c.requires.empty c.expect.ensures)
 
 pub returns-in-Expects-clause-is : goal.returns-in-Expects-clause-is
-returns-in-Expects-clause-is g c = c.requires.is
+returns-in-Expects-clause-is g c = whatever c.expect.result c.requires.is
 
 pub returns-in_ok-add_script-in-Script-clause-executed :
     goal.returns-in_ok-add_script-in-Script-clause-executed

@@ -1,12 +1,22 @@
-use Rattle.std.proofs.Common.{rules, string_bytes}
+use Rattle.std.proofs.Common.{arith, string_bytes}
+use Rattle.std.proofs.lemmas.Grind.{common_steps}
 use Rattle.mx_format.specs.LetterTexts.{letter_text}
 use Rattle.mx_play.proofs.HistoryLemmas.{has_newest_item, lost_made, newest_made}
 use Rattle.mx_play.proofs.event_texts.add_made.Goals as goal
 
+pub cluster-requires : goal.cluster-requires
+cluster-requires g c = (search c.requires-raw, grind (arith, common_steps))
+
+pub cluster-requires-in-IsLost : goal.cluster-requires-in-IsLost
+cluster-requires-in-IsLost g c = (search c.requires-raw, grind (arith, common_steps))
+
+pub add_lost-requires : goal.add_lost-requires
+add_lost-requires g c = grind (arith, common_steps)
+
 pub add_newest-requires : goal.add_newest-requires
 add_newest-requires g c =
     let x = has_newest_item g.C.Exclusion.core _ c.args.before c.args.state.now c.cluster.result.now c.cluster.ensures (rw c.in-Happens.is at c.requires) in
-    (search rules, (x.0, x.1))
+    (grind (arith, common_steps), (x.0, x.1))
 
 pub returns-in-Happens : goal.returns-in-Happens
 returns-in-Happens g c =

@@ -9,3 +9,6 @@ returns-clause-turned g c =
     turn_reported g.C.Exclusion.core (letter_text g.C.Msg.Letter.parts) g.C.Knowledge.knows s.plan.now s.shape.now c.report.result c.args.number c.args.input.now c.args.line.now c.in_ok-fault.fault
     c.args.session.now c.execute_and_print.new.session (seen g.O.Output g.E.Output c.args.out.now c.args.err.now) (seen g.O.Output g.E.Output c.execute_and_print.new.out c.report.new.err)
     c.in_ok-fault.ensures.turned c.report.ensures
+
+pub report-requires : goal.report-requires
+report-requires g c = search c.requires-raw

@@ -1,7 +1,11 @@
-use Rattle.std.proofs.Common.{arith, subst}
+use Rattle.std.proofs.Common.{◌≡◌, ◌⊎◌, List, OnOk, arith, subst}
+use Rattle.std.specs.Prelude.{IfErr}
+use Rattle.mx_trace.specs.declared.outcome.Entry.{Entry}
 use Rattle.mx_lines.specs.declared.line.ScriptLine.{ScriptLine}
+use Rattle.mx_scripts.specs.Expectations.{IsMet, IsNotMet}
 use Rattle.mx_scripts.specs.Lines.{IsNotDone, Reads}
-use Rattle.mx_scripts.proofs.LineLemmas.{err_of, line_does, misread, not_expected, not_repeated}
+use Rattle.mx_scripts.specs.declared.line_failure.LineFailure.TheVariants as failure
+use Rattle.mx_scripts.proofs.LineLemmas.{err_of, expected_done, line_does, misread, not_expected, not_repeated}
 use Rattle.mx_scripts.proofs.script.do_line.Goals as goal
 
 pub line_in-requires : goal.line_in-requires
@@ -31,4 +35,11 @@ returns-in-Does-clause-err g c =
 pub returns-in-Expects-clause-err : goal.returns-in-Expects-clause-err
 returns-in-Expects-clause-err g c =
     let reads = subst (λ (read : ScriptLine). Reads c.args.plan.now c.args.line.now read) c.in-Expects.is c.in_ok-line.ensures.ok in
-    not_expected g.C.Exclusion.core c.args.plan.now c.compare_outcome.result c.args.line.now c.args.state.now reads c.compare_outcome.ensures.err
+    let not_met = subst (λ (t : List Entry). IfErr c.compare_outcome.result (λ why. (why ≡ failure.Memory) ⊎ IsNotMet c.args.line.now t why)) c.trace.ensures c.compare_outcome.ensures.err in
+    not_expected g.C.Exclusion.core c.args.plan.now c.compare_outcome.result c.args.line.now c.args.state.now reads not_met
+
+pub returns-in-Expects-clause-ok : goal.returns-in-Expects-clause-ok
+returns-in-Expects-clause-ok g c =
+    let reads = subst (λ (read : ScriptLine). Reads c.args.plan.now c.args.line.now read) c.in-Expects.is c.in_ok-line.ensures.ok in
+    let met = subst (λ (t : List Entry). OnOk c.compare_outcome.result (IsMet c.args.line.now t)) c.trace.ensures c.compare_outcome.ensures.ok in
+    expected_done g.C.Exclusion.core c.args.plan.now c.compare_outcome.result c.args.line.now c.args.state.now reads met

@@ -1,0 +1,23 @@
+-- What a line with `expect` says of the text that was read of it, and of the trace of a session.
+use Rattle.std.proofs.Common.{◌≡◌, ◌≢◌, ◌⊎◌, List, Result, Ok, Err, IfOk, inl, inr, subst}
+use Rattle.std.specs.Str.{IsUtf8}
+use Rattle.mx_plan.specs.Text.{Text}
+use Rattle.mx_trace.specs.declared.outcome.Entry.{Entry}
+use Rattle.mx_scripts.specs.Expectations.{IsMet, IsNotMet}
+use Rattle.mx_scripts.specs.declared.line_failure.LineFailure.{LineFailure}
+use Rattle.mx_scripts.specs.declared.line_failure.LineFailure.TheVariants as failure
+
+module _ (text line : Text) (found trace : List Entry) where
+  -- the outcome is the expected one
+  pub met_as : (IsUtf8 line → text ≡ line) → found ≡ trace → IsMet text found → IsUtf8 line → IsMet line trace
+  met_as same is met utf8 = subst (λ (t : Text). IsMet t trace) (same utf8) (subst (λ (l : List Entry). IsMet text l) is met)
+
+  -- it is another one, or there is none
+  pub not_met_as : (why : LineFailure) → why ≢ failure.Memory → (IsUtf8 line → text ≡ line) → found ≡ trace → (why ≡ failure.Memory) ⊎ IsNotMet text found why → IsUtf8 line → IsNotMet line trace why
+  not_met_as why other same is (inl out) utf8 = absurd (other out)
+  not_met_as why other same is (inr x) utf8 = subst (λ (t : Text). IsNotMet t trace why) (same utf8) (subst (λ (l : List Entry). IsNotMet text l why) is x)
+
+-- what holds anyway holds if a call succeeds
+pub whatever : {T E : Type 0} {P : Type 0} (r : Result T E) → P → IfOk r (λ t. P)
+whatever (Ok t) x = x
+whatever (Err e) x = tt
