@@ -56,7 +56,7 @@ module _ (names : Known) where
       option_map_or (put_node side place sides) (position (bytes_eq word) names.nodes)
       (refused fault.NoNode place expected.Node)
 
-  -- all nodes that these words name, the first of which is at this place, are put on a side
+  -- all nodes that these words name are put on a side; the first word is at this place
   abbrev pub all_put : Side → ℕ → List Text → Sides → Result Sides LineError
   all_put side place [] sides = Ok sides
   all_put side place (word ∷ words) sides =

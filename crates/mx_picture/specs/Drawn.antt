@@ -53,6 +53,6 @@ IsPage title page =
 abbrev pub IsPicture : Fields → ℕ → Text → Type 0
 IsPicture p events = IsPage (title_line p events)
 
--- a picture of a trace of which `judge` prints this
+-- a picture of a trace; its title has this text, which `judge` prints of the trace
 abbrev pub IsTracePicture : Fields → Text → Text → Type 0
 IsTracePicture p judgement = IsPage (trace_title p judgement)

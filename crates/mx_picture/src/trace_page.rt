@@ -13,7 +13,7 @@ use mx_judge::clause_word;
 use mx_plan::Plan;
 use std::alloc::AllocError;
 
-/// Returns the picture of a trace with this verdict, of which `judge` prints `judgement`.
+/// Returns the picture of a trace with this verdict. `judgement` is what `judge` prints of it.
 pub(crate) fn trace_page(
     plan: &Plan,
     judgement: &str,
