@@ -48,23 +48,49 @@ pub(crate) fn new_bench(alloc: Global) -> Result<Bench> {
     let (Some(zero), Some(one), Some(shape)) = (NodeId::of(0), NodeId::of(1), Count::of(2)) else {
         bail!("no such nodes");
     };
-    let Ok((plan, events)) = read(alloc) else {
+    let Ok(run) = read(alloc) else {
         bail!("no plan");
     };
-    let cluster = Cluster::start(alloc, &shape, 0, 10, 1)?;
-    Ok(Bench {
+    let nodes = new_nodes(alloc, &shape)?;
+    Ok(bench_of(alloc, [zero, one], shape, run, nodes))
+}
+
+/// A cluster, a member and stations.
+type Nodes = (Cluster<Ricart>, Member<Ricart>, Stations);
+
+fn new_nodes(alloc: Global, shape: &Count) -> Result<Nodes> {
+    let cluster = Cluster::start(alloc, shape, 0, 10, 1)?;
+    let member = new_member(alloc)?;
+    Ok((cluster, member, open(alloc, 0)?))
+}
+
+fn bench_of(
+    alloc: Global,
+    names: [NodeId; 2],
+    shape: Count,
+    run: (Plan, Vec<Event>),
+    nodes: Nodes,
+) -> Bench {
+    let (plan, events) = run;
+    let (cluster, member, stations) = nodes;
+    Bench {
         alloc,
-        nodes: [zero, one],
+        nodes: names,
         shape,
         plan,
         journal: Journal::new(alloc),
         records: Vec::new(alloc),
         other: Journal::new(alloc),
-        member: new_member(alloc)?,
+        member,
         cluster,
         events,
-        stations: open(alloc, 0)?,
-    })
+        stations,
+    }
+}
+
+fn renew(bench: &mut Bench) -> Result<()> {
+    *bench = new_bench(bench.alloc)?;
+    Ok(())
 }
 
 /// Returns the state that a refused call leaves as it was.
@@ -100,7 +126,7 @@ fn add_members(bench: &Bench, text: &mut String) -> Result<(), AllocError> {
 /// Does what a row says, and returns whether the call is made then.
 pub(crate) fn set_up(bench: &mut Bench, row: Row) -> Result<bool> {
     match row {
-        Row::New => *bench = new_bench(bench.alloc)?,
+        Row::New => renew(bench)?,
         Row::Journal(numbers, upto) => bench.journal = settled(bench.alloc, numbers, upto)?,
         Row::Settle(upto) => bench.member.settle(upto)?,
         Row::Open(nodes) => bench.stations = open(bench.alloc, nodes)?,

@@ -13,24 +13,41 @@ mod stations;
 mod table;
 mod values;
 
-use crate::bench::{new_bench, set_up};
+use crate::bench::{Bench, new_bench, set_up};
 use crate::harness::step;
-use crate::table::{Row, TABLE};
+use crate::table::{Call, Row, TABLE};
 use anyhow::Result;
+use std::thread::Threads;
 
-fn main(rt: HostRuntime) -> Result<()> {
-    let mut bench = new_bench(rt.alloc())?;
+/// Makes a call as a row says: once, or on a new bench for each list of numbers in turn.
+fn make_row<R: Threads>(
+    rt: &HostRuntime,
+    threads: &R,
+    bench: &mut Bench,
+    name: &str,
+    call: Call,
+    row: Row,
+) -> Result<()> {
+    let Row::Lists(lists) = row else {
+        return step(rt, threads, bench, name, call, row);
+    };
+    set_up(bench, Row::New)?;
+    for numbers in lists {
+        step(rt, threads, bench, name, call, Row::Numbers(*numbers))?;
+    }
+    Ok(())
+}
+
+fn make_all<R: Threads>(rt: &HostRuntime, threads: &R, bench: &mut Bench) -> Result<()> {
     for (name, call, rows) in &TABLE {
         for row in *rows {
-            let Row::Lists(lists) = row else {
-                step(&rt, &rt, &mut bench, *name, *call, *row)?;
-                continue;
-            };
-            set_up(&mut bench, Row::New)?;
-            for numbers in *lists {
-                step(&rt, &rt, &mut bench, *name, *call, Row::Numbers(*numbers))?;
-            }
+            make_row(rt, threads, bench, *name, *call, *row)?;
         }
     }
     Ok(())
+}
+
+fn main(rt: HostRuntime) -> Result<()> {
+    let mut bench = new_bench(rt.alloc())?;
+    make_all(&rt, &rt, &mut bench)
 }

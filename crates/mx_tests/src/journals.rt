@@ -6,6 +6,7 @@ use mx_journal::{
 };
 use mx_merge::{MergeFault, agree, answer, merge, missing};
 use mx_registers::view;
+use std::alloc::Global;
 use std::process::Abort;
 use std::test::Fail;
 
@@ -58,23 +59,48 @@ fn put_all_or_none(rt: HostRuntime) -> Result<(), Fail> {
 
 const LACKED: [Range; 2] = [Range { first: 4, last: 4 }, Range { first: 6, last: 6 }];
 
+/// Returns whether a journal of 1, 2 and 5 merges with one of 2 and 3.
+fn merges(journal: &mut Journal, other: &Journal) -> bool {
+    agree(journal, other) && merge(journal, other) == Ok(1) && extent(journal) == (4, 5, 3)
+}
+
+/// Returns whether a journal of 1, 2, 3 and 5 tells what it lacks, and answers what it is asked.
+fn answers(journal: &Journal) -> bool {
+    missing(journal, 6).as_slice() == LACKED.as_slice()
+        && missing(journal, 0).is_empty()
+        && bear(
+            answer(journal, &[Range { first: 2, last: 4 }]).as_slice(),
+            &[2, 3],
+        )
+}
+
+fn differing(alloc: Global) -> Result<Journal, Fail> {
+    let mut journal = Journal::new(alloc);
+    journal.put(entry(2, &[(0, 9)]))?;
+    Ok(journal)
+}
+
+/// Returns whether a journal of 1, 2, 3 and 5 refuses another record 2, and one of number 0.
+fn refuses(journal: &mut Journal, differing: &Journal) -> bool {
+    merge(journal, differing) == Err(MergeFault::Conflict(2))
+        && journal.put(entry(2, &[(0, 2)])) == Ok(Put::Same)
+        && journal.put(entry(0, &[(0, 2)])) == Err(PutFault::ZeroNumber)
+        && is_of(journal, &[1, 2, 3, 5])
+}
+
+fn merge_as_stated(rt: &impl Abort, alloc: Global, journal: &mut Journal) -> Result<(), Fail> {
+    let other = journal_of(alloc, &[2, 3])?;
+    assert!(rt; merges(journal, &other));
+    assert!(rt; answers(journal));
+    let differing = differing(alloc)?;
+    assert!(rt; refuses(journal, &differing));
+    Ok(())
+}
+
 #[test]
 fn merge_and_missing(rt: HostRuntime) -> Result<(), Fail> {
     let mut journal = journal_of(rt.alloc(), &[1, 2, 5])?;
-    let other = journal_of(rt.alloc(), &[2, 3])?;
-    assert!(rt; agree(&journal, &other) && merge(&mut journal, &other) == Ok(1));
-    assert_eq!(rt; extent(&journal), (4, 5, 3));
-    assert!(rt; missing(&journal, 6).as_slice() == LACKED.as_slice());
-    assert!(rt; missing(&journal, 0).is_empty());
-    let answered = answer(&journal, &[Range { first: 2, last: 4 }]);
-    assert!(rt; bear(answered.as_slice(), &[2, 3]));
-    let mut differing = Journal::new(rt.alloc());
-    differing.put(entry(2, &[(0, 9)]))?;
-    assert!(rt; merge(&mut journal, &differing) == Err(MergeFault::Conflict(2)));
-    assert!(rt; journal.put(entry(2, &[(0, 2)])) == Ok(Put::Same));
-    assert!(rt; journal.put(entry(0, &[(0, 2)])) == Err(PutFault::ZeroNumber));
-    assert!(rt; is_of(&journal, &[1, 2, 3, 5]));
-    Ok(())
+    merge_as_stated(&rt, rt.alloc(), &mut journal)
 }
 
 /// Returns the result of `take_base` of sections 1 to `upto`. The last of them wrote this value to

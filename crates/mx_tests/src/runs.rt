@@ -181,35 +181,43 @@ pub(crate) fn started<C: Exclusion>(
     Ok(Cluster::start(alloc, shape, origin, limit, registers)?)
 }
 
-fn is_so(alloc: Global, run: &Run) -> Result<bool, Fail> {
-    let plan = read_plan(alloc, run.plan.as_bytes())?;
-    let events = read_events(alloc, run.events.as_bytes(), &plan)?;
+fn goes_by_plan(alloc: Global, plan: &Plan, events: &[Event], run: &Run) -> Result<bool, Fail> {
     match plan.shape() {
         Shape::Ricart(shape) => {
             goes_so(
                 alloc,
-                &mut started::<Ricart>(alloc, shape, &plan)?,
-                &events,
+                &mut started::<Ricart>(alloc, shape, plan)?,
+                events,
                 run,
             )
         }
         Shape::Maekawa(shape) => {
             goes_so(
                 alloc,
-                &mut started::<Maekawa>(alloc, shape, &plan)?,
-                &events,
+                &mut started::<Maekawa>(alloc, shape, plan)?,
+                events,
                 run,
             )
         }
         Shape::Raymond(shape) => {
             goes_so(
                 alloc,
-                &mut started::<Raymond>(alloc, shape, &plan)?,
-                &events,
+                &mut started::<Raymond>(alloc, shape, plan)?,
+                events,
                 run,
             )
         }
     }
+}
+
+fn goes_on(alloc: Global, plan: &Plan, run: &Run) -> Result<bool, Fail> {
+    let events = read_events(alloc, run.events.as_bytes(), plan)?;
+    goes_by_plan(alloc, plan, &events, run)
+}
+
+fn is_so(alloc: Global, run: &Run) -> Result<bool, Fail> {
+    let plan = read_plan(alloc, run.plan.as_bytes())?;
+    goes_on(alloc, &plan, run)
 }
 
 #[test]

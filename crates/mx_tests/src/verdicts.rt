@@ -5,7 +5,7 @@ use crate::runs::{READ_WAITS, started};
 use mx_explorer::{Clause, Verdict, judge};
 use mx_journal::Draft;
 use mx_network::{Cluster, Entry, Event, Outcome};
-use mx_plan::{Shape, read_events, read_plan};
+use mx_plan::{Plan, Shape, read_events, read_plan};
 use mx_ricart::Ricart;
 use std::alloc::{AllocError, Global};
 use std::test::Fail;
@@ -105,17 +105,25 @@ fn are_found(alloc: Global, trace: &[Entry]) -> Result<bool, AllocError> {
     Ok(true)
 }
 
+fn after(alloc: Global, plan: &Plan, events: &[Event]) -> Result<Cluster<Ricart>, Fail> {
+    let Shape::Ricart(shape) = plan.shape() else {
+        return Err("another algorithm")?;
+    };
+    let mut cluster = started(alloc, shape, plan)?;
+    cluster.run(events)?;
+    Ok(cluster)
+}
+
+fn after_read_waits(alloc: Global, plan: &Plan) -> Result<Cluster<Ricart>, Fail> {
+    let events = read_events(alloc, READ_WAITS.events.as_bytes(), plan)?;
+    after(alloc, plan, &events)
+}
+
 /// Returns the cluster after four sections of two nodes: 30 items. The last section reads the value
 /// that the second wrote, before and after a write to the register.
 fn four_sections(alloc: Global) -> Result<Cluster<Ricart>, Fail> {
     let plan = read_plan(alloc, READ_WAITS.plan.as_bytes())?;
-    let events = read_events(alloc, READ_WAITS.events.as_bytes(), &plan)?;
-    let Shape::Ricart(shape) = plan.shape() else {
-        return Err("another algorithm")?;
-    };
-    let mut cluster = started(alloc, shape, &plan)?;
-    cluster.run(&events)?;
-    Ok(cluster)
+    after_read_waits(alloc, &plan)
 }
 
 #[test]
