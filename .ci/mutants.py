@@ -16,8 +16,9 @@ WORDS = {
     "nat_tests": "Rattle.std.proofs.lemmas.Bool.Decides",
 }
 # An answer that is one tactic stays, since that fails at a goal that the mutant breaks. A page may say more of an answer:
-# `its answer, search rules for c.f.ensures, _ for c.f.result`, with terms for facts in it, or `cc (its answer)`.
-ONE_TACTIC, ITS, FOR = r"(search|grind|omega|cc)\b[^\n]*\n", "its answer", r", (.+?) for (\S+?)(?=, |$)"
+# `its answer, search rules for c.f.ensures, _ for c.f.result`, with terms for facts or for fields in it, or `cc (its answer)`.
+# The term for a field may speak of what stands there: `its answer, search (its own) for prints`.
+ONE_TACTIC, ITS, OWN, FOR = r"(search|grind|omega|cc)\b[^\n]*\n", "its answer", "its own", r", (.+?) for (\S+?)(?=, |$)"
 
 
 @dataclass
@@ -63,6 +64,15 @@ def place_of(text, function, old):
     return text.index(old) if text.count(old) == 1 else None
 
 
+def without_tactic(text, function, place):
+    """The file's text, in which no tactic is tried at goals without an answer of the function that has this place, if one has it."""
+    starts = re.finditer(rf"^( *)[\w() ]*\bfn {re.escape(function.split('::')[-1])}\b", text, re.MULTILINE)
+    for start in [it for it in starts if it.start() <= place][-1:]:
+        above = re.sub(r" *#\[tactic\(.*\)\]\n\Z", "", text[: start.start()])
+        text = f"{above}{start[1]}#[tactic(none)]\n{text[start.start() :]}"
+    return text
+
+
 def is_generic(text, function):
     """Whether a formatted file's function, or the block that it stands in, has parameters that are types."""
     start = re.search(rf"^( *)[\w() ]*\bfn {re.escape(function.split('::')[-1])}\b(<[^(]*>)?", text, re.MULTILINE)
@@ -82,9 +92,22 @@ def in_place_of(answer, by):
     if ITS not in by:
         return f" {by}\n"
     for term, fact in re.findall(FOR, by):
-        answer = re.sub(rf"(?<![\w.-]){re.escape(fact)}(?![\w.-])", lambda _: f"({term})", answer)
+        its = re.escape(fact)
+        its_field = rf"((?:^ *|{{ ){its} =) ([^;]*?)(;$| \}}$)"
+        answer, fields = re.subn(its_field, lambda it: f"{it[1]} {term.replace(OWN, it[2])}{it[3]}", answer, flags=re.MULTILINE)
+        answer = answer if fields else re.sub(rf"(?<![\w.-]){its}(?![\w.-])", lambda _: f"({term})", answer)
     around = re.sub(FOR, "", by)
     return answer if around == ITS else f" {around.replace(ITS, answer.strip())}\n"
+
+
+def without_others(text, goals):
+    """The answers without those of other goals than these, but with what the rest speaks of."""
+    for name in re.findall(r"^pub (\S+) : goal\.\1$", text, re.MULTILINE):
+        if name not in goals:
+            its = re.escape(name)
+            rest = re.sub(rf"^pub {its} :.*\n(?:(?:  |unfolding ).*\n)*{its} [^=\n]*=\s*(?:.+\n)*\n?", "", text, flags=re.MULTILINE)
+            text = text if re.search(rf"(?<![\w.-]){its}(?![\w-])", rest) else rest
+    return text
 
 
 def tried_at(goals, text, arguments):
@@ -115,6 +138,7 @@ def answers_of(crate, room, mutant):
     is_known = re.search(r"^\S+ g c\b", text, re.MULTILINE)
     arguments = "g c" if is_known or is_generic(text_of(room, mutant.pairs[0][0]), mutant.function) else "c"
     given_up = {goal: by for goal, by in mutant.given_up.items() if f"\npub {goal} :" in text}
+    text = without_others(text, mutant.at) if mutant.at else text
     return path, tried_at({**given_up, **mutant.at}, text, arguments)
 
 
@@ -126,12 +150,15 @@ def put_in(crate, room, mutant, is_right=False):
     texts = {}
     if not mutant.pairs:
         return "it has no pair of old and new"
-    for file, old, new in mutant.pairs if not is_right else ():
+    for file, old, new in mutant.pairs:
         text = texts.get(file) or text_of(room, file)
         place = place_of(text, mutant.function, old)
         if place is None:
             return f"an old text stands in {file} {text.count(old)} times, and not once"
-        texts[file] = text[:place] + new + text[place + len(old) :]
+        if mutant.at and file not in texts:
+            text = without_tactic(text, mutant.function, place)
+            place = place_of(text, mutant.function, old)
+        texts[file] = text if is_right else text[:place] + new + text[place + len(old) :]
     if mutant.at or mutant.given_up:
         path, text = answers_of(crate, room, mutant)
         os.makedirs(os.path.dirname(f"{room}/{path}"), exist_ok=True)
