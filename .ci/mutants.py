@@ -107,7 +107,14 @@ def without_others(text, goals):
             its = re.escape(name)
             rest = re.sub(rf"^pub {its} :.*\n(?:(?:  |unfolding ).*\n)*{its} [^=\n]*=\s*(?:.+\n)*\n?", "", text, flags=re.MULTILINE)
             text = text if re.search(rf"(?<![\w.-]){its}(?![\w-])", rest) else rest
-    return text
+    said = re.sub(r"^use .*\n", "", text, flags=re.MULTILINE)
+
+    def spoken_of(use):
+        """The import of those names of branches of which an answer speaks: only then are they there."""
+        names = [it for it in use[2].split(", ") if re.search(rf"(?<![\w.-]){re.escape(it)}(?![\w-])", said)]
+        return f"use {use[1]}.{{{', '.join(names)}}}\n" if names else ""
+
+    return re.sub(r"^use (\S+\.Goals)\.\{(.*)\}\n", spoken_of, text, flags=re.MULTILINE)
 
 
 def tried_at(goals, text, arguments):
