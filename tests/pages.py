@@ -1,7 +1,8 @@
 """Runs the commands that a page of docs/ shows, and compares what they print with what the page has below them.
 
 Each block of commands is run by itself, in a folder that has what is at the top of the repository. A block's /tmp is a
-room of the check. Below a block stands the text that it prints; where none stands, nothing may be printed.
+room of the check. Below a block stands the text that it prints; where none stands, nothing may be printed. A block of
+`console` is not run: its commands build something.
 """
 import difflib
 import os
@@ -35,7 +36,7 @@ def checks_of(path, room, errors, folder=ROOT):
     page = content(path)
     checks = [(it[1].split("\n")[0], path, it[0], run(it[1], folder, room, errors)) for it in BLOCK.finditer(page)]
     fences = sum(shown.count("```") for _, _, shown, _ in checks)
-    wanted = page.count("```") - 2 * page.count("```rust\n")
+    wanted = page.count("```") - 2 * (page.count("```rust\n") + page.count("```console\n"))
     return [*checks, ("a block that can't be read", "", str(wanted), str(fences or ""))]
 
 
