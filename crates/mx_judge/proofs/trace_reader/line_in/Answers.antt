@@ -1,7 +1,7 @@
 use Rattle.std.proofs.Common.{subst, sym, ◌∙◌, Option, Result}
 use Rattle.serde_json.specs.View.{view}
 use Rattle.mx_trace.specs.declared.outcome.Entry.{Entry}
-use Rattle.mx_judge.specs.Traces.{Answers, line_item}
+use Rattle.mx_judge.specs.Traces.{Answers}
 use Rattle.mx_judge.specs.declared.faults.ItemFault.{ItemFault}
 use Rattle.mx_judge.proofs.ItemLemmas.{line_read, line_unread}
 use Rattle.mx_judge.proofs.trace_reader.line_in.Goals as goal

@@ -1,10 +1,9 @@
-use Rattle.std.proofs.Common.{◌≡◌, ◌∙◌, ◌+◌, Err, Option, Result, ap, refl, subst, sym}
+use Rattle.std.proofs.Common.{◌≡◌, ◌∙◌, ◌+◌, Err, ap, refl, subst, sym}
 use Rattle.serde_json.specs.View.{view}
-use Rattle.mx_trace.specs.declared.outcome.Entry.{Entry}
 use Rattle.mx_judge.specs.Entries.{item_of}
 use Rattle.mx_judge.specs.Faults.{list_fault}
 use Rattle.mx_judge.specs.Listed.{listed, nothing}
-use Rattle.mx_judge.specs.Traces.{Gives, Refuses, with_item}
+use Rattle.mx_judge.specs.Traces.{Gives, with_item}
 use Rattle.mx_judge.specs.declared.faults.ItemFault.{ItemFault}
 use Rattle.mx_judge.specs.declared.faults.TraceFault.{TraceFault}
 use Rattle.mx_judge.proofs.ItemLemmas.{added, gives_refused, refused, rest, rest_end, rest_err, rest_ok}
