@@ -16,9 +16,9 @@ use Rattle.mx_judge.specs.declared.faults.TraceFault.{TraceFault}
 use Rattle.mx_judge.specs.declared.faults.TraceFault.TheVariants.{Memory}
 
 -- a line that is not blank, read as JSON or not
-pub line_read : (p : Fields) (line : Text) (d : Data) → list_all is_blank line ≡ false → value_of line ≡ Some d → Answers (line_item p line) (item_of p d)
+pub line_read : (p : Fields) (line : Text) (d : Data) → list_all is_blank line ≡ false → value_of line ≡ Some d → item_of p d ≡ line_item p line
 unfolding line_item
-line_read p line d marked is = inl (rw (marked, is) refl)
+line_read p line d marked is = rw (marked, is) refl
 
 pub line_unread : (p : Fields) (line : Text) (fault : ItemFault) → list_all is_blank line ≡ false
     → (fault ≡ item.Memory) ⊎ ((fault ≡ item.NotJson) × (value_of line ≡ None)) → Answers (line_item p line) (Err fault)

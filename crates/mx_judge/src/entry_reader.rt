@@ -9,16 +9,21 @@ use crate::faults::ItemFault;
 use crate::members::{Member, has_member, number_at, text_at};
 use crate::outcome_reader::outcome_in;
 use mx_events::{Argument, ArgumentKind, Event, EventKind};
+use mx_journal::Receipt;
 use mx_plan::Plan;
-use mx_trace::Entry;
+use mx_trace::{Boxed, Entry};
 use serde_json::Value;
 
 #[tactic(auto, unfolding(crate::specs::Entries::item_of))]
-pub(crate) fn item_in(plan: &Plan, value: &Value) -> Result<Option<Entry>, ItemFault>
+pub(crate) fn item_in(
+    plan: &Plan,
+    value: &Value,
+    room: Boxed<Receipt>,
+) -> Result<Option<Entry>, ItemFault>
     ensures { result ≡ spec.item_of plan.now (view value.now) }
 {
     if has_member(value, "act") {
-        return Ok(Some(entry_in(plan, value)?));
+        return Ok(Some(entry_in(plan, value, room)?));
     }
     if is_passed_over(value) {
         return Ok(None);
@@ -63,11 +68,11 @@ pub(crate) fn items_in(value: &Value) -> &[Value]
     }
 }
 
-fn entry_in(plan: &Plan, value: &Value) -> Result<Entry, ItemFault>
+fn entry_in(plan: &Plan, value: &Value, room: Boxed<Receipt>) -> Result<Entry, ItemFault>
     ensures { result ≡ spec.entry_of plan.now (view value.now) }
 {
     let event = event_in(plan, value)?;
-    let outcome = outcome_in(&event, value)?;
+    let outcome = outcome_in(&event, value, room)?;
     Ok(Entry { event, outcome })
 }
 

@@ -10,10 +10,15 @@ use arrayvec::ArrayVec;
 use mx_events::{Event, EventKind};
 use mx_journal::Receipt;
 use mx_stamps::{NodeId, Stamp};
-use mx_trace::{Cause, Outcome};
+use mx_trace::{Boxed, Cause, Outcome};
 use serde_json::Value;
 
-pub(crate) fn outcome_in(event: &Event, value: &Value) -> Result<Outcome, ItemFault>
+/// Reads the outcome of an event. The receipt of an exit goes into the box `room`.
+pub(crate) fn outcome_in(
+    event: &Event,
+    value: &Value,
+    room: Boxed<Receipt>,
+) -> Result<Outcome, ItemFault>
     ensures { result ≡ spec.outcome_of event.now (view value.now) }
 {
     let word = text_at(value, Member::Outcome);
@@ -21,7 +26,7 @@ pub(crate) fn outcome_in(event: &Event, value: &Value) -> Result<Outcome, ItemFa
         return Ok(Outcome::Refused(cause_in(value)?));
     }
     if word == word_of_done(event.kind()) {
-        return done(event, value);
+        return done(event, value, room);
     }
     if has_member(value, "outcome") {
         return Err(ItemFault::Wrong(Member::Outcome));
@@ -46,7 +51,7 @@ fn word_of_done(kind: EventKind) -> &'static str
     }
 }
 
-fn done(event: &Event, value: &Value) -> Result<Outcome, ItemFault>
+fn done(event: &Event, value: &Value, room: Boxed<Receipt>) -> Result<Outcome, ItemFault>
     ensures { result ≡ spec.done event.now (view value.now) }
 {
     match event {
@@ -60,7 +65,7 @@ fn done(event: &Event, value: &Value) -> Result<Outcome, ItemFault>
         Event::Enter(_) => Ok(Outcome::Entered(number_at(value, Member::Number)?)),
         Event::Read(_, _) => Ok(Outcome::Value(number_at(value, Member::Value)?)),
         Event::Write(_, _, _) => Ok(Outcome::Written),
-        Event::Leave(node) => left(*node, value),
+        Event::Leave(node) => left(*node, value, room),
         Event::Cancel(_) => Ok(Outcome::Cancelled),
         Event::Settle(_, _) => Ok(Outcome::Settled),
         Event::Tick(_) | Event::Want(_, _) => {
@@ -72,16 +77,17 @@ fn done(event: &Event, value: &Value) -> Result<Outcome, ItemFault>
 }
 
 /// The receipt has no reads and no writes, since the judge does not use them.
-fn left(node: NodeId, value: &Value) -> Result<Outcome, ItemFault>
+fn left(node: NodeId, value: &Value, mut room: Boxed<Receipt>) -> Result<Outcome, ItemFault>
     ensures { result ≡ spec.left node (view value.now) }
 {
     let number = number_at(value, Member::Number)?;
-    Ok(Outcome::Left(Receipt {
+    room.set(Receipt {
         number,
         node,
         reads: ArrayVec::new(),
         writes: ArrayVec::new(),
-    }))
+    });
+    Ok(Outcome::Left(room))
 }
 
 fn cause_in(value: &Value) -> Result<Cause, ItemFault>

@@ -14,9 +14,10 @@ use crate::faults::{ItemFault, TraceFault, stop_at};
 use crate::members::has_member;
 use crate::trace::Trace;
 use mx_cli::{Stop, split_line};
+use mx_journal::Receipt;
 use mx_plan::Plan;
 use mx_stamps::MAX_EVENTS;
-use mx_trace::Entry;
+use mx_trace::{Boxed, Entry};
 use serde_json::Value;
 use std::alloc::{AllocError, Global};
 
@@ -117,7 +118,7 @@ fn read_items(alloc: Global, items: &[Value], plan: &Plan) -> Result<Trace, Trac
     let mut trace = Trace::new(alloc);
     for (index, value) in items.iter().enumerate() {
         let number = index as u64 + 1;
-        if let Err(fault) = add_item(&mut trace, number, item_in(plan, value)) {
+        if let Err(fault) = add_item(&mut trace, number, read_item(alloc, plan, value)) {
             return Err(TraceFault::of_item(number, fault));
         }
     }
@@ -151,7 +152,7 @@ fn line_in(alloc: Global, plan: &Plan, line: &[u8]) -> Result<Option<Entry>, Ite
         return Ok(None);
     }
     match parse(alloc, line) {
-        Ok(value) => item_in(plan, &value),
+        Ok(value) => read_item(alloc, plan, &value),
         Err(fault) => Err(fault),
     }
 }
@@ -166,6 +167,15 @@ fn parse(alloc: Global, text: &[u8]) -> Result<Value, ItemFault>
         Ok(value) => Ok(value),
         Err(e) if e.is_memory() => Err(ItemFault::Memory),
         Err(_) => Err(ItemFault::NotJson),
+    }
+}
+
+fn read_item(alloc: Global, plan: &Plan, value: &Value) -> Result<Option<Entry>, ItemFault>
+    ensures { spec.Answers (item_of plan.now (view value.now)) result }
+{
+    match Boxed::new(alloc, Receipt::default()) {
+        Ok(room) => item_in(plan, value, room),
+        Err(_) => Err(ItemFault::Memory),
     }
 }
 

@@ -1,9 +1,15 @@
--- A refused event changes no member and sends nothing.
-use Rattle.std.proofs.Common.{ℕ, ◌≡◌, List, [], ◌∷◌, ◌++◌, Option, Some, None, Result, Ok, Err, IfOk, length, slice_get, slice_set, inl, inr, refl, sym, ◌∙◌, ap, subst}
+-- What an outcome tells: a refused event changes no member and sends nothing; what has a receipt is an exit.
+use Rattle.std.proofs.Common.{ℕ, ◌≡◌, ◌<◌, Bool, true, false, List, [], ◌∷◌, ◌++◌, Option, Some, None, Result, Ok, Err, IfOk, length, nat_lt, slice_get, slice_set, inl, inr, refl, sym, ◌∙◌, ap, subst, if◌then◌else◌}
+use Rattle.std.proofs.lemmas.Option.{slice_get_within}
 use Rattle.mx_stamps.specs.Lists.{IsIn}
 use Rattle.mx_stamps.proofs.Lists.{append_nil, in_append, set_itself}
 use Rattle.mx_nodelaws.specs.World.{World, sent_by}
 use Rattle.mx_nodelaws.specs.Core.{Core, KeepsPhases}
+use Rattle.mx_nodelaws.specs.declared.faults.AskFault.TheVariants as ask
+use Rattle.mx_nodelaws.specs.declared.faults.CancelFault.TheVariants as cancel
+use Rattle.mx_nodelaws.specs.declared.faults.EnterFault.TheVariants as enter
+use Rattle.mx_journal.specs.declared.receipts.Receipt.{Receipt}
+use Rattle.mx_journal.specs.declared.settlement.SettleFault.TheVariants as settle
 use Rattle.mx_member.specs.declared.acts.Act.{Act}
 use Rattle.mx_member.specs.declared.acts.Act.TheVariants as act
 use Rattle.mx_member.specs.declared.acts.Answer.{Answer}
@@ -12,6 +18,8 @@ use Rattle.mx_member.specs.Acts.{IsRefusal, act_of}
 use Rattle.mx_member.specs.Member.{MemberState}
 use Rattle.mx_member.specs.declared.faults.ReadFault.{ReadFault}
 use Rattle.mx_member.specs.declared.faults.ReadFault.TheVariants as read
+use Rattle.mx_member.specs.declared.faults.WriteFault.TheVariants as write
+use Rattle.mx_member.specs.declared.parcel.Parcel.{Parcel}
 use Rattle.mx_member.specs.Steps.{read_of}
 use Rattle.mx_member.proofs.Consequences.{read_unsettled}
 use Rattle.mx_member.proofs.Refused.{refused_stays}
@@ -21,13 +29,13 @@ use Rattle.mx_trace.specs.declared.outcome.Cause.{Cause}
 use Rattle.mx_trace.specs.declared.outcome.Cause.TheVariants as cause
 use Rattle.mx_trace.specs.declared.outcome.Entry.{Entry}
 use Rattle.mx_trace.specs.declared.outcome.Outcome.{Outcome}
-use Rattle.mx_trace.specs.declared.outcome.Outcome.TheVariants.{Refused}
+use Rattle.mx_trace.specs.declared.outcome.Outcome.TheVariants.{Left, Refused}
 use Rattle.mx_network.specs.declared.faults.StepFault.{StepFault}
-use Rattle.mx_network.specs.declared.faults.StepFault.TheVariants.{NoNode}
+use Rattle.mx_network.specs.declared.faults.StepFault.TheVariants.{NoNode, NoParcel}
 use Rattle.mx_network.specs.Kept.{IsKept}
 use Rattle.mx_network.specs.Outcome.{outcome_of}
 use Rattle.mx_trace.specs.Trace.{sections}
-use Rattle.mx_network.specs.Step.{AreUnsettled, ClusterState, IsSettledRead, IsUnchanged, answer_of, at_member, at_part, grown, part_of, step_of}
+use Rattle.mx_network.specs.Step.{AreUnsettled, ClusterState, IsSettledRead, IsUnchanged, answer_of, at_member, at_part, delivery_of, grown, part_of, step_of}
 use Rattle.mx_network.proofs.EventParts.{err_no_ok, same_Ok}
 use Rattle.mx_network.proofs.KeptSound.{kept_sound}
 
@@ -92,6 +100,61 @@ module _ {H S M : Type 0} (core : Core H S M) (Good : World S M → Type 0) (g n
   never_settled e r ok told cause is h =
       stands e cause h (subst (λ x. IfOk x (λ o. step_of core g e ≡ Ok new)) is ok)
       (subst (λ x. IfOk x (λ o. new.trace ≡ g.trace ++ (record { event = e; outcome = o }) ∷ [])) is told)
+
+-- an answer whose outcome has a receipt is that of leaving
+abbrev IsLeft : Answer → Type 0
+IsLeft (answer.Left r) = Unit {0}
+IsLeft _ = ⊥
+
+left_answer : (a : Answer) (k : ℕ) (receipt : Receipt) → outcome_of a k ≡ Left receipt → IsLeft a
+left_answer (answer.Left r) k receipt e = tt
+left_answer (answer.Asked (Err ask.NotIdle)) k receipt e = cc
+left_answer (answer.Entered (Err enter.NotWaiting)) k receipt e = cc
+left_answer (answer.Read (Err read.NotInside)) k receipt e = cc
+left_answer (answer.Written (Err write.NotInside)) k receipt e = cc
+left_answer (answer.Cancelled (Err cancel.NotWaiting)) k receipt e = cc
+left_answer (answer.Settled (Err (settle.Gap n))) k receipt e = cc
+left_answer _ k receipt e = cc
+
+module _ {H S M : Type 0} (core : Core H S M) (g new : ClusterState S M) (receipt : Receipt) where
+  abbrev IsTold : Event → Type 0
+  IsTold e = new.trace ≡ g.trace ++ (record { event = e; outcome = Left receipt }) ∷ []
+
+  -- the event is an exit of a node that is there
+  abbrev pub IsExit : Event → Type 0
+  IsExit e = (i : ℕ) × (e ≡ event.Leave i) × (i < length g.members)
+
+  left_at : (e : Event) (i : ℕ) (a : Act M) (o : Option (MemberState S)) → slice_get g.members i ≡ o → at_member core g e i a o ≡ Ok new → IsTold e →
+      (m : MemberState S) × IsLeft (act_of core a m).answer × (i < length g.members)
+  left_at e i a None was step told = absurd (err_no_ok NoNode new step)
+  left_at e i a (Some m) was step told =
+      let done = answer_of core a m in
+      let is : grown g e i done ≡ new = same_Ok (grown g e i done) new step in
+      let entry : Entry = record { event = e; outcome = done.answer } in
+      let item : entry ≡ record { event = e; outcome = Left receipt } =
+      last_same g.trace entry (record { event = e; outcome = Left receipt }) (ap (λ (x : ClusterState S M). x.trace) is ∙ told) in
+      (m, left_answer (act_of core a m).answer (length (act_of core a m).letters) receipt (ap (λ (x : Entry). x.outcome) item), slice_get_within g.members i m was)
+
+  delivery_left : (k : ℕ) (o : Option (ℕ × ℕ × Parcel M)) → at_part core g (event.Deliver k) (delivery_of o) ≡ Ok new → IsTold (event.Deliver k) → ⊥
+  delivery_left k None step told = err_no_ok NoParcel new step
+  delivery_left k (Some p) step told = (left_at (event.Deliver k) p.1 (act.Deliver p.0 p.2) (slice_get g.members p.1) refl step told).1
+
+  want_left : (i j : ℕ) (b : Bool) → at_part core g (event.Want i j) (if b then Ok (i, act.Want j) else Err NoNode) ≡ Ok new → IsTold (event.Want i j) → ⊥
+  want_left i j true step told = (left_at (event.Want i j) i (act.Want j) (slice_get g.members i) refl step told).1
+  want_left i j false step told = err_no_ok NoNode new step
+
+  pub exits : (e : Event) → step_of core g e ≡ Ok new → IsTold e → IsExit e
+  exits (event.Leave i) step told = (i, refl, (left_at (event.Leave i) i act.Leave (slice_get g.members i) refl step told).2)
+  exits (event.Ask i) step told = absurd ((left_at (event.Ask i) i act.Ask (slice_get g.members i) refl step told).1)
+  exits (event.Enter i) step told = absurd ((left_at (event.Enter i) i act.Enter (slice_get g.members i) refl step told).1)
+  exits (event.Read i register) step told = absurd ((left_at (event.Read i register) i (act.Read register) (slice_get g.members i) refl step told).1)
+  exits (event.Write i register value) step told = absurd ((left_at (event.Write i register value) i (act.Write register value) (slice_get g.members i) refl step told).1)
+  exits (event.Cancel i) step told = absurd ((left_at (event.Cancel i) i act.Cancel (slice_get g.members i) refl step told).1)
+  exits (event.Settle i k) step told = absurd ((left_at (event.Settle i k) i (act.Settle k) (slice_get g.members i) refl step told).1)
+  exits (event.Tick i) step told = absurd ((left_at (event.Tick i) i act.Tick (slice_get g.members i) refl step told).1)
+  exits (event.Restart i) step told = absurd ((left_at (event.Restart i) i act.Restart (slice_get g.members i) refl step told).1)
+  exits (event.Want i j) step told = absurd (want_left i j (nat_lt j (length g.members)) step told)
+  exits (event.Deliver k) step told = absurd (delivery_left k (slice_get g.sent k) step told)
 
 module _ {H S M : Type 0} (core : Core H S M) (phases : KeepsPhases core) where
   -- what a step of node i is, where its answer is a refusal

@@ -1,5 +1,4 @@
-use Rattle.std.specs.Prelude.{ℕ, ◌≡◌, ◌≤◌, ◌<◌, ◌⊎◌, IfErr, OnErr, OnOk, List, [], ◌∷◌, ◌++◌, Option, Some, None, Result, Ok, Err, Vec, IsOk, IsSome, slice_get, slice_set, length, nat_lt, if◌then◌else◌}
-use Rattle.std.specs.declared.alloc.Global.{Global}
+use Rattle.std.specs.Prelude.{ℕ, ◌≡◌, ◌≤◌, ◌⊎◌, IfErr, OnErr, OnOk, List, [], ◌∷◌, ◌++◌, Option, Some, None, Result, Ok, Err, IsOk, slice_get, slice_set, length, nat_lt, if◌then◌else◌}
 use Rattle.mx_stamps.specs.Lists.{IsIn}
 use Rattle.mx_nodelaws.specs.World.{Done, answering, sent_by}
 use Rattle.mx_nodelaws.specs.Core.{Core, IsInside}

@@ -126,10 +126,11 @@ impl<C: Exclusion> Cluster<C> {
     {
         // for the prover: the use of a field shows what holds for a cluster
         let _ = &self.trace;
-        if let Err(fault) = self.apply(event) {
-            return Err(fault);
-        }
-        Ok(newest(&self.trace))
+        let room = match self.apply_with_room(event) {
+            Ok(room) => room,
+            Err(fault) => return Err(fault),
+        };
+        Ok(newest(&self.trace, room))
     }
 
     /// Applies one event as `step` does, but does not return the outcome, which the newest item of

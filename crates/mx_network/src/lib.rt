@@ -15,5 +15,5 @@ mod parts;
 pub use cluster::Cluster;
 pub use faults::{RunFault, StepFault};
 pub use mx_events::Event;
-pub use mx_trace::{Cause, Entry, Outcome};
+pub use mx_trace::{Boxed, Cause, Entry, Outcome};
 pub use parcels::Parcels;

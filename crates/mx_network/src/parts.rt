@@ -1,24 +1,26 @@
 //! One event of a cluster: a parcel reaches its addressee, or a node does something by itself.
 
-ghost use Rattle.std.specs.Prelude.{◌≡◌, ◌^◌, ◌≤◌, ◌<◌, List, [], ◌∷◌, ◌++◌, length, IfOk, OnErr, OnOk, vec_len, vec_capacity};
+ghost use Rattle.std.specs.Prelude.{◌≡◌, ◌^◌, ◌≤◌, ◌<◌, ℕ, List, [], ◌∷◌, ◌++◌, length, IfErr, IfOk, IsSome, OnErr, OnOk, vec_len, vec_capacity};
 ghost use Rattle.mx_stamps.specs.declared.limits.TheConstants.{MAX_REGISTERS, MAX_SECTIONS};
 ghost use Rattle.mx_stamps.specs.Lists.{each_below};
+ghost use Rattle.mx_journal.specs.declared.receipts.Receipt.{Receipt as OneReceipt};
 ghost use Rattle.mx_letters.specs.declared.outbox.TheConstants.{OUTBOX_ROOM};
 ghost use Rattle.mx_member.specs.Member.{BringsUnknown};
 ghost use Rattle.mx_member.specs.Steps.{IsTakeable, start_of};
 ghost use Rattle.mx_member.specs.declared.acts.Act.TheVariants.{Deliver, Leave};
-ghost use Rattle.mx_network.specs.Step.{own_act, own_node, IsByItself, IsStep, NotesAct};
+ghost use Rattle.mx_network.specs.Step.{own_act, own_node, step_of, IsByItself, IsFaultOf, IsStep, NotesAct};
 
 use crate::cluster::Cluster;
 use crate::faults::StepFault;
 use crate::outcome::{asked, cancelled, entered, read, settled, written};
 use crate::parcel_log::ParcelLog;
 use mx_events::Event;
+use mx_journal::Receipt;
 use mx_letters::{OUTBOX_ROOM, Outbox};
 use mx_member::{CloseFault, Member, Parcel};
 use mx_nodelaws::Exclusion;
 use mx_stamps::NodeId;
-use mx_trace::{Cause, Entry, Outcome};
+use mx_trace::{Boxed, Cause, Entry, Outcome};
 use std::alloc::{AllocError, Global};
 
 impl<C: Exclusion> Cluster<C> {
@@ -28,6 +30,39 @@ impl<C: Exclusion> Cluster<C> {
         match event {
             Event::Deliver(number) => self.deliver(number),
             _ => self.act(&event),
+        }
+    }
+
+    /// Applies an event as `apply` does. Before an exit, allocates a box for a copy of its receipt.
+    pub(crate) fn apply_with_room(
+        &mut self,
+        event: Event,
+    ) -> Result<Option<Boxed<Receipt>>, StepFault>
+        ensures ok { OnOk result (step_of C.core self.old event ≡ Ok self.new) }
+        ensures fault { IfErr result (IsFaultOf (step_of C.core self.old event)) }
+        ensures err { OnErr result (self.new ≡ self.old) }
+        ensures room { IfOk result (λ room. (receipt : OneReceipt) → self.new.trace
+            ≡ self.old.trace ++ (record { event = event; outcome = Outcome.Left receipt }) ∷ []
+            → IsSome room) }
+    {
+        let room = self.room_for(&event)?;
+        match self.apply(event) {
+            Ok(()) => Ok(room),
+            Err(fault) => Err(fault),
+        }
+    }
+
+    /// An exit of a node that is not there gets no box, so its fault is named even without memory.
+    fn room_for(&self, event: &Event) -> Result<Option<Boxed<Receipt>>, AllocError>
+        ensures some { IfOk result (λ room. (node : ℕ) → event.now ≡ Event.Leave node →
+            node < length self.now.members → IsSome room) }
+        ensures err { OnErr result (IsFaultOf (step_of C.core self.now event.now) StepFault.Memory) }
+    {
+        match event {
+            Event::Leave(node) if (node.get() as usize) < self.members.len() => {
+                Ok(Some(Boxed::new(*self.trace.allocator(), Receipt::default())?))
+            }
+            _ => Ok(None),
         }
     }
 
@@ -208,9 +243,11 @@ fn leave_and_note<C: Exclusion>(
     ensures err { OnErr result ((member.new ≡ member.old) × (out.new ≡ [])
         × (trace.new.items ≡ trace.old.items)) }
 {
+    let mut left = Boxed::new(*trace.allocator(), Receipt::default())?;
     match member.leave(out) {
         Ok(receipt) => {
-            note(trace, event, Outcome::Left(receipt));
+            left.set(receipt);
+            note(trace, event, Outcome::Left(left));
             Ok(())
         }
         Err(CloseFault::NotInside) => {
@@ -233,10 +270,12 @@ fn note(trace: &mut Vec<Entry>, event: &Event, outcome: Outcome)
     });
 }
 
-pub(crate) fn newest(trace: &[Entry]) -> Outcome
-    requires { 0 < length trace.now }
+/// Returns the outcome of the newest item. The copy of a receipt goes into the box `room`.
+pub(crate) fn newest(trace: &[Entry], room: Option<Boxed<Receipt>>) -> Outcome
+    requires ends { (front : List Entry) × (entry : Entry) × (trace.now ≡ front ++ entry ∷ [])
+        × ((receipt : OneReceipt) → entry.outcome ≡ Outcome.Left receipt → IsSome room) }
     ensures { (front : List Entry) (entry : Entry) → trace.now ≡ front ++ entry ∷ [] →
         result ≡ entry.outcome }
 {
-    trace[trace.len() - 1].outcome.copy()
+    trace[trace.len() - 1].outcome.copy_into(room)
 }

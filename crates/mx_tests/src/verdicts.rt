@@ -3,8 +3,8 @@
 use crate::given::node;
 use crate::runs::{READ_WAITS, started};
 use mx_explorer::{Clause, Verdict, judge};
-use mx_journal::Draft;
-use mx_network::{Cluster, Entry, Event, Outcome};
+use mx_journal::{Draft, Receipt};
+use mx_network::{Boxed, Cluster, Entry, Event, Outcome};
 use mx_plan::{Plan, Shape, read_events, read_plan};
 use mx_ricart::Ricart;
 use std::alloc::{AllocError, Global};
@@ -21,22 +21,23 @@ enum Did {
 
 use Did::{Entered, Left, Value};
 
-fn item(did: Did) -> Entry {
+fn item(alloc: Global, did: Did) -> Result<Entry, AllocError> {
     let (event, outcome) = match did {
         Entered(index, number) => (Event::Enter(node(index % 21)), Outcome::Entered(number)),
         Value(index, value) => (Event::Read(node(index % 21), 0), Outcome::Value(value)),
         Left(index, number) => {
             let receipt = Draft::new().close(number, node(index % 21));
-            (Event::Leave(node(index % 21)), Outcome::Left(receipt))
+            let left = Outcome::Left(Boxed::new(alloc, receipt)?);
+            (Event::Leave(node(index % 21)), left)
         }
     };
-    Entry { event, outcome }
+    Ok(Entry { event, outcome })
 }
 
 fn trace(alloc: Global, items: &[Did]) -> Result<Vec<Entry>, AllocError> {
     let mut trace = Vec::new(alloc);
     for did in items {
-        trace.push(item(*did))?;
+        trace.push(item(alloc, *did)?)?;
     }
     Ok(trace)
 }
@@ -82,18 +83,19 @@ fn edited(
     for (index, entry) in trace.iter().enumerate() {
         match edit {
             None if index == place => {}
-            Some(other) if index == place => list.push(item(other))?,
-            _ => list.push(copied(entry))?,
+            Some(other) if index == place => list.push(item(alloc, other)?)?,
+            _ => list.push(copied(alloc, entry)?)?,
         }
     }
     Ok(list)
 }
 
-fn copied(entry: &Entry) -> Entry {
-    Entry {
+fn copied(alloc: Global, entry: &Entry) -> Result<Entry, AllocError> {
+    let room = Boxed::new(alloc, Receipt::default())?;
+    Ok(Entry {
         event: entry.event,
-        outcome: entry.outcome.copy(),
-    }
+        outcome: entry.outcome.copy_into(Some(room)),
+    })
 }
 
 fn are_found(alloc: Global, trace: &[Entry]) -> Result<bool, AllocError> {

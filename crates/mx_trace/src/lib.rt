@@ -2,7 +2,9 @@
 //! proved to follow this definition, and the crates that print and judge traces use it too.
 #![tactic(auto)]
 
+mod boxed;
 mod outcome;
 
+pub use boxed::Boxed;
 pub use mx_events::Event;
 pub use outcome::{Cause, Entry, Outcome};

@@ -1,6 +1,7 @@
-ghost use Rattle.std.specs.Prelude.{◌≡◌};
+ghost use Rattle.std.specs.Prelude.{◌≡◌, IsSome};
 ghost use Rattle.mx_trace.specs.Causes.{cause_number, cause_words};
 
+use crate::boxed::Boxed;
 use mx_events::Event;
 use mx_journal::Receipt;
 use mx_stamps::Stamp;
@@ -72,8 +73,9 @@ pub enum Outcome {
     /// The node read this value.
     Value(u64),
     Written,
-    /// The node left; the receipt has the reads and writes of its section.
-    Left(Receipt),
+    /// The node left; the receipt has the reads and writes of its section. It is in a box, since it
+    /// is ten times as large as any other case.
+    Left(Boxed<Receipt>),
     Cancelled,
     Settled,
     /// The node sent this many parcels, at a tick or a want.
@@ -86,8 +88,9 @@ pub enum Outcome {
 }
 
 impl Outcome {
-    /// Returns a copy of the outcome.
-    pub fn copy(&self) -> Outcome
+    /// Returns a copy of the outcome. The copy of a receipt goes into the box `room`.
+    pub fn copy_into(&self, room: Option<Boxed<Receipt>>) -> Outcome
+        requires { (receipt : Receipt) → self.now ≡ Outcome.Left receipt → IsSome room }
         ensures { result ≡ self.now }
     {
         match self {
@@ -95,7 +98,7 @@ impl Outcome {
             Outcome::Entered(number) => Outcome::Entered(*number),
             Outcome::Value(value) => Outcome::Value(*value),
             Outcome::Written => Outcome::Written,
-            Outcome::Left(receipt) => Outcome::Left(receipt.copy()),
+            Outcome::Left(receipt) => left(receipt, room),
             Outcome::Cancelled => Outcome::Cancelled,
             Outcome::Settled => Outcome::Settled,
             Outcome::Sent(count) => Outcome::Sent(*count),
@@ -103,6 +106,19 @@ impl Outcome {
             Outcome::Woken => Outcome::Woken,
             Outcome::Refused(cause) => Outcome::Refused(*cause),
         }
+    }
+}
+
+fn left(receipt: &Receipt, room: Option<Boxed<Receipt>>) -> Outcome
+    requires { IsSome room }
+    ensures { result ≡ Outcome.Left receipt.now }
+{
+    match room {
+        Some(mut copy) => {
+            copy.set(receipt.copy());
+            Outcome::Left(copy)
+        }
+        None => unreachable!(),
     }
 }
 

@@ -1,7 +1,7 @@
 use Rattle.std.proofs.Common.{subst, sym, ◌∙◌, Option, Result}
 use Rattle.serde_json.specs.View.{view}
 use Rattle.mx_trace.specs.declared.outcome.Entry.{Entry}
-use Rattle.mx_judge.specs.Traces.{Answers, line_item}
+use Rattle.mx_judge.specs.Traces.{Answers}
 use Rattle.mx_judge.specs.declared.faults.ItemFault.{ItemFault}
 use Rattle.mx_judge.proofs.ItemLemmas.{line_read, line_unread}
 use Rattle.mx_judge.proofs.trace_reader.line_in.Goals as goal
@@ -11,7 +11,7 @@ returns-in-Ok c =
     let p = c.args.plan.now in
     let line = c.args.line.now in
     let read = line_read p line (view c.in-Ok.value) (sym c.is_blank_line.ensures ∙ c.if-is_blank_line.false) c.in-Ok.ensures.ok in
-    subst (λ (r : Result (Option Entry) ItemFault). Answers (line_item p line) r) (sym c.item_in.ensures) read
+    subst (λ (wanted : Result (Option Entry) ItemFault). Answers wanted c.read_item.result) read c.read_item.ensures
 
 pub returns-in-Err : goal.returns-in-Err
 returns-in-Err c = line_unread c.args.plan.now c.args.line.now c.in-Err.fault (sym c.is_blank_line.ensures ∙ c.if-is_blank_line.false) c.in-Err.ensures.err

@@ -1,13 +1,12 @@
-use Rattle.std.proofs.Common.{◌≡◌, ◌∙◌, ◌+◌, Err, Option, Result, ap, refl, subst, sym}
+use Rattle.std.proofs.Common.{◌≡◌, ◌∙◌, ◌+◌, Err, ap, refl, subst, sym}
 use Rattle.serde_json.specs.View.{view}
-use Rattle.mx_trace.specs.declared.outcome.Entry.{Entry}
 use Rattle.mx_judge.specs.Entries.{item_of}
 use Rattle.mx_judge.specs.Faults.{list_fault}
 use Rattle.mx_judge.specs.Listed.{listed, nothing}
-use Rattle.mx_judge.specs.Traces.{Gives, Refuses, with_item}
+use Rattle.mx_judge.specs.Traces.{Gives, with_item}
 use Rattle.mx_judge.specs.declared.faults.ItemFault.{ItemFault}
 use Rattle.mx_judge.specs.declared.faults.TraceFault.{TraceFault}
-use Rattle.mx_judge.proofs.ItemLemmas.{gives_refused, rest, rest_end, rest_err, rest_ok}
+use Rattle.mx_judge.proofs.ItemLemmas.{added, gives_refused, refused, rest, rest_end, rest_err, rest_ok}
 use Rattle.mx_judge.proofs.trace_reader.read_items.Goals as goal
 
 pub returns-in-Err : goal.returns-in-Err
@@ -19,11 +18,11 @@ returns-in-Err c =
     let x = c.index-items-index.result in
     let fault = c.in-Err.fault in
     let wanted = rest view item list_fault items nothing 0 in
-    let refused = subst (λ (r : Result (Option Entry) ItemFault). Refuses (with_item (k + 1) t r) fault) c.item_in.ensures c.in-Err.ensures.err in
+    let found = refused (k + 1) t c.read_item.result (item (view x)) fault c.read_item.ensures c.in-Err.ensures.err in
     let named = λ (e : ItemFault) (is : with_item (k + 1) t (item (view x)) ≡ Err e).
     c.loop-index.invariant ∙ rest_err view item list_fault items t k x e c.loop-index-test.true (ap (λ v. with_item (k + 1) t (item (view v))) (sym c.index-items-index.is) ∙ is) in
     subst (λ (f : TraceFault). Gives wanted (Err f)) (sym c.of_item.ensures)
-    (gives_refused list_fault (k + 1) wanted (with_item (k + 1) t (item (view x))) fault refl named refused)
+    (gives_refused list_fault (k + 1) wanted (with_item (k + 1) t (item (view x))) fault refl named found)
 
 pub loop-index-preserved : goal.loop-index-preserved
 loop-index-preserved c =
@@ -31,8 +30,10 @@ loop-index-preserved c =
     let t = listed c.loop-index.trace in
     let k = c.loop-index.index in
     let x = c.index-items-index.result in
-    let is = ap (λ v. with_item (k + 1) t (item (view v))) (sym c.index-items-index.is) ∙ ap (with_item (k + 1) t) (sym c.item_in.ensures) ∙ c.in_default.ensures.ok in
-    c.loop-index.invariant ∙ rest_ok view item list_fault c.args.items.now t (listed c.add_item.new.trace) k x c.loop-index-test.true is
+    let more = listed c.add_item.new.trace in
+    let read = added (k + 1) t more c.read_item.result (item_of c.args.plan.now (view c.index-items-index.result)) c.read_item.ensures c.in_default.ensures.ok in
+    let is = ap (λ v. with_item (k + 1) t (item (view v))) (sym c.index-items-index.is) ∙ read in
+    c.loop-index.invariant ∙ rest_ok view item list_fault c.args.items.now t more k x c.loop-index-test.true is
 
 pub returns : goal.returns
 returns c =

@@ -1,14 +1,10 @@
 use Rattle.std.proofs.Common.{ℕ, ◌≡◌, ◌∙◌, List, [], ◌∷◌, ◌++◌, ap, length, refl, subst, sym}
 use Rattle.mx_nodelaws.specs.Core.{Core}
-use Rattle.mx_member.specs.declared.acts.Answer.{Answer}
-use Rattle.mx_member.specs.declared.acts.Answer.TheVariants as answer
 use Rattle.mx_member.specs.declared.parcel.Parcel.{Parcel}
-use Rattle.mx_member.specs.Acts.{act_of}
 use Rattle.mx_member.specs.Member.{MemberState}
 use Rattle.mx_events.specs.declared.event.Event.{Event}
 use Rattle.mx_events.specs.declared.event.Event.TheVariants as event
 use Rattle.mx_trace.specs.declared.outcome.Entry.{Entry}
-use Rattle.mx_trace.specs.declared.outcome.Outcome.{Outcome}
 use Rattle.mx_trace.specs.declared.outcome.Outcome.TheVariants.{Sent}
 use Rattle.mx_network.specs.Step.{own_act, NotesAct}
 use Rattle.mx_network.proofs.parts.do_and_note.Goals as goal

@@ -1,7 +1,6 @@
-use Rattle.std.proofs.Common.{ℕ, ◌<◌, ◌≡◌, ◌∙◌, Ok, Err, Result, ap, arith, length, refl, rules, slice_get, subst, sym}
-use Rattle.mx_network.specs.declared.faults.StepFault.{StepFault}
+use Rattle.std.proofs.Common.{◌<◌, ◌∙◌, ap, arith, length, refl, rules, subst, sym}
 use Rattle.mx_network.specs.declared.faults.StepFault.TheVariants.{Memory, NoNode}
-use Rattle.mx_network.specs.Step.{own_act, own_node, part_of, ClusterState}
+use Rattle.mx_network.specs.Step.{own_act, own_node, ClusterState}
 use Rattle.mx_network.specs.Kept.{IsKept}
 use Rattle.mx_network.proofs.EventParts.{own_fault, own_part}
 use Rattle.mx_network.proofs.Happening.{at_place, done, gone, has_that_fault, has_fault, has_happened, memory_alone, same_parts, unchanged, without}

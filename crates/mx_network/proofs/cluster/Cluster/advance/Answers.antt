@@ -1,5 +1,4 @@
 use Rattle.std.proofs.Common.{subst}
-use Rattle.mx_network.specs.declared.faults.StepFault.TheVariants.{NoNode, NoParcel}
 use Rattle.mx_network.specs.Kept.{IsKept}
 use Rattle.mx_network.specs.Step.{ClusterState}
 use Rattle.mx_network.proofs.Headline.{exclusive, numbered}
