@@ -3,6 +3,7 @@
 const SPAN = 256; // of so many states, one is kept
 const GRANTS = ["reply", "locked", "privilege"]; // the kinds of parcels that grant a request
 const WAITS = ["missing", "privilege towards"]; // the facts that name the nodes for which a node waits
+const ALGORITHMS = { privilege: "Raymond", arbiter: "Maekawa", clock: "Ricart and Agrawala" }; // by a fact that only it has
 const EFFECTS = { // of an outcome, on the node of its event
   __proto__: null, // a file may have any outcome
   asked: () => ({ phase: "waiting" }),
@@ -13,18 +14,30 @@ const EFFECTS = { // of an outcome, on the node of its event
 
 const unique = items => [...new Set(items)].filter(item => item !== undefined);
 
-/** Each step has an event, its node, the parcels that it sent, and the lines of nodes after it. */
-function readRun(lines) {
-  const run = { steps: [], parcels: [], told: [], verdict: lines.at(-1) };
+/** Each step has an event, its node, the parcels that it sent, and the lines of nodes after it. An open run may go on. */
+function readRun(lines, isOpen) {
+  const run = { steps: [], parcels: [], told: [], links: [], verdict: lines.at(-1) };
   const nodeOf = ({ node, parcel }) => node ?? run.parcels[+parcel]?.to;
   for (const line of lines) {
     const at = run.steps.length - 1, { sent, told } = run.steps[at] ?? run;
     if (line.act) run.steps.push({ event: line, node: nodeOf(line), sent: [], told: [] });
     else if (line.kind) sent.push(run.parcels[+line.parcel] = { ...line, line, sentAt: at, deliveries: [] });
     else if (line.phase) told.push(line);
+    else if (line.lost) run.parcels[+line.lost].lostAt = at;
+    else if (line.cut || line.heal) run.links.push({ at, ...line });
   }
   run.steps.forEach(({ event }, at) => run.parcels[+event.parcel]?.deliveries.push(at));
-  return { ...run, names: namesOf(run) };
+  run.parcels.forEach(it => { it.isLost = !it.deliveries.length && (!isOpen || it.lostAt !== undefined); });
+  return { ...run, names: namesOf(run), ...shapeOf(run) };
+}
+
+/** The algorithm and, for Raymond's, its tree, if the last line of each node tells them. */
+function shapeOf({ told, steps }) {
+  const closing = new Map([...told, ...steps.flatMap(step => step.told)].map(line => [line.node, line]));
+  const facts = [...closing.values()].flatMap(({ knows }) => knows.map(({ fact }) => fact)).join(" ");
+  const word = Object.keys(ALGORITHMS).find(it => facts.includes(it));
+  const tree = [...closing].flatMap(([name, line]) => towards(line).map(other => [name, other].sort().join()));
+  return { algorithm: ALGORITHMS[word], tree: unique(tree).map(pair => pair.split(",")) };
 }
 
 /** The nodes: those of the last lines of nodes in their order, which is the plan's, and then all others. */
@@ -55,10 +68,21 @@ function statesOf({ names, told, steps }) {
   return nodesAfter;
 }
 
-/** The parcels sent up to a step and not delivered yet: newest first, those that never will be last. */
+/** The parcels sent up to a step, and neither delivered nor lost before: newest first, those that never arrive last. */
 function underWay({ parcels }, at) {
-  const sent = parcels.filter(it => it.sentAt <= at && !(it.deliveries[0] <= at)).reverse();
-  return [...sent.filter(it => it.deliveries.length), ...sent.filter(it => !it.deliveries.length)];
+  const isGone = ({ deliveries, lostAt }) => deliveries[0] <= at || lostAt < at;
+  const sent = parcels.filter(it => it.sentAt <= at && !isGone(it)).reverse();
+  return [...sent.filter(it => !it.isLost), ...sent.filter(it => it.isLost)];
+}
+
+/** The parcels that were lost up to a step and are not delivered. */
+const lostBy = ({ parcels }, at) => parcels.filter(it => it.lostAt <= at && !(it.deliveries[0] <= at));
+
+/** The pairs of nodes whose link is cut after a step. */
+function cutAfter({ links, names }, at) {
+  const pairs = ({ cut: [name, ...other] }) => (other.length ? other : names).map(it => [name, it].sort().join());
+  const done = links.filter(it => it.at <= at), healed = done.findLastIndex(({ heal }) => heal);
+  return unique(done.slice(healed + 1).flatMap(pairs)).map(pair => pair.split(","));
 }
 
 /** The nodes that a broken verdict concerns: that of its event, and those that were inside before it. */
@@ -68,11 +92,12 @@ function concerned({ steps, verdict }, nodesAfter) {
   return unique([steps[verdict.index].node, ...inside.map(([name]) => name)]);
 }
 
-/** The nodes for which a node waits, if that is known. */
-function waitsFor({ phase, told }) {
-  const facts = told && phase === "waiting" ? told.knows.filter(({ fact }) => WAITS.includes(fact)) : [];
-  return facts.flatMap(({ values }) => values.map(({ node }) => node));
-}
+const valuesOf = (line, isSought) => (line?.knows ?? []).filter(({ fact }) => isSought(fact))
+  .flatMap(({ values }) => values.map(({ node }) => node));
+
+/** The nodes for which a node waits, and the neighbour that leads to the privilege, if these are known. */
+const waitsFor = ({ phase, told }) => phase === "waiting" ? valuesOf(told, fact => WAITS.includes(fact)) : [];
+const towards = told => valuesOf(told, fact => fact === "privilege towards");
 
 // The texts are those of `mx replay`.
 
@@ -80,7 +105,7 @@ const phaseText = ({ phase, mine }) => phase === "inside" ? `inside ${mine}` : p
 const fullText = parcel => `#${parcel.parcel} ${parcel.from}>${parcel.to} ${parcelText(parcel)}`;
 const valueText = ({ node, number, stamp, of }) => of ? `${stamp}.${of}` : unique([node, number]).join("/");
 const factText = ({ fact, values }) => [fact, ...values.map(valueText)].join(" ");
-const kindOf = ({ kind, deliveries }) => !deliveries.length ? "lost" : kind === "request" ? kind
+const kindOf = ({ kind, isLost }) => isLost ? "lost" : kind === "request" ? kind
   : GRANTS.includes(kind) ? "grant" : "other";
 
 function eventText({ event, ...rest }) {
@@ -95,8 +120,12 @@ function parcelText({ line: { parcel, from, to, kind, stamp, of, ...rest } }) {
   return [kind, ...(of ? [`${stamp}.${of}`] : []), ...Object.entries(rest).map(named)].join(" ");
 }
 
-function nodeText(name, { told, ...node }) {
-  const values = (told?.registers ?? []).map(([register, value]) => `, ${register}=${value}`).join("");
-  const more = told ? `, records ${told.records}, gapless ${told.gapless}${values}; ` : "";
-  return `${name}: ${phaseText(node)}, mine ${node.mine}${more}${told?.knows.map(factText).join(", ") ?? ""}`;
+/** What is shown of a node, state and then facts: each text with the word that it is about. */
+function nodeParts({ told, ...node }) {
+  const state = [["phase", phaseText(node)], ["mine", `mine ${node.mine}`]];
+  if (!told) return { state, facts: [] };
+  const counts = ["records", "gapless"].map(word => [word, `${word} ${told[word]}`]);
+  const values = (told.registers ?? []).map(([register, value]) => [`register ${register}`, `${register}=${value}`]);
+  const facts = told.knows.map(fact => [fact.fact, factText(fact)]);
+  return { state: [...state, ...counts, ...values], facts };
 }

@@ -1,10 +1,10 @@
-// The page: it follows from the run and the view, and only `show` changes the view.
+// The page: it follows from the run and the view. Only `show` changes the view, and only `load` the run.
 
 const PAGE = 100, SHOWN = 40; // so many events are in the list at a time, and of a node's history
 const byId = id => document.getElementById(id);
-const run = readRun(JSON.parse(byId("run").textContent)), last = run.steps.length - 1;
-const nodesAfter = statesOf(run), broken = concerned(run, nodesAfter), ring = new Ring(byId("ring"), run);
-const timers = {};
+const isOpen = Boolean(byId("drive")), narrow = matchMedia("(max-width: 40rem)");
+const timers = {}, drawers = []; // what else draws, after a view has changed
+let run, last, nodesAfter, broken, ring;
 let view = { at: -1, chosen: {}, hasLost: true, note: "" };
 
 const outcomeAt = at => run.steps[at].event.outcome;
@@ -15,8 +15,16 @@ const firstAt = at => Math.max(Math.floor(at / PAGE) * PAGE - 1, 0); // the firs
 const sought = () => byId("sought").value.toLowerCase();
 
 const eventLink = at => html("a", { href: `#${at}` }, lineAt(at));
-const parcelItem = parcel => html("li", { class: kindOf(parcel) },
-  html("button", { type: "button", class: "parcel", "data-parcel": parcel.parcel }, fullText(parcel)));
+const parcelButton = parcel => html("button", { type: "button", class: `parcel ${kindOf(parcel)}`, "data-parcel": parcel.parcel,
+  "aria-pressed": view.chosen.parcel === parcel.parcel }, fullText(parcel));
+const parcelItem = parcel => html("li", {}, parcelButton(parcel));
+
+/** Moves a list so that one of its items is seen. */
+function reveal(list, item) {
+  if (!item) return;
+  const { top, bottom } = list.getBoundingClientRect(), box = item.getBoundingClientRect();
+  list.scrollTop += Math.min(box.top - top - 2, 0) || Math.max(box.bottom - bottom + 2, 0);
+}
 
 /** Puts these into a place; what had the focus there gets it again. */
 function fill(id, ...children) {
@@ -25,14 +33,28 @@ function fill(id, ...children) {
   Object.entries(dataset).forEach(([key, value]) => place.querySelector(`[data-${key}="${value}"]`)?.focus());
 }
 
+/** What the node of a refused event knows, if that is known. */
+function knownAt(at) {
+  const name = run.steps[at].node, { facts } = nodeParts(nodesAfter(at).get(name) ?? {});
+  return outcomeAt(at) === "refused" && facts.length ? `${name}: ${facts.map(([, text]) => text).join(", ")}. ` : "";
+}
+
+/** What a script did after a step and before the next, and is no event. */
+function laterAt(at) {
+  const lost = run.parcels.filter(it => it.lostAt === at).flatMap(it => [" then lost ", parcelButton(it)]);
+  const links = run.links.filter(it => it.at === at), cuts = links.filter(({ cut }) => cut).map(({ cut }) => cut.join(" "));
+  const cut = cuts.length > 3 ? `${cuts.length} links` : cuts.join(", ");
+  return [...lost, cut && ` then cut ${cut}`, links.some(({ heal }) => heal) ? " then healed all links" : ""];
+}
+
 function drawNow() {
-  const { at, note } = view, { event, sent } = run.steps[at] ?? {}, { index, clause, reason } = run.verdict;
-  if (!event) return fill("now", html("b", {}, "Start"), ` before the first of ${last + 1} events. ${note}`);
-  const sends = sent.length > 2 ? [`sends ${sent.length} parcels`] : sent.map(it => `sends ${fullText(it)}`);
-  const more = parcelAt(at) ? [fullText(parcelAt(at)), ...sends] : sends;
+  const { at, note } = view, later = laterAt(at), { event, sent } = run.steps[at] ?? {}, { index, clause, reason } = run.verdict;
+  if (!event) return fill("now", html("b", {}, "Start"), ` before the first of ${last + 1} events. `, ...later, note);
+  const sends = sent.length > 2 ? [` sends ${sent.length} parcels`] : sent.flatMap((it, i) => [i ? ", " : " sends ", parcelButton(it)]);
+  const more = parcelAt(at) ? [parcelButton(parcelAt(at)), ...sends] : sends, known = knownAt(at);
   const why = reason ? `: ${reason}` : "";
   const breaks = at === +index ? `This breaks the run: ${clause}, ${broken.join(" and ")}${why}. ` : "";
-  return fill("now", html("b", { class: event.outcome }, textAt(at)), ` ${more.join("; ")} ${breaks}${note}`);
+  return fill("now", html("b", { class: event.outcome }, textAt(at)), " ", ...more, ...later, ` ${known}${breaks}${note}`);
 }
 
 /** The list has the page of events around this step, and at its ends events that lead on. */
@@ -43,6 +65,19 @@ function drawRows(before) {
   if (!rows.length || first !== firstAt(before.at)) fill("rows", ...events.map((_, i) => row(first + i)));
   rows.selectedIndex = view.at - first;
   rows.scrollTop = (view.at - first - rows.size / 2) * rows.scrollHeight / rows.length;
+}
+
+/** A node, in which the parts are marked that were other before; what is known no more stays for the eye alone. */
+function nodeItem(name, node, was) {
+  const { state, facts } = nodeParts(node), before = nodeParts(was), isKnown = Boolean(was.told && node.told);
+  const old = new Map([...before.state, ...before.facts]), now = new Map([...state, ...facts]);
+  const isNew = ([word, text]) => old.get(word) !== text && (isKnown || old.has(word));
+  const part = it => isNew(it) ? html("mark", { title: `before: ${old.get(it[0]) ?? "not so"}` }, it[1]) : it[1];
+  const list = parts => parts.flatMap((it, i) => i ? [", ", part(it)] : [part(it)]);
+  const gone = isKnown ? before.facts.filter(([word]) => !now.has(word)) : [];
+  const more = node.told ? ["; ", html("span", { class: "facts" }, ...list(facts),
+    ...gone.map(([, text]) => html("del", { "data-gone": text })))] : [];
+  return html("li", { class: classes({ acts: run.steps[view.at]?.node === name }) }, html("b", {}, name), ": ", ...list(state), ...more);
 }
 
 function historyOf({ node, parcel }) {
@@ -61,32 +96,56 @@ function historyOf({ node, parcel }) {
 }
 
 function draw(before) {
-  const { at, chosen } = view, nodes = nodesAfter(at);
-  const parcels = underWay(run, at).filter(it => view.hasLost || it.deliveries.length);
+  const { at, chosen } = view, nodes = nodesAfter(at), earlier = nodesAfter(Math.max(at - 1, -1));
+  const name = nodes.size > FEW ? run.names[chosen.node] : undefined;
+  const isMeant = it => it && (view.hasLost || !it.isLost) && [it.from, it.to, undefined].includes(name);
+  const parcels = underWay(run, at).filter(isMeant), arrived = [parcelAt(at)].find(isMeant);
   const moves = at === before.at + 1 && !matchMedia("(prefers-reduced-motion: reduce)").matches;
   const lasts = moves ? Math.min(0.6, 0.7 / byId("speed").value) : 0, more = parcels.length - DRAWN;
-  const scene = { nodes, parcels, at, chosen, lasts, step: run.steps[at], arrived: parcelAt(at) };
+  const scene = { nodes, parcels, at, chosen, lasts, step: run.steps[at], arrived, cuts: cutAfter(run, at) };
   fill("ring", ...ring.draw({ ...scene, marked: at === +run.verdict.index ? broken : [] }));
+  fill("way", `Parcels under way${name === undefined ? "" : ` to or from ${name}`}`);
   fill("parcels", ...parcels.slice(0, DRAWN).map(parcelItem), more > 0 ? `and ${more} more, not drawn` : "");
-  fill("nodes", ...[...nodes].map(([name, node]) => html("li", {}, nodeText(name, node))));
+  fill("nodes", ...[...nodes].map(([name, node]) => nodeItem(name, node, earlier.get(name))));
+  reveal(byId("nodes"), byId("nodes").querySelector(".acts"));
   fill("history", ...historyOf(chosen));
   drawNow();
   drawRows(before);
+  drawers.forEach(it => it(before));
   byId("slider").value = at;
   byId("slider").setAttribute("aria-valuetext", at < 0 ? "start" : textAt(at));
 }
 
-function drawOnce() {
-  const sample = (text, kind = text, end = "arrives") => html("li", { class: kind },
-    svg("svg", { class: "arrow", viewBox: "0 -7 48 14" }, svg("path", { d: "M2 0H36" }),
-      svg("path", { d: TIPS[end], class: "tip", transform: "translate(42 0)" })), text);
-  const { verdict, index, clause } = run.verdict;
-  byId("title").textContent = document.title = `A run of ${last + 1} events, ${run.names.length} nodes`;
+function sample(text, kind, end, isWide) {
+  const line = svg("path", { d: isWide ? "M2 0H46" : "M2 0H36" });
+  const ends = isWide ? "" : svg("path", { d: TIPS[end], class: "tip", transform: "translate(42 0)" });
+  return html("li", { class: kind }, svg("svg", { class: isWide ? kind : "arrow", viewBox: "0 -7 48 14" }, line, ends), text);
+}
+
+/** What only the run changes. */
+function drawRun() {
+  const { verdict, index, clause } = run.verdict, { algorithm, tree, names } = run;
+  const size = `${last + 1} events, ${names.length} nodes`;
+  byId("title").textContent = document.title = algorithm ? `${algorithm}: ${size}` : `A run of ${size}`;
   byId("slider").max = last;
   const link = html("a", { href: `#${index}`, class: "broken" }, `broken at ${index}: ${clause} \u2717`);
   fill("verdict", "Verdict: ", clause ? link : `${verdict} \u2713`);
-  fill("legend", sample("request"), sample("grant"), sample("other"), sample("waits for", "waits", "waits"),
-    sample("delivered again", "other again"), sample("never delivered", "lost", "lost"));
+  const ofTree = [sample("tree", "tree", "", true), sample("towards the privilege", "towards", "towards")];
+  fill("legend", sample("request", "request", "arrives"), sample("grant", "grant", "arrives"),
+    sample("other", "other", "arrives"), sample("waits for", "waits", "waits"), ...(tree.length ? ofTree : []),
+    sample("delivered again", "other again", "arrives"), sample(isOpen ? "lost" : "never delivered", "lost", "lost"),
+    ...(isOpen ? [sample("cut link", "cut", "", true)] : []));
+}
+
+/** Takes the lines of a run. The view stays, so that `show` has to follow. */
+function load(lines) {
+  run = readRun(lines, isOpen);
+  last = run.steps.length - 1;
+  nodesAfter = statesOf(run);
+  broken = concerned(run, nodesAfter);
+  ring = new Ring(byId("ring"), run, narrow.matches);
+  fill("rows");
+  drawRun();
 }
 
 function show(change) {
@@ -133,7 +192,7 @@ function press({ target }) {
 
 function pressKey(event) {
   const { key, target } = event, presses = key === " " || key === "Enter", word = KEYS[key.toLowerCase()];
-  const isTyped = target.closest("input:not([type=range]), #speed") || presses && target.closest("button, a");
+  const isTyped = target.closest("input:not([type=range]), textarea, select:not(#rows)") || presses && target.closest("button, a, summary");
   if (isTyped || event.ctrlKey || event.altKey || event.metaKey) return;
   if (presses && target.dataset.node) press(event);
   else if (word) DO[word](event.shiftKey ? -1 : 1);
@@ -155,5 +214,6 @@ on("rows", "change", ({ target }) => show({ at: firstAt(view.at) + target.select
 on("lost", "change", ({ target }) => show({ hasLost: target.checked }));
 on("speed", "change", () => play(timers.play));
 on("find", "submit", event => { event.preventDefault(); DO.next(1); });
-drawOnce();
+narrow.addEventListener("change", () => { ring = new Ring(byId("ring"), run, narrow.matches); show({}); });
+load(JSON.parse(byId("run").textContent));
 showAddress();

@@ -1,0 +1,267 @@
+// Driving: each change makes a new script, the program runs all of it, and the page shows what it printed. No rule of an
+// algorithm stands here: a button is disabled only where the phase of its node, or the state of its parcel, says why.
+
+const PHASES = { ask: "idle", enter: "waiting", cancel: "waiting", read: "inside", write: "inside", leave: "inside" };
+const PARCEL = ["deliver", "again", "lose"]; // the buttons of a parcel
+const LINES = { // what a button adds to the script, of a node or of a parcel
+  __proto__: null,
+  read: name => `read ${name} ${byId("register").value}`,
+  write: name => `write ${name} ${byId("register").value} ${byId("value").value.trim()}`,
+  settle: name => `settle ${name} ${byId("upto").value.trim()}`,
+  want: name => `want ${name} ${byId("other").value}`, cut: name => `cut ${name} ${byId("other").value}`,
+  deliver: (_, parcel) => `deliver ${parcel?.parcel}`, again: (_, parcel) => `deliver ${parcel?.parcel}`,
+  lose: (_, parcel) => `lose ${parcel?.from} ${parcel?.to}`, all: () => "deliver all", heal: () => "heal",
+  partition: () => `partition ${sides(true).join(" ")} | ${sides(false).join(" ")}`,
+};
+const past = [], future = []; // scripts, for undo and redo
+let answer = JSON.parse(byId("answer").textContent), isBusy = false, edited = null, drawn = null;
+
+const sides = isOff => [...byId("sides").querySelectorAll("input")].filter(it => it.checked === isOff).map(it => it.value);
+const linesOf = script => script === "" ? [] : script.split("\n");
+const textOf = list => list.join("\n");
+const chosenNode = () => run.names[view.chosen.node];
+const chosenParcel = () => run.parcels[view.chosen.parcel];
+const lineOf = act => (LINES[act] ?? (name => `${act} ${name}`))(chosenNode(), chosenParcel());
+const tell = (text, isBroken) => fill("told", html("span", { class: isBroken ? "broken" : "" }, text));
+
+/** Why a button cannot be used now; nothing if the program is to decide. */
+function whyNot(act) {
+  const name = chosenNode(), parcel = chosenParcel();
+  if (answer.fault) return `Line ${answer.fault.line + 1} of the script is at fault: mend it first, or undo.`;
+  if (view.at < last) return "This is the past: go to the end, or choose \u201CGo on from here\u201D.";
+  if (PARCEL.includes(act) && !parcel) return "Choose a parcel first.";
+  if (act in WHY) return WHY[act](parcel);
+  const { phase } = nodesAfter(last).get(name) ?? {}, wanted = PHASES[act];
+  return phase && wanted && phase !== wanted ? `${name} is ${phase}; ${act} is for a node that is ${wanted}.` : "";
+}
+
+const isFlying = parcel => underWay(run, last).includes(parcel) && !(parcel.lostAt <= last);
+const WHY = {
+  __proto__: null,
+  deliver: it => it.deliveries.length ? "It is delivered: see \u201Cdeliver again\u201D." : "",
+  again: it => it.deliveries.length ? "" : "It is not delivered yet.",
+  lose: it => {
+    const first = underWay(run, last).findLast(other => other.from === it.from && other.to === it.to && isFlying(other));
+    if (!isFlying(it)) return "It is not under way.";
+    return first === it ? "" : `A script can lose only the oldest from ${it.from} to ${it.to}, which is #${first.parcel}.`;
+  },
+  all: () => underWay(run, last).some(isFlying) ? "" : "Nothing is under way.",
+  heal: () => cutAfter(run, last).length ? "" : "No link is cut.",
+  partition: () => sides(true).length && sides(false).length ? "" : "Tick some of the nodes, and not all.",
+};
+
+// Scripts
+
+async function ask(script, path) {
+  const options = { method: "POST", headers: { "X-Drive": "1", "Content-Type": "text/plain" }, body: script };
+  const given = await fetch(path, options).catch(() => { throw new Error("./drive does not answer; the script is still here."); });
+  if (!given.ok) throw new Error(await given.text());
+  return given.json();
+}
+
+/** Runs a script, and takes it; one with a fault only if it is to be kept. Whether it was taken. */
+async function propose(script, path = "try") {
+  if (isBusy) return false;
+  isBusy = true;
+  try {
+    const next = await ask(script, path), { fault } = next;
+    if (fault && path === "try") tell(`${linesOf(script)[fault.line]}: ${fault.text}`, true);
+    else take(next);
+    return path !== "try" || !fault;
+  } catch ({ message }) {
+    tell(message, true);
+    return false;
+  } finally {
+    isBusy = false;
+  }
+}
+
+function take(next) {
+  answer = next;
+  tell("");
+  load(next.run.map(line => JSON.parse(line)));
+  show({ at: last });
+}
+
+/** The same, for a change that `undo` can take back. */
+async function change(script, path) {
+  const before = answer.script, isTaken = await propose(script, path);
+  if (!isTaken) return false;
+  past.push(before);
+  future.length = 0;
+  drawPanel();
+  return true;
+}
+
+const add = line => change(textOf([...linesOf(answer.script), line]));
+
+/** Takes a script from one list, and puts the one that it replaces into the other. */
+async function turn(script, from, to) {
+  const before = answer.script;
+  if (!await propose(script, "keep")) return;
+  from.pop();
+  to.push(before);
+  drawPanel();
+}
+
+/** Of the text of an event its line in a script, or its outcome. */
+const partOf = (event, part) => eventText(event).split(": ")[part];
+
+/** The lines up to the step that is shown; of a line with many events, those up to there. */
+function scriptHere() {
+  const at = view.at + 1, { ends } = answer, list = linesOf(answer.script), whole = ends.filter(end => end <= at).length;
+  return textOf([...list.slice(0, whole), ...run.steps.slice(ends[whole - 1] ?? 0, at).map(({ event }) => partOf(event, 0))]);
+}
+
+// Drawing
+
+function drawButton(button) {
+  const { act } = button.dataset, why = whyNot(act), line = lineOf(act);
+  button.setAttribute("aria-disabled", Boolean(why));
+  button.setAttribute("aria-label", ["again", "all", "heal", "partition"].includes(act) ? button.textContent : line);
+  button.title = why || line;
+}
+
+function drawPanel() {
+  const name = chosenNode(), parcel = chosenParcel();
+  const state = it => it.deliveries.length ? "delivered" : it.lostAt <= last ? "lost" : "under way";
+  byId("ofNode").hidden = name === undefined;
+  byId("ofParcel").hidden = !parcel;
+  byId("past").hidden = view.at === last || Boolean(answer.fault);
+  const { fault, stuck } = answer, upTo = "is at fault, and the page shows the run before it. Mend the line, or undo.";
+  fill("stuck", fault ? `Line ${fault.line + 1} ${upTo}` : view.at === last ? stuck : "");
+  fill("wrong", fault ? `line ${fault.line + 1}: ${fault.text}` : "");
+  byId("withRegister").hidden = !byId("register").options.length;
+  fill("what", parcel ? `${fullText(parcel)}, ${state(parcel)}` : name ? `Node ${name}` : "Choose a node or a parcel");
+  document.querySelectorAll("#drive [data-act]").forEach(drawButton);
+  document.querySelector("[data-do=undo]").disabled = !past.length && !answer.script;
+  document.querySelector("[data-do=redo]").disabled = !future.length;
+}
+
+/** What a line did: the outcome of its last event, and how many events it has. */
+function outcomeOf(i) {
+  const begin = answer.ends[i - 1] ?? 0, end = answer.ends[i], { event } = run.steps[end - 1] ?? {};
+  if (!(end > begin)) return {};
+  const text = partOf(event, 1);
+  return { text: end - begin > 1 ? `${end - begin} events` : text === "delivered" ? "" : text, outcome: event.outcome };
+}
+
+function lineItem(text, i) {
+  const { ends, fault } = answer, isFault = i === fault?.line, isDone = i < ends.length;
+  const { text: told = "", outcome = "" } = isDone ? outcomeOf(i) : {};
+  const kinds = { comment: /^\s*(#|$)/.test(text), undone: !isDone && !isFault, broken: isFault, [outcome]: outcome };
+  return html("li", { class: classes(kinds) }, html("button", { type: "button", "data-line": i }, text || "\u00A0"),
+    html("span", { class: "faint" }, told), isFault ? html("span", { class: "fault" }, `line ${i + 1}: ${fault.text}`) : "");
+}
+
+/** The lines change with the script alone, and with the step only which of them is current. */
+function drawScript() {
+  const list = linesOf(answer.script), { ends } = answer, place = byId("script");
+  const current = view.at === last ? Math.min(ends.length, list.length) - 1 : ends.findIndex(end => end > view.at);
+  if (drawn !== answer) fill("script", ...list.map(lineItem));
+  if (!list.length) fill("script", html("li", { class: "faint" }, "Empty so far: choose a node, and let it ask."));
+  drawn = answer;
+  place.querySelector("[aria-current]")?.removeAttribute("aria-current");
+  if (list.length) place.children[current]?.setAttribute("aria-current", "step");
+  reveal(place, place.querySelector(".fault, [aria-current]"));
+}
+
+/** Lost parcels are below those under way: they may still be delivered. */
+function drawLost() {
+  const gone = lostBy(run, view.at).filter(it => it.lostAt < view.at || !underWay(run, view.at).includes(it));
+  if (gone.length) byId("parcels").append(...gone.map(it => html("li", { class: "lostParcels faint" }, parcelButton(it))));
+}
+
+function drawChoices() {
+  const registers = nodeParts(nodesAfter(last).values().next().value).state.map(([word]) => word)
+    .filter(word => word.startsWith("register ")).map(word => word.slice(9));
+  fill("register", ...registers.map(it => html("option", {}, it)));
+  fill("sides", ...run.names.map(it => html("label", {}, html("input", { type: "checkbox", value: it }), it)));
+}
+
+function drawOthers() {
+  const name = chosenNode(), was = byId("other").value, names = run.names.filter(it => it !== name);
+  if (textOf([...byId("other").options].map(it => it.value)) === textOf(names)) return;
+  fill("other", ...names.map(it => html("option", {}, it)));
+  if (names.includes(was)) byId("other").value = was;
+}
+
+// What buttons and keys do
+
+function use(button) {
+  const { act, line } = button.dataset;
+  if (line !== undefined) return show({ at: clamp((answer.ends[line] ?? last + 1) - 1, -1, last) });
+  const why = whyNot(act);
+  return why ? tell(why, true) : add(lineOf(act));
+}
+
+function tap(act) {
+  const button = document.querySelector(`#drive [data-act=${act}]`), isShown = button.checkVisibility();
+  if (isShown) use(button);
+  else tell(`Choose a ${button.closest("#ofParcel") ? "parcel" : "node"} first.`, true);
+}
+
+function chooseParcel(way) {
+  const flying = underWay(run, view.at).filter(it => !it.isLost).reverse(), i = flying.indexOf(chosenParcel());
+  const next = flying.at(i < 0 ? (way > 0 ? 0 : -1) : (i + way) % flying.length);
+  show(next ? { chosen: { parcel: next.parcel } } : { note: "No parcel is under way." });
+}
+
+function save() {
+  const link = html("a", { href: URL.createObjectURL(new Blob([`${answer.script}\n`], { type: "text/plain" })), download: "script.txt" });
+  link.click();
+  setTimeout(() => URL.revokeObjectURL(link.href), 1000);
+}
+
+function edit() {
+  if (edited === null) byId("draft").value = edited = answer.script;
+  byId("text").hidden = false;
+  byId("draft").focus();
+}
+
+function close() {
+  if (byId("draft").value === edited) edited = null; // else the draft stays for the next time
+  byId("text").hidden = true;
+}
+
+async function runDraft(event) {
+  event.preventDefault();
+  const draft = byId("draft"), script = draft.value.replace(/\n+$/, "");
+  if (!await change(script, "keep")) return;
+  edited = answer.fault ? draft.value : null;
+  byId("text").hidden = !answer.fault;
+  if (answer.fault) choose(draft, script, answer.fault.line);
+}
+
+/** Selects a line in the text that has it. */
+function choose(draft, script, line) {
+  const before = textOf(linesOf(script).slice(0, line)).length + Math.min(line, 1);
+  draft.focus();
+  draft.setSelectionRange(before, before + linesOf(script)[line].length);
+}
+
+Object.assign(DO, {
+  undo: way => way < 0 ? DO.redo() : turn(past.at(-1) ?? textOf(linesOf(answer.script).slice(0, -1)), past, future),
+  redo: () => future.length ? turn(future.at(-1), future, past) : undefined,
+  branch: () => change(scriptHere()), edit, close, save, parcel: chooseParcel, deliver: way => tap(way < 0 ? "all" : "deliver"),
+});
+for (const act of ["ask", "enter", "leave", "cancel", "tick", "lose", "again"]) DO[act] = () => tap(act);
+for (let i = 1; i <= 9; i++) DO[`node${i}`] = () => i <= run.names.length && show({ chosen: { node: i - 1 } });
+Object.assign(KEYS, { a: "ask", e: "enter", l: "leave", c: "cancel", t: "tick", d: "deliver", x: "lose", g: "again", u: "undo",
+  p: "parcel" }, Object.fromEntries([1, 2, 3, 4, 5, 6, 7, 8, 9].map(i => [i, `node${i}`])));
+
+document.addEventListener("click", ({ target }) => {
+  const button = target.closest("[data-act], [data-line]");
+  if (button) use(button);
+});
+on("drive", "input", drawPanel);
+on("text", "submit", runDraft);
+on("draft", "keydown", event => { if (event.key === "Enter" && event.ctrlKey) runDraft(event); });
+on("add", "submit", async event => {
+  event.preventDefault();
+  const line = byId("line").value.trim();
+  if (line && await add(line)) byId("line").value = "";
+});
+drawers.push(drawOthers, drawPanel, drawScript, drawLost);
+drawChoices();
+show({ at: last });
