@@ -26,10 +26,7 @@ class Browser:
         os.close(theirs)
         os.close(answers)
         self.answers, self.calls, self.session, self.events = os.fdopen(self.of, "rb"), 0, None, []
-        target = self.call("Target.createTarget", url="about:blank")["targetId"]
-        self.session = self.call("Target.attachToTarget", targetId=target, flatten=True)["sessionId"]
-        for domain in ("Page", "Runtime", "Log"):
-            self.call(f"{domain}.enable")
+        self.tab()
 
     def __enter__(self):
         return self
@@ -60,6 +57,15 @@ class Browser:
             raise RuntimeError(f"{method}: {told['error']}")
         return told["result"]
 
+    def tab(self):
+        """Opens a tab, to which all calls go from then on, and returns the one before."""
+        before, self.session = self.session, None
+        target = self.call("Target.createTarget", url="about:blank")["targetId"]
+        self.session = self.call("Target.attachToTarget", targetId=target, flatten=True)["sessionId"]
+        for domain in ("Page", "Runtime", "Log"):
+            self.call(f"{domain}.enable")
+        return before
+
     def faults(self):
         """What went wrong in the page so far."""
         kinds = ("Runtime.exceptionThrown", "Log.entryAdded")
@@ -89,11 +95,16 @@ class Browser:
                 raise RuntimeError(f"never so: {expression}")
             time.sleep(0.02)
 
-    def click(self, query):
-        """With the mouse, in the middle of the first element of this query that can be seen there."""
+    def point(self, query):
+        """Moves the mouse to the middle of the first element of this query, and returns where that is."""
         x, y = self.value(f"""(() => {{ const found = document.querySelector({json.dumps(query)});
             found.scrollIntoView({{ block: "nearest" }}); const box = found.getBoundingClientRect();
             return [box.x + box.width / 2, box.y + box.height / 2] }})()""")
+        self.call("Input.dispatchMouseEvent", type="mouseMoved", x=x, y=y)
+        return x, y
+
+    def click(self, query):
+        x, y = self.point(query)
         for kind in ("mousePressed", "mouseReleased"):
             self.call("Input.dispatchMouseEvent", type=kind, x=x, y=y, button="left", clickCount=1)
 

@@ -1,5 +1,5 @@
 // Driving: each change makes a new script, the program runs all of it, and the page shows what it printed. No rule of an
-// algorithm stands here: a button is disabled only where the phase of its node, or the state of its parcel, says why.
+// algorithm is here: a button is disabled only if the phase of its node, or the state of its parcel, says why.
 
 const PHASES = { ask: "idle", enter: "waiting", cancel: "waiting", read: "inside", write: "inside", leave: "inside" };
 const PARCEL = ["deliver", "again", "lose"]; // the buttons of a parcel
@@ -11,9 +11,10 @@ const LINES = { // what a button adds to the script, of a node or of a parcel
   want: name => `want ${name} ${byId("other").value}`, cut: name => `cut ${name} ${byId("other").value}`,
   deliver: (_, parcel) => `deliver ${parcel?.parcel}`, again: (_, parcel) => `deliver ${parcel?.parcel}`,
   lose: (_, parcel) => `lose ${parcel?.from} ${parcel?.to}`, all: () => "deliver all", heal: () => "heal",
+  crash: name => `cut ${name}`, expect: () => `expect ${lastEvent() ? partOf(lastEvent(), 1) : ""}`,
   partition: () => `partition ${sides(true).join(" ")} | ${sides(false).join(" ")}`,
 };
-const past = [], future = []; // scripts, for undo and redo
+const tabs = new BroadcastChannel("drive"); // the other tabs of this browser
 let answer = JSON.parse(byId("answer").textContent), isBusy = false, edited = null, drawn = null;
 
 const sides = isOff => [...byId("sides").querySelectorAll("input")].filter(it => it.checked === isOff).map(it => it.value);
@@ -21,6 +22,7 @@ const linesOf = script => script === "" ? [] : script.split("\n");
 const textOf = list => list.join("\n");
 const chosenNode = () => run.names[view.chosen.node];
 const chosenParcel = () => run.parcels[view.chosen.parcel];
+const lastEvent = () => run.steps.findLast(({ event }) => event)?.event;
 const lineOf = act => (LINES[act] ?? (name => `${act} ${name}`))(chosenNode(), chosenParcel());
 const tell = (text, isBroken) => fill("told", html("span", { class: isBroken ? "broken" : "" }, text));
 
@@ -35,7 +37,7 @@ function whyNot(act) {
   return phase && wanted && phase !== wanted ? `${name} is ${phase}; ${act} is for a node that is ${wanted}.` : "";
 }
 
-const isFlying = parcel => underWay(run, last).includes(parcel) && !(parcel.lostAt <= last);
+const isFlying = parcel => underWay(run, last).includes(parcel) && !isLost(parcel, last);
 const WHY = {
   __proto__: null,
   deliver: it => it.deliveries.length ? "It is delivered: see \u201Cdeliver again\u201D." : "",
@@ -47,33 +49,40 @@ const WHY = {
   },
   all: () => underWay(run, last).some(isFlying) ? "" : "Nothing is under way.",
   heal: () => cutAfter(run, last).length ? "" : "No link is cut.",
+  expect: () => lastEvent() ? "" : "Nothing has happened yet.",
   partition: () => sides(true).length && sides(false).length ? "" : "Tick some of the nodes, and not all.",
 };
 
 // Scripts
 
-async function ask(script, path) {
-  const options = { method: "POST", headers: { "X-Drive": "1", "Content-Type": "text/plain" }, body: script };
-  const given = await fetch(path, options).catch(() => { throw new Error("./drive does not answer; the script is still here."); });
-  if (!given.ok) throw new Error(await given.text());
-  return given.json();
-}
-
-/** Runs a script, and takes it; one with a fault only if it is to be kept. Whether it was taken. */
-async function propose(script, path = "try") {
+/** Asks for a change, and takes what comes of it; of `try`, only if no line is at fault. Whether it was taken. */
+async function change(path, script = "") {
   if (isBusy) return false;
   isBusy = true;
   try {
-    const next = await ask(script, path), { fault } = next;
-    if (fault && path === "try") tell(`${linesOf(script)[fault.line]}: ${fault.text}`, true);
-    else take(next);
-    return path !== "try" || !fault;
+    return settle(path, script, await ask(path, script));
   } catch ({ message }) {
     tell(message, true);
     return false;
   } finally {
     isBusy = false;
   }
+}
+
+async function ask(path, script) {
+  const options = { method: "POST", headers: { "X-Drive": answer.version, "Content-Type": "text/plain" }, body: script };
+  const given = await fetch(path, options).catch(() => { throw new Error("./drive does not answer; the script is still here."); });
+  if (!given.ok) throw new Error(await given.text());
+  return given.json();
+}
+
+function settle(path, script, next) {
+  const { fault, isOld } = next, isRefused = path === "try" && fault && !isOld;
+  if (isRefused) tell(`${linesOf(script)[fault.line]}: ${fault.text}`, true);
+  else take(next);
+  if (isOld) tell("Another tab has changed the script. This is it now; nothing else was done.", true);
+  else if (!isRefused) tabs.postMessage(next.version);
+  return !isOld && !isRefused;
 }
 
 function take(next) {
@@ -83,33 +92,14 @@ function take(next) {
   show({ at: last });
 }
 
-/** The same, for a change that `undo` can take back. */
-async function change(script, path) {
-  const before = answer.script, isTaken = await propose(script, path);
-  if (!isTaken) return false;
-  past.push(before);
-  future.length = 0;
-  drawPanel();
-  return true;
-}
-
-const add = line => change(textOf([...linesOf(answer.script), line]));
-
-/** Takes a script from one list, and puts the one that it replaces into the other. */
-async function turn(script, from, to) {
-  const before = answer.script;
-  if (!await propose(script, "keep")) return;
-  from.pop();
-  to.push(before);
-  drawPanel();
-}
+const add = line => change("try", textOf([...linesOf(answer.script), line]));
 
 /** Of the text of an event its line in a script, or its outcome. */
 const partOf = (event, part) => eventText(event).split(": ")[part];
 
 /** The lines up to the step that is shown; of a line with many events, those up to there. */
 function scriptHere() {
-  const at = view.at + 1, { ends } = answer, list = linesOf(answer.script), whole = ends.filter(end => end <= at).length;
+  const at = view.at + 1, { ends, script } = answer, list = linesOf(script), whole = ends.filter(end => end <= at).length;
   return textOf([...list.slice(0, whole), ...run.steps.slice(ends[whole - 1] ?? 0, at).map(({ event }) => partOf(event, 0))]);
 }
 
@@ -118,13 +108,13 @@ function scriptHere() {
 function drawButton(button) {
   const { act } = button.dataset, why = whyNot(act), line = lineOf(act);
   button.setAttribute("aria-disabled", Boolean(why));
-  button.setAttribute("aria-label", ["again", "all", "heal", "partition"].includes(act) ? button.textContent : line);
+  button.setAttribute("aria-label", ["again", "all", "heal", "partition", "crash"].includes(act) ? button.textContent : line);
   button.title = why || line;
 }
 
 function drawPanel() {
   const name = chosenNode(), parcel = chosenParcel();
-  const state = it => it.deliveries.length ? "delivered" : it.lostAt <= last ? "lost" : "under way";
+  const state = it => it.deliveries.length ? "delivered" : isLost(it, last) ? "lost" : "under way";
   byId("ofNode").hidden = name === undefined;
   byId("ofParcel").hidden = !parcel;
   byId("past").hidden = view.at === last || Boolean(answer.fault);
@@ -134,16 +124,17 @@ function drawPanel() {
   byId("withRegister").hidden = !byId("register").options.length;
   fill("what", parcel ? `${fullText(parcel)}, ${state(parcel)}` : name ? `Node ${name}` : "Choose a node or a parcel");
   document.querySelectorAll("#drive [data-act]").forEach(drawButton);
-  document.querySelector("[data-do=undo]").disabled = !past.length && !answer.script;
-  document.querySelector("[data-do=redo]").disabled = !future.length;
+  document.querySelector("[data-do=undo]").disabled = !answer.canUndo;
+  document.querySelector("[data-do=redo]").disabled = !answer.canRedo;
 }
 
-/** What a line did: the outcome of its last event, and how many events it has. */
+/** What a line did: the outcome of its last event, and how many events it has; or what it lost. */
 function outcomeOf(i) {
-  const begin = answer.ends[i - 1] ?? 0, end = answer.ends[i], { event } = run.steps[end - 1] ?? {};
-  if (!(end > begin)) return {};
+  const start = answer.ends[i - 1] ?? 0, end = answer.ends[i], { event } = run.steps[end - 1] ?? {};
+  if (!(end > start)) return {};
+  if (!event) return { text: run.steps[end - 1].changes.flatMap(({ lost }) => lost ? [`#${lost}`] : []).join(" ") };
   const text = partOf(event, 1);
-  return { text: end - begin > 1 ? `${end - begin} events` : text === "delivered" ? "" : text, outcome: event.outcome };
+  return { text: end - start > 1 ? `${end - start} events` : text === "delivered" ? "" : text, outcome: event.outcome };
 }
 
 function lineItem(text, i) {
@@ -168,7 +159,7 @@ function drawScript() {
 
 /** Lost parcels are below those under way: they may still be delivered. */
 function drawLost() {
-  const gone = lostBy(run, view.at).filter(it => it.lostAt < view.at || !underWay(run, view.at).includes(it));
+  const gone = lostBefore(run, view.at);
   if (gone.length) byId("parcels").append(...gone.map(it => html("li", { class: "lostParcels faint" }, parcelButton(it))));
 }
 
@@ -202,9 +193,15 @@ function tap(act) {
 }
 
 function chooseParcel(way) {
-  const flying = underWay(run, view.at).filter(it => !it.isLost).reverse(), i = flying.indexOf(chosenParcel());
+  const flying = underWay(run, view.at).filter(it => !isLost(it, view.at)).reverse(), i = flying.indexOf(chosenParcel());
   const next = flying.at(i < 0 ? (way > 0 ? 0 : -1) : (i + way) % flying.length);
   show(next ? { chosen: { parcel: next.parcel } } : { note: "No parcel is under way." });
+}
+
+/** The script and the plan, as docs/lessons has them. */
+function saveLesson() {
+  save();
+  byId("plan").click();
 }
 
 function save() {
@@ -227,7 +224,7 @@ function close() {
 async function runDraft(event) {
   event.preventDefault();
   const draft = byId("draft"), script = draft.value.replace(/\n+$/, "");
-  if (!await change(script, "keep")) return;
+  if (!await change("keep", script)) return;
   edited = answer.fault ? draft.value : null;
   byId("text").hidden = !answer.fault;
   if (answer.fault) choose(draft, script, answer.fault.line);
@@ -241,9 +238,9 @@ function choose(draft, script, line) {
 }
 
 Object.assign(DO, {
-  undo: way => way < 0 ? DO.redo() : turn(past.at(-1) ?? textOf(linesOf(answer.script).slice(0, -1)), past, future),
-  redo: () => future.length ? turn(future.at(-1), future, past) : undefined,
-  branch: () => change(scriptHere()), edit, close, save, parcel: chooseParcel, deliver: way => tap(way < 0 ? "all" : "deliver"),
+  undo: way => way < 0 ? DO.redo() : answer.canUndo && change("undo"), redo: () => answer.canRedo && change("redo"),
+  branch: () => change("try", scriptHere()), edit, close, save, lesson: saveLesson,
+  parcel: chooseParcel, deliver: way => tap(way < 0 ? "all" : "deliver"),
 });
 for (const act of ["ask", "enter", "leave", "cancel", "tick", "lose", "again"]) DO[act] = () => tap(act);
 for (let i = 1; i <= 9; i++) DO[`node${i}`] = () => i <= run.names.length && show({ chosen: { node: i - 1 } });
@@ -262,6 +259,7 @@ on("add", "submit", async event => {
   const line = byId("line").value.trim();
   if (line && await add(line)) byId("line").value = "";
 });
+tabs.onmessage = ({ data }) => data !== answer.version && change("now");
 drawers.push(drawOthers, drawPanel, drawScript, drawLost);
 drawChoices();
 show({ at: last });

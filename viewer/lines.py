@@ -1,10 +1,12 @@
-"""Reads what `mx replay --json` or `mx judge --json` prints, and makes the page of it: for ./page and ./drive.
+"""Reads what `mx replay --json` or `mx judge --json` prints, and makes the page of it: for ./page, ./drive and ./shiviz.
 
-Beyond what these print, a run may have `{"lost":K}`, `{"cut":[N]}`, `{"cut":[N,M]}` and `{"heal":true}` behind an event:
-what a script did before the next one. ./drive adds them."""
+Beyond what these print, a run may have `{"lost":K}`, `{"cut":[N]}`, `{"cut":[N,M]}` and `{"heal":true}` after an event: what
+a script did before the next one. Those of one line of a script have its number as `line`. ./drive adds them."""
 import json
 import os
 import re
+
+from command import Fault
 
 VIEWER = os.path.dirname(os.path.realpath(__file__))
 KINDS = {  # the member that tells the kind of a line, and what else such a line needs
@@ -13,54 +15,72 @@ KINDS = {  # the member that tells the kind of a line, and what else such a line
 }
 COUNTERS = {"act": "event", "kind": "parcel"}
 TEXTS = """act node register from to outcome cause kind of phase fact verdict clause reason event parcel index number
-    value writes count upto stamp top grant last hop mine records gapless lost""".split()
+    value writes count upto stamp top grant last hop mine records gapless lost line""".split()
 LISTS = ["ranges", "numbers", "knows", "values", "cut"]
 TYPES = {**dict.fromkeys(TEXTS, str), **dict.fromkeys(LISTS, list), "registers": dict, "heal": bool}
-PARTS = ["connect", "drive_style", "drive_panel", "drive_lines", "drive_script"]  # only the page of ./drive has these
-
-
-class Fault(Exception):
-    """Why the input is not what `mx replay --json` or `mx judge --json` prints."""
+PARTS = ["connect", "open", "drive_style", "drive_panel", "drive_lines", "drive_script"]  # which only ./drive fills
 
 
 def members(line, needed=()):
     """The members of an object that the page shows."""
     if type(line) is not dict:
         raise Fault("no object of a run")
-    for key in needed:
+    for key in [*needed, *(["of"] if "stamp" in line else [])]:
         if key not in line:
             raise Fault(f"{key} is missing")
     return {key: member(key, line[key]) for key in line if key in TYPES}
 
 
 def member(key, value):
-    if type(value) is not TYPES[key]:
+    if type(value) is not TYPES[key] or not has_form(key, value):
         raise Fault(f"{key} is wrong")
-    if key == "cut" and not (value and all(type(name) is str for name in value)):
-        raise Fault("cut is wrong")
+    if value == "":
+        raise Fault(f"{key} is empty")
     if key in ("knows", "values"):
         return [members(item, ["fact", "values"] if key == "knows" else ()) for item in value]
     return list(value.items()) if key == "registers" else value  # a browser would put a name like 7 first
 
 
+def has_form(key, value):
+    """Whether the items of a list of numbers or names, or of pairs of numbers, are what they should be."""
+    if key == "ranges":
+        return all(type(item) is list and len(item) == 2 and has_form("numbers", item) for item in value)
+    return key not in ("numbers", "cut") or all(type(item) is str for item in value) and (key != "cut" or 0 < len(value) < 3)
+
+
+def refused(number):
+    raise Fault(f"{number} is no number of a run")
+
+
 def read(text, counts):
     """A line of a run, after so many of each kind. Its numbers are texts: those of a browser hold 53 bits."""
-    line = json.loads(text, parse_int=str)
+    line = json.loads(text, parse_int=str, parse_float=refused, parse_constant=refused)
     kind = next((key for key in KINDS if type(line) is dict and key in line), "verdict")
     if counts["clause"] or counts["verdict"]:
         raise Fault("it follows the verdict")
     line, counter = members(line, [kind, *KINDS[kind]]), COUNTERS.get(kind)
     if line.get(counter, str(counts[kind])) != str(counts[kind]):
         raise Fault(f"{counter} {counts[kind]} is missing: a page shows a whole run")
-    if kind == "verdict" and line["verdict"] != "sound":
-        raise Fault("clause is missing")
-    events = range(counts["act"])
-    if kind == "lost" and line["lost"] not in map(str, range(counts["kind"])):
-        raise Fault("its parcel is missing")
-    if kind == "kind" and not events or kind == "clause" and line["index"] not in map(str, events):
-        raise Fault("its event is missing")
+    check(kind, line, counts)
     counts[kind] += 1
     return line
+
+
+def is_below(text, count):
+    """Whether a text is one of the first so many numbers, as JSON writes them."""
+    return text.isdecimal() and str(int(text)) == text and int(text) < count
+
+
+def check(kind, line, counts):
+    """Refuses a line that names what is not there."""
+    if kind == "verdict" and line["verdict"] != "sound":
+        raise Fault("clause is missing")
+    if kind == "act" and not {"node", "parcel"} & set(line):
+        raise Fault("node is missing")
+    if kind == "lost" and not is_below(line["lost"], counts["kind"]):
+        raise Fault("its parcel is missing")
+    if kind == "kind" and not counts["act"] or kind == "clause" and not is_below(line["index"], counts["act"]):
+        raise Fault("its event is missing")
 
 
 def lines_of(source):
@@ -69,10 +89,12 @@ def lines_of(source):
     try:
         for at, text in enumerate(source, 1):
             yield json.dumps(read(text, counts), separators=(",", ":"))
-    except (Fault, ValueError, RecursionError) as fault:
-        raise Fault(f"line {at}: {fault if type(fault) is Fault else 'not JSON'}")
+    except Fault as fault:
+        raise Fault(f"line {at}: {fault}")
+    except (ValueError, RecursionError):
+        raise Fault(f"line {at}: not JSON, as `mx replay --json` and `mx judge --json` print it")
     if not counts["verdict"] and not counts["clause"]:
-        raise Fault(f"line {at + 1}: the verdict is missing")
+        raise Fault(f"line {at + 1}: the verdict is missing; if mx has printed a message, look at that first")
 
 
 def content(name):
@@ -83,7 +105,7 @@ def content(name):
 def page_of(lines, **parts):
     """The page of these lines, as bytes, with these parts beside those of the folder viewer."""
     parts = {**dict.fromkeys(PARTS, ""), **parts, "run": shielded("[\n" + ",\n".join(lines) + "\n]")}
-    text = re.sub("@(.+)@", lambda part: parts[part[1]] if part[1] in parts else content(part[1]), content("page.html"))
+    text = re.sub("@(.+?)@", lambda part: parts[part[1]] if part[1] in parts else content(part[1]), content("page.html"))
     return text.encode()
 
 

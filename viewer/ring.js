@@ -1,7 +1,6 @@
-// The nodes in a ring and the parcels under way between them, as SVG. Names are only ever set as texts.
+// The nodes and the parcels under way between them, as SVG. Names are only ever set as texts.
 
 const DRAWN = 48; // so many arrows at most
-const FEW = 7; // of more nodes, a chosen one hides the parcels of others
 const PARTS = [0.5, 0.42, 0.58, 0.34, 0.66, 0.26, 0.74]; // of an arrow, where the middle of its label may be
 const WIDTH = 6.7, CELL = 6; // of a character of a label; of the cells by which labels keep clear of all else
 const TIPS = { arrives: "M-12 -5.5L0 0L-12 5.5Z", lost: "M-7 -6L5 6M-7 6L5 -6", waits: "M-7 -4H1V4H-7Z",
@@ -72,32 +71,27 @@ function tip(kind, [, turn, head]) {
 
 class Ring {
   constructor(element, { names, steps, parcels, tree }, isNarrow) {
-    const most = steps.findLast(({ event }) => event.outcome === "entered")?.event.number ?? 0, high = 46;
+    const most = steps.findLast(({ event }) => event?.outcome === "entered")?.event.number ?? 0, high = 46;
     const wide = 26 + 7.6 * Math.max(8, `inside ${most}`.length, ...names.map(name => name.length));
-    const count = names.length, circle = 2 * Math.PI, start = count === 2 ? Math.PI : Math.PI / 2;
-    const radius = (least, size) => count > 1 ? Math.max(least, count * size / circle) : 0;
-    const isSlim = isNarrow && count <= FEW;
-    const across = isSlim ? radius(125, 0) : radius(240, wide + 20), down = radius(150, high + 18);
-    const place = angle => ({ x: across * Math.cos(angle), y: down * Math.sin(angle), wide, high });
-    const margin = parcels.some(({ from, to }) => from === to) ? isSlim ? 40 : 66 : 10;
-    this.element = element;
-    this.places = new Map(names.map((name, i) => [name, place(circle * i / count - start)]));
-    this.tree = tree;
+    const { across, down, places } = placesOf(names, tree, { wide, high }, isNarrow);
+    const margin = parcels.some(({ from, to }) => from === to) ? isNarrow ? 40 : 66 : 10;
     const right = across + wide / 2 + margin, bottom = down + high / 2 + margin;
+    Object.assign(this, { element, places, tree });
     element.setAttribute("viewBox", [-right, -bottom, 2 * right, 2 * bottom].join(" "));
   }
 
   /** What is drawn of a scene; of too many arrows, those that the scene is about. */
-  draw({ nodes, parcels, cuts, ...scene }) {
+  draw({ nodes, parcels, cuts, hasWaits, ...scene }) {
     const { chosen, arrived } = scene, isChosen = parcel => parcel.parcel === chosen.parcel;
     const drawn = unique([arrived, ...parcels.filter(isChosen), ...parcels]).slice(0, DRAWN);
     this.lines = []; // places on straight lines, which labels rather leave free
-    const waits = [...nodes].flatMap((entry, i) => i === (chosen.node ?? i) ? this.waits(...entry) : []);
+    const waits = [...nodes].flatMap((entry, i) => hasWaits && i === (chosen.node ?? i) ? this.waits(...entry) : []);
     const shapes = [...nodes].map((entry, i) => this.node(i, ...entry, scene));
     const pointers = [...nodes].flatMap(([name, node]) => towards(node.told).map(other => this.pointer(name, other)));
     const edges = this.tree.map(pair => this.line("tree", pair, `${pair.join(" and ")} are neighbours in the tree`));
     const links = cuts.map(pair => this.line("cut", pair, `the link between ${pair.join(" and ")} is cut`));
-    return [...edges, ...links, ...waits, ...pointers, ...this.arrows(drawn, scene), ...shapes];
+    const [arrows, labels] = this.arrows(drawn, scene);
+    return [...edges, ...links, ...waits, ...pointers, ...arrows, ...shapes, ...labels];
   }
 
   /** A straight line between two nodes; nothing where one is not known, or both are the same. */
@@ -107,7 +101,7 @@ class Ring {
     return svg("g", { class: kind }, svg("title", {}, title), svg("path", { d: `M${xy(edge(a, b))}L${xy(edge(b, a))}` }));
   }
 
-  /** The begin of the way from a node to a neighbour, which leads to the privilege. */
+  /** The start of the way from a node to a neighbour, which leads to the privilege. */
   pointer(name, other) {
     const a = this.places.get(name), b = this.places.get(other);
     if (!a || !b || a === b) return "";
@@ -140,7 +134,7 @@ class Ring {
     });
   }
 
-  /** All arrows, and above them their labels. */
+  /** All arrows, and their labels. */
   arrows(parcels, scene) {
     const lanes = new Map(), ways = parcels.map(({ from, to }) => {
       const pair = [from, to].sort().join(), lane = lanes.get(pair) ?? 0;
@@ -148,20 +142,20 @@ class Ring {
       return bow(this.places.get(from), this.places.get(to), lane);
     });
     const curves = ways.map(points => cellsNear(dots(points, 48), 1)), straight = cellsNear(this.lines, 1);
-    const counts = new Map(), texts = new Set(), labels = [];
+    const counts = new Map(), texts = new Set();
     curves.forEach(cells => cells.forEach(cell => counts.set(cell, (counts.get(cell) ?? 0) + 1)));
-    parcels.forEach((parcel, i) => {
+    const labels = parcels.map((parcel, i) => {
       const isArrow = cell => counts.get(cell) > (curves[i].has(cell) ? 1 : 0);
       const label = this.label(parcel, ways[i], texts, isArrow, cell => straight.has(cell));
-      if (label) cellsNear(label.dots, 2).forEach(cell => texts.add(cell));
-      if (label) labels.push(this.text({ ...label, parcel }, scene));
+      cellsNear(label.dots, 2).forEach(cell => texts.add(cell));
+      return this.text(label, parcel, scene);
     });
-    return [...parcels.map((parcel, i) => this.arrow(parcel, ways[i], scene)).reverse(), ...labels];
+    return [parcels.map((parcel, i) => this.arrow(parcel, ways[i], scene)).reverse(), labels];
   }
 
   kinds(parcel, { at, arrived, chosen }) {
     const here = parcel === arrived;
-    return { [kindOf(parcel)]: true, chosen: chosen.parcel === parcel.parcel, new: here || parcel.sentAt === at,
+    return { [kindOf(parcel, at)]: true, chosen: chosen.parcel === parcel.parcel, new: here || parcel.sentAt === at,
       again: here && parcel.deliveries[0] < at };
   }
 
@@ -169,26 +163,29 @@ class Ring {
     const d = pathOf(points), here = parcel === scene.arrived;
     return svg("g", { class: classes({ arrow: true, ...this.kinds(parcel, scene) }), "data-parcel": parcel.parcel },
       svg("title", {}, fullText(parcel)), svg("path", { d, class: "wide" }), svg("path", { d }),
-      tip(parcel.isLost ? "lost" : "arrives", points), here ? this.dot(points, scene.lasts) : "");
+      tip(isLost(parcel, scene.at) ? "lost" : "arrives", points), here ? this.dot(points, scene.lasts) : "");
   }
 
-  text({ x, y, angle, text, parcel }, scene) {
-    const place = `translate(${xy({ x, y })}) rotate(${angle.toFixed(1)})`;
-    return svg("g", { class: classes({ label: true, ...this.kinds(parcel, scene) }), "data-parcel": parcel.parcel },
-      svg("text", { transform: place, y: 4 }, text));
+  /** The text of an arrow. One that has no room is shown as long as its parcel is chosen, or below the pointer. */
+  text({ x, y, angle, text }, parcel, scene) {
+    const place = { transform: `translate(${xy({ x, y })}) rotate(${angle.toFixed(1)})`, y: 4 }, whole = labelText(parcel);
+    const kinds = { label: true, brief: text !== whole, ...this.kinds(parcel, scene) };
+    return svg("g", { class: classes(kinds), "data-parcel": parcel.parcel }, svg("text", place, text),
+      kinds.brief ? svg("text", { ...place, class: "whole" }, whole) : "");
   }
 
   /** A text along its arrow, clear of nodes and other labels, and if that goes of other arrows and lines; the number
     * alone, or none, if there is no room. */
   label(parcel, points, texts, isArrow, isLine) {
-    const full = this.spots(`#${parcel.parcel} ${parcelText(parcel)}`, points), short = this.spots(`#${parcel.parcel}`, points);
+    const full = this.spots(labelText(parcel), points), short = this.spots(`#${parcel.parcel}`, points);
     const isNode = dot => [...this.places.values()].some(it => covers(it, dot, 9));
     const apart = (...hits) => ({ dots }) => !dots.some(dot => {
       const cell = cellAt(dot.x, dot.y);
       return texts.has(cell) || hits.some(isHit => isHit(cell)) || isNode(dot);
     });
     const ways = [apart(isArrow, isLine), apart(isArrow)];
-    return [full, short].flatMap(spots => ways.map(way => spots.find(way))).find(Boolean) ?? short.find(apart());
+    const found = [full, short].flatMap(spots => ways.map(way => spots.find(way))).find(Boolean) ?? short.find(apart());
+    return found ?? { ...short[0], text: "", dots: [] };
   }
 
   /** Where a text may be along an arrow: beside it, first on the side to which the arrow is bowed. */

@@ -14,21 +14,36 @@ const EFFECTS = { // of an outcome, on the node of its event
 
 const unique = items => [...new Set(items)].filter(item => item !== undefined);
 
-/** Each step has an event, its node, the parcels that it sent, and the lines of nodes after it. An open run may go on. */
+/** Each step has an event, or changes that a script made without one; its node, the parcels that it sent, the lines of nodes
+  * after it, and a place, which its address names: the number of an event. An open run may go on. */
 function readRun(lines, isOpen) {
-  const run = { steps: [], parcels: [], told: [], links: [], verdict: lines.at(-1) };
-  const nodeOf = ({ node, parcel }) => node ?? run.parcels[+parcel]?.to;
+  const run = { steps: [], parcels: [], told: [], links: [], verdict: lines.at(-1), count: 0 };
   for (const line of lines) {
     const at = run.steps.length - 1, { sent, told } = run.steps[at] ?? run;
-    if (line.act) run.steps.push({ event: line, node: nodeOf(line), sent: [], told: [] });
-    else if (line.kind) sent.push(run.parcels[+line.parcel] = { ...line, line, sentAt: at, deliveries: [] });
+    if (line.act) run.steps.push(stepOf(run, line));
+    else if (line.kind) sent.push(run.parcels[+line.parcel] = { ...line, line, sentAt: at, deliveries: [], isOpen });
     else if (line.phase) told.push(line);
-    else if (line.lost) run.parcels[+line.lost].lostAt = at;
-    else if (line.cut || line.heal) run.links.push({ at, ...line });
+    else if (line.lost || line.cut || line.heal) addChange(run, line);
   }
-  run.steps.forEach(({ event }, at) => run.parcels[+event.parcel]?.deliveries.push(at));
-  run.parcels.forEach(it => { it.isLost = !it.deliveries.length && (!isOpen || it.lostAt !== undefined); });
+  run.steps.forEach(({ event }, at) => run.parcels[+event?.parcel]?.deliveries.push(at));
+  run.brokenAt = run.steps.findIndex(({ place }) => place === run.verdict.index);
   return { ...run, names: namesOf(run), ...shapeOf(run) };
+}
+
+function stepOf(run, event) {
+  const node = event.node ?? run.parcels[+event.parcel]?.to;
+  return { event, node, sent: [], told: [], changes: [], place: `${run.count++}` };
+}
+
+/** What one line of a script changed is one step. */
+function addChange(run, line) {
+  const before = run.steps.at(-1), [number, part = 0] = before?.place.split(".") ?? ["start"];
+  const isSame = line.line && before?.changes[0]?.line === line.line;
+  if (!isSame) run.steps.push({ sent: [], told: [], changes: [], place: `${number}.${+part + 1}` });
+  const at = run.steps.length - 1;
+  run.steps[at].changes.push(line);
+  if (line.lost) run.parcels[+line.lost].lostAt ??= at;
+  else run.links.push({ at, ...line });
 }
 
 /** The algorithm and, for Raymond's, its tree, if the last line of each node tells them. */
@@ -50,7 +65,7 @@ function namesOf({ told, steps, parcels }) {
 /** The nodes after a step, each with its phase, its last section, and the line of it that still holds. */
 function after(nodes, { event, node, told }) {
   const next = new Map(nodes), was = nodes.get(node);
-  const hasActed = was && event.outcome !== "refused";
+  const hasActed = was && event && event.outcome !== "refused";
   if (hasActed) next.set(node, { ...was, told: null, ...EFFECTS[event.outcome]?.(event) });
   told.forEach(line => next.set(line.node, { phase: line.phase, mine: line.mine, told: line }));
   return next;
@@ -68,15 +83,19 @@ function statesOf({ names, told, steps }) {
   return nodesAfter;
 }
 
-/** The parcels sent up to a step, and neither delivered nor lost before: newest first, those that never arrive last. */
+/** Whether a parcel is lost after a step; in a run that is over, one that never arrives always is. */
+const isLost = ({ deliveries, lostAt, isOpen }, at) => lostAt === undefined ? !deliveries.length && !isOpen
+  : lostAt <= at && !(deliveries[0] <= at);
+
+/** The parcels sent up to a step, and neither delivered nor lost before: newest first, those that are lost last. */
 function underWay({ parcels }, at) {
   const isGone = ({ deliveries, lostAt }) => deliveries[0] <= at || lostAt < at;
   const sent = parcels.filter(it => it.sentAt <= at && !isGone(it)).reverse();
-  return [...sent.filter(it => !it.isLost), ...sent.filter(it => it.isLost)];
+  return [...sent.filter(it => !isLost(it, at)), ...sent.filter(it => isLost(it, at))];
 }
 
-/** The parcels that were lost up to a step and are not delivered. */
-const lostBy = ({ parcels }, at) => parcels.filter(it => it.lostAt <= at && !(it.deliveries[0] <= at));
+/** The parcels that a script lost before a step, and that are not delivered. */
+const lostBefore = ({ parcels }, at) => parcels.filter(it => it.lostAt < at && isLost(it, at));
 
 /** The pairs of nodes whose link is cut after a step. */
 function cutAfter({ links, names }, at) {
@@ -86,10 +105,10 @@ function cutAfter({ links, names }, at) {
 }
 
 /** The nodes that a broken verdict concerns: that of its event, and those that were inside before it. */
-function concerned({ steps, verdict }, nodesAfter) {
+function concerned({ steps, verdict, brokenAt }, nodesAfter) {
   if (!verdict.clause) return [];
-  const inside = [...nodesAfter(verdict.index - 1)].filter(([, node]) => node.phase === "inside");
-  return unique([steps[verdict.index].node, ...inside.map(([name]) => name)]);
+  const inside = [...nodesAfter(brokenAt - 1)].filter(([, node]) => node.phase === "inside");
+  return unique([steps[brokenAt].node, ...inside.map(([name]) => name)]);
 }
 
 const valuesOf = (line, isSought) => (line?.knows ?? []).filter(({ fact }) => isSought(fact))
@@ -103,15 +122,24 @@ const towards = told => valuesOf(told, fact => fact === "privilege towards");
 
 const phaseText = ({ phase, mine }) => phase === "inside" ? `inside ${mine}` : phase;
 const fullText = parcel => `#${parcel.parcel} ${parcel.from}>${parcel.to} ${parcelText(parcel)}`;
+const labelText = parcel => `#${parcel.parcel} ${parcelText(parcel)}`;
 const valueText = ({ node, number, stamp, of }) => of ? `${stamp}.${of}` : unique([node, number]).join("/");
 const factText = ({ fact, values }) => [fact, ...values.map(valueText)].join(" ");
-const kindOf = ({ kind, isLost }) => isLost ? "lost" : kind === "request" ? kind
-  : GRANTS.includes(kind) ? "grant" : "other";
+const kindOf = (parcel, at) => isLost(parcel, at) ? "lost" : parcel.kind === "request" ? parcel.kind
+  : GRANTS.includes(parcel.kind) ? "grant" : "other";
 
 function eventText({ event, ...rest }) {
   const words = Object.entries(rest).map(([key, word]) => key === "writes" ? `writes ${word}` : word);
   const cut = Object.keys(rest).indexOf("outcome");
   return `${words.slice(0, cut).join(" ")}: ${words.slice(cut).join(" ")}`;
+}
+
+/** The text of a step that has no event. */
+function changeText({ changes }, parcels) {
+  const lost = changes.flatMap(({ lost }) => lost ? [fullText(parcels[+lost])] : []);
+  const cuts = changes.flatMap(({ cut }) => cut ? [cut.join(" ")] : []), links = cuts.length > 4 ? `${cuts.length} links` : cuts.join(", ");
+  return [lost.length && `lost ${lost.join(", ")}`, links && `cut ${links}`, changes.some(({ heal }) => heal) && "healed all links"]
+    .filter(Boolean).join(", ");
 }
 
 function parcelText({ line: { parcel, from, to, kind, stamp, of, ...rest } }) {

@@ -1,21 +1,27 @@
 // The page: it follows from the run and the view. Only `show` changes the view, and only `load` the run.
 
-const PAGE = 100, SHOWN = 40; // so many events are in the list at a time, and of a node's history
+const PAGE = 100, SHOWN = 40, LISTED = 200; // so many steps are listed at a time, events of a node, and parcels
 const byId = id => document.getElementById(id);
-const isOpen = Boolean(byId("drive")), narrow = matchMedia("(max-width: 40rem)");
+const isOpen = "open" in document.querySelector("main").dataset, narrow = matchMedia("(max-width: 40rem)");
 const timers = {}, drawers = []; // what else draws, after a view has changed
 let run, last, nodesAfter, broken, ring;
-let view = { at: -1, chosen: {}, hasLost: true, note: "" };
+let view = { at: -1, chosen: {}, hasLost: true, hasWaits: true, note: "" };
 
-const outcomeAt = at => run.steps[at].event.outcome;
-const parcelAt = at => run.parcels[+run.steps[at]?.event.parcel];
-const textAt = at => `${at} ${eventText(run.steps[at].event)}`;
+addEventListener("error", ({ message }) => { byId("now").textContent = `This page cannot show the run: ${message}`; });
+
+const outcomeAt = at => run.steps[at].event?.outcome;
+const parcelAt = at => run.parcels[+run.steps[at]?.event?.parcel];
+const textAt = at => {
+  const { event, place } = run.steps[at];
+  return event ? `${place} ${eventText(event)}` : changeText(run.steps[at], run.parcels);
+};
 const lineAt = at => parcelAt(at) ? `${textAt(at)} ${fullText(parcelAt(at))}` : textAt(at);
-const firstAt = at => Math.max(Math.floor(at / PAGE) * PAGE - 1, 0); // the first event that is listed then
+const firstAt = at => Math.max(Math.floor(at / PAGE) * PAGE - 1, 0); // the first step that is listed then
+const addressAt = at => `#${run.steps[at]?.place ?? "start"}`;
 const sought = () => byId("sought").value.toLowerCase();
 
-const eventLink = at => html("a", { href: `#${at}` }, lineAt(at));
-const parcelButton = parcel => html("button", { type: "button", class: `parcel ${kindOf(parcel)}`, "data-parcel": parcel.parcel,
+const stepLink = at => html("a", { href: addressAt(at) }, lineAt(at));
+const parcelButton = parcel => html("button", { type: "button", class: `parcel ${kindOf(parcel, view.at)}`, "data-parcel": parcel.parcel,
   "aria-pressed": view.chosen.parcel === parcel.parcel }, fullText(parcel));
 const parcelItem = parcel => html("li", {}, parcelButton(parcel));
 
@@ -39,30 +45,23 @@ function knownAt(at) {
   return outcomeAt(at) === "refused" && facts.length ? `${name}: ${facts.map(([, text]) => text).join(", ")}. ` : "";
 }
 
-/** What a script did after a step and before the next, and is no event. */
-function laterAt(at) {
-  const lost = run.parcels.filter(it => it.lostAt === at).flatMap(it => [" then lost ", parcelButton(it)]);
-  const links = run.links.filter(it => it.at === at), cuts = links.filter(({ cut }) => cut).map(({ cut }) => cut.join(" "));
-  const cut = cuts.length > 3 ? `${cuts.length} links` : cuts.join(", ");
-  return [...lost, cut && ` then cut ${cut}`, links.some(({ heal }) => heal) ? " then healed all links" : ""];
-}
-
 function drawNow() {
-  const { at, note } = view, later = laterAt(at), { event, sent } = run.steps[at] ?? {}, { index, clause, reason } = run.verdict;
-  if (!event) return fill("now", html("b", {}, "Start"), ` before the first of ${last + 1} events. `, ...later, note);
+  const { at, note } = view, { event, sent } = run.steps[at] ?? {}, { clause, reason } = run.verdict;
+  if (at < 0) return fill("now", html("b", {}, "Start"), ` before the first of ${run.count} events. ${note}`);
+  if (!event) return fill("now", html("b", {}, textAt(at)), ` ${note}`);
   const sends = sent.length > 2 ? [` sends ${sent.length} parcels`] : sent.flatMap((it, i) => [i ? ", " : " sends ", parcelButton(it)]);
   const more = parcelAt(at) ? [parcelButton(parcelAt(at)), ...sends] : sends, known = knownAt(at);
   const why = reason ? `: ${reason}` : "";
-  const breaks = at === +index ? `This breaks the run: ${clause}, ${broken.join(" and ")}${why}. ` : "";
-  return fill("now", html("b", { class: event.outcome }, textAt(at)), " ", ...more, ...later, ` ${known}${breaks}${note}`);
+  const breaks = at === run.brokenAt ? `This breaks the run: ${clause}, ${broken.join(" and ")}${why}. ` : "";
+  return fill("now", html("b", { class: event.outcome }, textAt(at)), " ", ...more, ` ${known}${breaks}${note}`);
 }
 
-/** The list has the page of events around this step, and at its ends events that lead on. */
+/** The list has the page of steps around this one, and at its ends steps that lead on. */
 function drawRows(before) {
-  const rows = byId("rows"), first = firstAt(view.at), events = run.steps.slice(first, first + PAGE + 2);
+  const rows = byId("rows"), first = firstAt(view.at), steps = run.steps.slice(first, first + PAGE + 2);
   const mark = at => outcomeAt(at) === "refused" ? "\u2717 " : "";
-  const row = at => html("option", { class: outcomeAt(at) }, mark(at) + lineAt(at));
-  if (!rows.length || first !== firstAt(before.at)) fill("rows", ...events.map((_, i) => row(first + i)));
+  const row = at => html("option", { class: outcomeAt(at) ?? "change" }, mark(at) + lineAt(at));
+  if (!rows.length || first !== firstAt(before.at)) fill("rows", ...steps.map((_, i) => row(first + i)));
   rows.selectedIndex = view.at - first;
   rows.scrollTop = (view.at - first - rows.size / 2) * rows.scrollHeight / rows.length;
 }
@@ -80,17 +79,20 @@ function nodeItem(name, node, was) {
   return html("li", { class: classes({ acts: run.steps[view.at]?.node === name }) }, html("b", {}, name), ": ", ...list(state), ...more);
 }
 
+function parcelHistory(parcel) {
+  const { sentAt, lostAt, deliveries } = parcel, item = (at, text) => html("li", {}, text, stepLink(at));
+  const got = deliveries.map((at, i) => item(at, i ? "delivered again: " : "delivered: "));
+  const lost = lostAt === undefined ? [] : [item(lostAt, "")];
+  const open = got.length + lost.length ? [] : [html("li", { class: isOpen ? "" : "broken" }, isOpen ? "under way" : "never delivered")];
+  return [html("h3", {}, fullText(parcel)), html("ul", {}, item(sentAt, "sent: "), ...lost, ...got, ...open)];
+}
+
 function historyOf({ node, parcel }) {
-  const { sentAt, deliveries } = run.parcels[parcel] ?? {}, name = run.names[node];
-  if (deliveries) {
-    const item = (at, text) => html("li", {}, text, eventLink(at));
-    const got = deliveries.map((at, i) => item(at, i ? "delivered again: " : "delivered: "));
-    const ends = got.length ? got : [html("li", { class: "broken" }, "never delivered")];
-    return [html("h3", {}, fullText(run.parcels[parcel])), html("ul", {}, item(sentAt, "sent: "), ...ends)];
-  }
+  const name = run.names[node];
+  if (run.parcels[parcel]) return parcelHistory(run.parcels[parcel]);
   if (name === undefined) return ["Choose a node or a parcel."];
   const done = [...run.steps.keys()].filter(at => at <= view.at && run.steps[at].node === name).reverse();
-  const item = at => html("li", {}, eventLink(at), html("ul", {}, ...run.steps[at].sent.map(parcelItem)));
+  const item = at => html("li", {}, stepLink(at), html("ul", {}, ...run.steps[at].sent.map(parcelItem)));
   return [html("h3", {}, `${name}: ${done.length} events up to this step, newest first`),
     html("ul", {}, ...done.slice(0, SHOWN).map(item))];
 }
@@ -98,14 +100,14 @@ function historyOf({ node, parcel }) {
 function draw(before) {
   const { at, chosen } = view, nodes = nodesAfter(at), earlier = nodesAfter(Math.max(at - 1, -1));
   const name = nodes.size > FEW ? run.names[chosen.node] : undefined;
-  const isMeant = it => it && (view.hasLost || !it.isLost) && [it.from, it.to, undefined].includes(name);
+  const isMeant = it => it && (view.hasLost || !isLost(it, at)) && [it.from, it.to, undefined].includes(name);
   const parcels = underWay(run, at).filter(isMeant), arrived = [parcelAt(at)].find(isMeant);
   const moves = at === before.at + 1 && !matchMedia("(prefers-reduced-motion: reduce)").matches;
-  const lasts = moves ? Math.min(0.6, 0.7 / byId("speed").value) : 0, more = parcels.length - DRAWN;
-  const scene = { nodes, parcels, at, chosen, lasts, step: run.steps[at], arrived, cuts: cutAfter(run, at) };
-  fill("ring", ...ring.draw({ ...scene, marked: at === +run.verdict.index ? broken : [] }));
+  const lasts = moves ? Math.min(0.6, 0.7 / byId("speed").value) : 0, more = parcels.length - LISTED;
+  const scene = { nodes, parcels, at, chosen, lasts, step: run.steps[at], arrived, cuts: cutAfter(run, at), hasWaits: view.hasWaits };
+  fill("ring", ...ring.draw({ ...scene, marked: at === run.brokenAt ? broken : [] }));
   fill("way", `Parcels under way${name === undefined ? "" : ` to or from ${name}`}`);
-  fill("parcels", ...parcels.slice(0, DRAWN).map(parcelItem), more > 0 ? `and ${more} more, not drawn` : "");
+  fill("parcels", ...parcels.slice(0, LISTED).map(parcelItem), more > 0 ? `and ${more} more` : "");
   fill("nodes", ...[...nodes].map(([name, node]) => nodeItem(name, node, earlier.get(name))));
   reveal(byId("nodes"), byId("nodes").querySelector(".acts"));
   fill("history", ...historyOf(chosen));
@@ -125,7 +127,7 @@ function sample(text, kind, end, isWide) {
 /** What only the run changes. */
 function drawRun() {
   const { verdict, index, clause } = run.verdict, { algorithm, tree, names } = run;
-  const size = `${last + 1} events, ${names.length} nodes`;
+  const size = `${run.count} events, ${names.length} nodes`;
   byId("title").textContent = document.title = algorithm ? `${algorithm}: ${size}` : `A run of ${size}`;
   byId("slider").max = last;
   const link = html("a", { href: `#${index}`, class: "broken" }, `broken at ${index}: ${clause} \u2717`);
@@ -153,7 +155,7 @@ function show(change) {
   view = { ...next, at };
   draw(before);
   clearTimeout(timers.address); // browsers bound how often the address may change
-  timers.address = setTimeout(() => history.replaceState(null, "", at < 0 ? "#start" : `#${at}`), 200);
+  timers.address = setTimeout(() => history.replaceState(null, "", addressAt(at)), 200);
 }
 
 function play(isOn) {
@@ -201,17 +203,25 @@ function pressKey(event) {
 }
 
 function showAddress() {
-  const digits = /^#(\d+)$/.exec(location.hash)?.[1];
-  show({ at: +(digits ?? (location.hash ? -1 : run.verdict.index ?? -1)) });
+  const place = location.hash.slice(1), at = run.steps.findIndex(it => it.place === place);
+  show({ at: place === "" ? run.brokenAt : at < 0 && +place ? last : at });
+}
+
+/** Marks the arrow and the text of the parcel below the pointer, also of one in a list. */
+function point({ target }) {
+  const { parcel } = target.closest("[data-parcel]")?.dataset ?? {};
+  document.querySelectorAll("#ring [data-parcel]").forEach(it => it.classList.toggle("hovered", it.dataset.parcel === parcel));
 }
 
 const on = (id, kind, act) => byId(id).addEventListener(kind, act);
 document.addEventListener("click", press);
 document.addEventListener("keydown", pressKey);
+document.addEventListener("pointerover", point);
 addEventListener("hashchange", showAddress);
 on("slider", "input", ({ target }) => show({ at: +target.value }));
 on("rows", "change", ({ target }) => show({ at: firstAt(view.at) + target.selectedIndex }));
 on("lost", "change", ({ target }) => show({ hasLost: target.checked }));
+on("waits", "change", ({ target }) => show({ hasWaits: target.checked }));
 on("speed", "change", () => play(timers.play));
 on("find", "submit", event => { event.preventDefault(); DO.next(1); });
 narrow.addEventListener("change", () => { ring = new Ring(byId("ring"), run, narrow.matches); show({}); });

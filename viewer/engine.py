@@ -1,0 +1,130 @@
+"""Runs scripts of one plan with the program `mx`. Nothing is known here but the words that the program prints."""
+import contextlib
+import json
+import os
+import re
+import resource
+import subprocess
+import tempfile
+
+import lines
+from command import Fault
+
+HERE = os.path.dirname(lines.VIEWER)
+LARGEST, MOST = 1 << 20, 1 << 24  # bytes of a plan or a script, and of what the program prints
+NOTES = [  # what `play` prints of what is no event, and the line of a run that says so
+    (r"lost #(\d+) ", lambda found: {"lost": int(found[1])}),
+    (r"cut (\S+)(?: (\S+))?$", lambda found: {"cut": [name for name in found.groups() if name]}),
+    (r"heal$", lambda found: {"heal": True}),
+]
+
+
+def program():
+    """The program that ./mx would run, if that is built; beside a copy of ./drive without sources, the program `mx`."""
+    mx = os.path.join(HERE, "mx")
+    if not os.path.isdir(os.path.join(HERE, "crates")):
+        return os.environ.get("MX_PROGRAM") or mx
+    found = subprocess.run([mx, "program"], capture_output=True, text=True)
+    if found.returncode:
+        raise Fault(found.stderr.removeprefix("mx: ").strip())
+    return found.stdout.strip()
+
+
+def contents(path, what):
+    """The bytes of a file."""
+    try:
+        with open(path, "rb") as file:
+            text = file.read(LARGEST + 1)
+    except OSError as error:
+        raise Fault(f"cannot read the {what} {path}: {error.strerror}")
+    if len(text) > LARGEST:
+        raise Fault(f"the {what} {path} has more than {LARGEST} bytes")
+    return text
+
+
+class Engine:
+    """The program and a plan."""
+    longest = 10  # seconds of the program
+
+    def __init__(self, path):
+        self.program, self.plan = program(), contents(path, "plan")
+        status, printed, told = self.ran("explain", "-", text=self.plan)
+        if status:
+            raise Fault("the plan is at fault:\n" + re.sub("^-:", f"{path}:", printed or told, flags=re.MULTILINE).strip())
+        self.line = b" ".join(self.plan.split()) + b"\n"  # as the first line of standard input
+        self.starts = [line for line in self.replay("")[1].splitlines() if '"phase"' in line]
+
+    def ran(self, *words, text):
+        """The status, the output and the errors of the program."""
+        with tempfile.TemporaryFile() as asked, tempfile.TemporaryFile() as printed, tempfile.TemporaryFile() as told:
+            asked.write(text)
+            asked.seek(0)
+            status = self.status(words, stdin=asked, stdout=printed, stderr=told)
+            printed.seek(0)
+            told.seek(0)
+            return status, printed.read().decode(errors="replace"), told.read().decode(errors="replace")
+
+    def status(self, words, **streams):
+        """The status of the program, which ends in time and prints no more than it may."""
+        try:
+            with subprocess.Popen([self.program, *words], **streams) as running:
+                with contextlib.suppress(ProcessLookupError):
+                    resource.prlimit(running.pid, resource.RLIMIT_FSIZE, (MOST, MOST))
+                try:
+                    status = running.wait(self.longest)
+                finally:
+                    running.kill()
+        except subprocess.TimeoutExpired:
+            raise Fault(f"the program took more than {self.longest} seconds, and was ended")
+        except OSError as error:
+            raise Fault(f"the program cannot be run: {error}")
+        if status < 0:
+            raise Fault(f"the program printed more than {MOST} bytes, or failed: signal {-status}")
+        return status
+
+    def replay(self, script):
+        return self.ran("replay", "-", "-", "--script", "--json", "--state", text=self.line + script.encode())
+
+    def answer(self, script):
+        """The lines of the run of a script up to its first fault, the steps after each line of it, and the fault."""
+        status, printed, told = self.replay(script)
+        found = re.match(r"mx: script: line (\d+): (.*)", told)
+        done = script.split("\n")[: int(found[1]) - 1] if found else script.split("\n")
+        if found:
+            status, printed, told = self.replay("\n".join(done))
+        if status:
+            raise Fault(told.strip() or f"the program ended with status {status}")
+        ends, notes, stuck = self.ends(done)
+        run = list(lines.lines_of([*self.starts, *woven(printed.splitlines(), notes)]))
+        fault = {"line": int(found[1]) - 1, "text": found[2]} if found else None
+        return {"run": run, "script": script, "ends": ends, "fault": fault, "stuck": stuck}
+
+    def ends(self, script):
+        """The number of steps after each line of a right script, the notes of what is no event by the number of events
+        before, and whether the run stands still."""
+        marked = "".join(f"{line}\nmark END\n" for line in script) + "show\n"
+        *parts, closing = self.ran("play", "-", text=self.line + marked.encode())[1].split("mark END\n")
+        ends, notes, events, steps = [], {}, 0, 0
+        for number, part in enumerate(parts, 1):
+            made, noted = len(re.findall(r"^\d+ \w", part, re.MULTILINE)), notes_of(part, number)
+            notes.setdefault(events, []).extend(noted)
+            events += made
+            steps += made or bool(noted)
+            ends.append(steps)
+        return ends, notes, next((text for text in closing.splitlines() if text.startswith("stuck: ")), "")
+
+
+def notes_of(printed, number):
+    """The lines of a run for what a line of a script did that is no event."""
+    tried = ((make, re.match(form, text)) for text in printed.splitlines() for form, make in NOTES)
+    return [json.dumps(make(found) | {"line": number}) for make, found in tried if found]
+
+
+def woven(printed, notes):
+    """The lines of a run, in which what is no event stands behind the event before it."""
+    events = 0
+    for line in printed:
+        if line.startswith(('{"event"', '{"verdict"')):
+            yield from notes.get(events, [])
+            events += 1
+        yield line
