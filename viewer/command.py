@@ -1,4 +1,5 @@
 """What ./page, ./drive and ./shiviz have in common: their words, and their ends, each of which is a sentence."""
+import contextlib
 import os
 import sys
 
@@ -8,7 +9,7 @@ class Fault(Exception):
 
 
 class Misuse(Fault):
-    """Words that are no use of the command."""
+    """Words that the command does not take."""
 
 
 def given():
@@ -22,34 +23,24 @@ def put(data):
     """Writes bytes to standard output at once, so that nothing is left to be written at the end."""
     if sys.stdout is None:
         raise Fault("standard output is closed")
-    try:
-        while data:
-            data = data[os.write(1, data):]
-    except BrokenPipeError:
-        raise
-    except OSError as error:
-        raise Fault(f"cannot write: {error.strerror}")
+    while data:
+        data = data[os.write(1, data):]
 
 
 def say(text):
-    """Writes a line to standard error, if anybody can read it."""
-    try:
-        print(text, file=sys.stderr or open(os.devnull, "w", encoding="utf-8"), flush=True)
-    except OSError:
-        pass
+    """Writes a line to standard error, if that can be written."""
+    with contextlib.suppress(OSError, AttributeError):
+        sys.stderr.write(f"{text}\n")
 
 
 def main(name, usage, act):
     """Calls `act` with the words of the command line, and ends with its status; `--help` prints the usage instead."""
-    words = sys.argv[1:]
     try:
-        put(usage.encode() + b"\n") if {"-h", "--help"} & set(words) else act(*words)
-        status = 0
+        put(f"{usage}\n".encode()) if {"-h", "--help"} & set(sys.argv) else act(*sys.argv[1:])
     except BrokenPipeError:  # whoever reads has enough
-        status = 1
+        sys.exit(1)
     except (Fault, OSError) as fault:
         say(f"{name}: {fault}")
-        status = 2 if isinstance(fault, Misuse) else 1
+        sys.exit(2 if isinstance(fault, Misuse) else 1)
     except KeyboardInterrupt:
-        status = 130
-    sys.exit(status)
+        sys.exit(130)

@@ -15,7 +15,7 @@ const LINES = { // what a button adds to the script, of a node or of a parcel
   partition: () => `partition ${sides(true).join(" ")} | ${sides(false).join(" ")}`,
 };
 const tabs = new BroadcastChannel("drive"); // the other tabs of this browser
-let answer = JSON.parse(byId("answer").textContent), isBusy = false, edited = null, drawn = null;
+let answer = JSON.parse(byId("answer").textContent), isBusy = false, drawn = null;
 
 const sides = isOff => [...byId("sides").querySelectorAll("input")].filter(it => it.checked === isOff).map(it => it.value);
 const linesOf = script => script === "" ? [] : script.split("\n");
@@ -99,7 +99,7 @@ const partOf = (event, part) => eventText(event).split(": ")[part];
 
 /** The lines up to the step that is shown; of a line with many events, those up to there. */
 function scriptHere() {
-  const at = view.at + 1, { ends, script } = answer, list = linesOf(script), whole = ends.filter(end => end <= at).length;
+  const at = view.at + 1, { ends, script } = answer, whole = ends.filter(end => end <= at).length, list = linesOf(script);
   return textOf([...list.slice(0, whole), ...run.steps.slice(ends[whole - 1] ?? 0, at).map(({ event }) => partOf(event, 0))]);
 }
 
@@ -115,32 +115,31 @@ function drawButton(button) {
 function drawPanel() {
   const name = chosenNode(), parcel = chosenParcel();
   const state = it => it.deliveries.length ? "delivered" : isLost(it, last) ? "lost" : "under way";
-  byId("ofNode").hidden = name === undefined;
-  byId("ofParcel").hidden = !parcel;
-  byId("past").hidden = view.at === last || Boolean(answer.fault);
+  const hide = (id, isHidden) => { byId(id).hidden = isHidden; };
+  hide("ofNode", name === undefined);
+  hide("ofParcel", !parcel);
+  hide("past", view.at === last || Boolean(answer.fault));
+  hide("withRegister", !byId("register").options.length);
   const { fault, stuck } = answer, upTo = "is at fault, and the page shows the run before it. Mend the line, or undo.";
   fill("stuck", fault ? `Line ${fault.line + 1} ${upTo}` : view.at === last ? stuck : "");
   fill("wrong", fault ? `line ${fault.line + 1}: ${fault.text}` : "");
-  byId("withRegister").hidden = !byId("register").options.length;
   fill("what", parcel ? `${fullText(parcel)}, ${state(parcel)}` : name ? `Node ${name}` : "Choose a node or a parcel");
   document.querySelectorAll("#drive [data-act]").forEach(drawButton);
   document.querySelector("[data-do=undo]").disabled = !answer.canUndo;
   document.querySelector("[data-do=redo]").disabled = !answer.canRedo;
 }
 
-/** What a line did: the outcome of its last event, and how many events it has; or what it lost. */
+/** What a line did: the outcome of its event, or how many events it has; or what it lost. */
 function outcomeOf(i) {
-  const start = answer.ends[i - 1] ?? 0, end = answer.ends[i], { event } = run.steps[end - 1] ?? {};
-  if (!(end > start)) return {};
-  if (!event) return { text: run.steps[end - 1].changes.flatMap(({ lost }) => lost ? [`#${lost}`] : []).join(" ") };
-  const text = partOf(event, 1);
-  return { text: end - start > 1 ? `${end - start} events` : text === "delivered" ? "" : text, outcome: event.outcome };
+  const count = answer.ends[i] - (answer.ends[i - 1] ?? 0), { event, changes } = run.steps[answer.ends[i] - 1] ?? {};
+  if (!(count > 0)) return {};
+  if (!event) return { told: changes.flatMap(({ lost }) => lost ? [`#${lost}`] : []).join(" ") };
+  return { told: count > 1 ? `${count} events` : partOf(event, 1).replace("delivered", ""), outcome: event.outcome };
 }
 
 function lineItem(text, i) {
-  const { ends, fault } = answer, isFault = i === fault?.line, isDone = i < ends.length;
-  const { text: told = "", outcome = "" } = isDone ? outcomeOf(i) : {};
-  const kinds = { comment: /^\s*(#|$)/.test(text), undone: !isDone && !isFault, broken: isFault, [outcome]: outcome };
+  const { ends, fault } = answer, isFault = i === fault?.line, { told = "", outcome } = outcomeOf(i);
+  const kinds = { comment: /^\s*(#|$)/.test(text), undone: i >= ends.length && !isFault, broken: isFault, [outcome]: outcome };
   return html("li", { class: classes(kinds) }, html("button", { type: "button", "data-line": i }, text || "\u00A0"),
     html("span", { class: "faint" }, told), isFault ? html("span", { class: "fault" }, `line ${i + 1}: ${fault.text}`) : "");
 }
@@ -151,6 +150,7 @@ function drawScript() {
   const current = view.at === last ? Math.min(ends.length, list.length) - 1 : ends.findIndex(end => end > view.at);
   if (drawn !== answer) fill("script", ...list.map(lineItem));
   if (!list.length) fill("script", html("li", { class: "faint" }, "Empty so far: choose a node, and let it ask."));
+  if (drawn !== answer) byId("draft").defaultValue = answer.script;
   drawn = answer;
   place.querySelector("[aria-current]")?.removeAttribute("aria-current");
   if (list.length) place.children[current]?.setAttribute("aria-current", "step");
@@ -158,10 +158,8 @@ function drawScript() {
 }
 
 /** Lost parcels are below those under way: they may still be delivered. */
-function drawLost() {
-  const gone = lostBefore(run, view.at);
-  if (gone.length) byId("parcels").append(...gone.map(it => html("li", { class: "lostParcels faint" }, parcelButton(it))));
-}
+const drawLost = () => byId("parcels").append(
+  ...lostBefore(run, view.at).map(it => html("li", { class: "lostParcels faint" }, parcelButton(it))));
 
 function drawChoices() {
   const registers = nodeParts(nodesAfter(last).values().next().value).state.map(([word]) => word)
@@ -171,10 +169,8 @@ function drawChoices() {
 }
 
 function drawOthers() {
-  const name = chosenNode(), was = byId("other").value, names = run.names.filter(it => it !== name);
-  if (textOf([...byId("other").options].map(it => it.value)) === textOf(names)) return;
-  fill("other", ...names.map(it => html("option", {}, it)));
-  if (names.includes(was)) byId("other").value = was;
+  const was = byId("other").value, names = run.names.filter(it => it !== chosenNode());
+  fill("other", ...names.map(it => html("option", it === was ? { selected: "" } : {}, it)));
 }
 
 // What buttons and keys do
@@ -198,54 +194,35 @@ function chooseParcel(way) {
   show(next ? { chosen: { parcel: next.parcel } } : { note: "No parcel is under way." });
 }
 
-/** The script and the plan, as docs/lessons has them. */
-function saveLesson() {
-  save();
-  byId("plan").click();
-}
-
 function save() {
-  const link = html("a", { href: URL.createObjectURL(new Blob([`${answer.script}\n`], { type: "text/plain" })), download: "script.txt" });
+  const link = html("a", { href: URL.createObjectURL(new Blob([`${answer.script}\n`])), download: "script.txt" });
   link.click();
   setTimeout(() => URL.revokeObjectURL(link.href), 1000);
 }
 
-function edit() {
-  if (edited === null) byId("draft").value = edited = answer.script;
-  byId("text").hidden = false;
-  byId("draft").focus();
-}
-
-function close() {
-  if (byId("draft").value === edited) edited = null; // else the draft stays for the next time
-  byId("text").hidden = true;
+/** Shows the script as a text, or hides it. A text that was edited stays until it is run. */
+function edit(isShown) {
+  byId("text").hidden = !isShown;
+  if (isShown) byId("draft").focus();
 }
 
 async function runDraft(event) {
   event.preventDefault();
-  const draft = byId("draft"), script = draft.value.replace(/\n+$/, "");
-  if (!await change("keep", script)) return;
-  edited = answer.fault ? draft.value : null;
-  byId("text").hidden = !answer.fault;
-  if (answer.fault) choose(draft, script, answer.fault.line);
-}
-
-/** Selects a line in the text that has it. */
-function choose(draft, script, line) {
-  const before = textOf(linesOf(script).slice(0, line)).length + Math.min(line, 1);
-  draft.focus();
-  draft.setSelectionRange(before, before + linesOf(script)[line].length);
+  if (!await change("keep", byId("draft").value.replace(/\n+$/, ""))) return;
+  byId("text").reset();
+  edit(Boolean(answer.fault));
 }
 
 Object.assign(DO, {
   undo: way => way < 0 ? DO.redo() : answer.canUndo && change("undo"), redo: () => answer.canRedo && change("redo"),
-  branch: () => change("try", scriptHere()), edit, close, save, lesson: saveLesson,
+  branch: () => change("try", scriptHere()), edit: () => edit(true), close: () => edit(false),
+  save, lesson: () => { save(); byId("plan").click(); }, // the files that docs/lessons has
   parcel: chooseParcel, deliver: way => tap(way < 0 ? "all" : "deliver"),
 });
 for (const act of ["ask", "enter", "leave", "cancel", "tick", "lose", "again"]) DO[act] = () => tap(act);
-for (let i = 1; i <= 9; i++) DO[`node${i}`] = () => i <= run.names.length && show({ chosen: { node: i - 1 } });
+for (let i = 1; i <= 9; i++) DO[KEYS[i] = `node${i}`] = () => i <= run.names.length && show({ chosen: { node: i - 1 } });
 Object.assign(KEYS, { a: "ask", e: "enter", l: "leave", c: "cancel", t: "tick", d: "deliver", x: "lose", g: "again", u: "undo",
-  p: "parcel" }, Object.fromEntries([1, 2, 3, 4, 5, 6, 7, 8, 9].map(i => [i, `node${i}`])));
+  p: "parcel" });
 
 document.addEventListener("click", ({ target }) => {
   const button = target.closest("[data-act], [data-line]");

@@ -35,10 +35,10 @@ def contents(path, what):
     try:
         with open(path, "rb") as file:
             text = file.read(LARGEST + 1)
-    except OSError as error:
-        raise Fault(f"cannot read the {what} {path}: {error.strerror}")
+    except (OSError, ValueError) as error:
+        raise Fault(f"cannot read the {what}: {error}")
     if len(text) > LARGEST:
-        raise Fault(f"the {what} {path} has more than {LARGEST} bytes")
+        raise Fault(f"the {what} has more than {LARGEST} bytes")
     return text
 
 
@@ -55,25 +55,23 @@ class Engine:
         self.starts = [line for line in self.replay("")[1].splitlines() if '"phase"' in line]
 
     def ran(self, *words, text):
-        """The status, the output and the errors of the program."""
-        with tempfile.TemporaryFile() as asked, tempfile.TemporaryFile() as printed, tempfile.TemporaryFile() as told:
-            asked.write(text)
-            asked.seek(0)
-            status = self.status(words, stdin=asked, stdout=printed, stderr=told)
-            printed.seek(0)
-            told.seek(0)
-            return status, printed.read().decode(errors="replace"), told.read().decode(errors="replace")
+        """The status, the output and the errors of the program, which ends in time and prints no more than it may."""
+        with contextlib.ExitStack() as opened:
+            streams = {name: opened.enter_context(tempfile.TemporaryFile()) for name in ("stdin", "stdout", "stderr")}
+            streams["stdin"].write(text)
+            streams["stdin"].seek(0)
+            status = self.status(words, streams)
+            for name in ("stdout", "stderr"):
+                streams[name].seek(0)
+            return status, *(streams[name].read().decode(errors="replace") for name in ("stdout", "stderr"))
 
-    def status(self, words, **streams):
-        """The status of the program, which ends in time and prints no more than it may."""
+    def status(self, words, streams):
         try:
-            with subprocess.Popen([self.program, *words], **streams) as running:
+            with subprocess.Popen([self.program, *words], **streams) as running, contextlib.ExitStack() as at_end:
+                at_end.callback(running.kill)
                 with contextlib.suppress(ProcessLookupError):
                     resource.prlimit(running.pid, resource.RLIMIT_FSIZE, (MOST, MOST))
-                try:
-                    status = running.wait(self.longest)
-                finally:
-                    running.kill()
+                status = running.wait(self.longest)
         except subprocess.TimeoutExpired:
             raise Fault(f"the program took more than {self.longest} seconds, and was ended")
         except OSError as error:
@@ -88,9 +86,9 @@ class Engine:
     def answer(self, script):
         """The lines of the run of a script up to its first fault, the steps after each line of it, and the fault."""
         status, printed, told = self.replay(script)
-        found = re.match(r"mx: script: line (\d+): (.*)", told)
-        done = script.split("\n")[: int(found[1]) - 1] if found else script.split("\n")
+        found, done = re.match(r"mx: script: line (\d+): (.*)", told), script.split("\n")
         if found:
+            done = done[: int(found[1]) - 1]
             status, printed, told = self.replay("\n".join(done))
         if status:
             raise Fault(told.strip() or f"the program ended with status {status}")
@@ -104,14 +102,13 @@ class Engine:
         before, and whether the run stands still."""
         marked = "".join(f"{line}\nmark END\n" for line in script) + "show\n"
         *parts, closing = self.ran("play", "-", text=self.line + marked.encode())[1].split("mark END\n")
-        ends, notes, events, steps = [], {}, 0, 0
+        ends, notes, events = [0], {}, 0
         for number, part in enumerate(parts, 1):
             made, noted = len(re.findall(r"^\d+ \w", part, re.MULTILINE)), notes_of(part, number)
             notes.setdefault(events, []).extend(noted)
+            ends.append(ends[-1] + (made or bool(noted)))
             events += made
-            steps += made or bool(noted)
-            ends.append(steps)
-        return ends, notes, next((text for text in closing.splitlines() if text.startswith("stuck: ")), "")
+        return ends[1:], notes, next((text for text in closing.splitlines() if text.startswith("stuck: ")), "")
 
 
 def notes_of(printed, number):
@@ -121,7 +118,7 @@ def notes_of(printed, number):
 
 
 def woven(printed, notes):
-    """The lines of a run, in which what is no event stands behind the event before it."""
+    """The lines of a run, in which what is no event comes after the event before it."""
     events = 0
     for line in printed:
         if line.startswith(('{"event"', '{"verdict"')):

@@ -42,7 +42,7 @@ def member(key, value):
 
 
 def has_form(key, value):
-    """Whether the items of a list of numbers or names, or of pairs of numbers, are what they should be."""
+    """Whether the items of a list of numbers, of one or two names, or of pairs of numbers, are such."""
     if key == "ranges":
         return all(type(item) is list and len(item) == 2 and has_form("numbers", item) for item in value)
     return key not in ("numbers", "cut") or all(type(item) is str for item in value) and (key != "cut" or 0 < len(value) < 3)

@@ -2,35 +2,32 @@
 
 const FEW = 7; // of more nodes, a chosen one hides the parcels of others, and a tree is drawn as one
 const MANY = 64; // of more nodes, which no plan has, no tree is looked for
-const ROOMS = { false: { x: 520, y: 360 }, true: { x: 360, y: 420 } }; // of a drawing in a small window, and on a phone
+const ROOMS = { false: { x: 520, y: 360 }, true: { x: 360, y: 420 } }; // for a drawing in a small window, and on a phone
 
-/** The nodes in a ring; `wide` and `high` are those of a node. On a phone the ring is slim, if that goes. */
-function ringPlaces(names, { wide, high }, isNarrow) {
-  const count = names.length, circle = 2 * Math.PI, start = count === 2 ? Math.PI : Math.PI / 2;
+/** The places in a ring of so many nodes of this size. On a phone it is slim, if that goes. */
+function ringPlaces(count, { wide, high }, isNarrow) {
+  const circle = 2 * Math.PI, start = count === 2 ? Math.PI : Math.PI / 2;
   const radius = (least, size) => count > 1 ? Math.max(least, count * size / circle) : 0;
   const across = isNarrow && count <= FEW ? radius(125, 0) : radius(240, wide + 20), down = radius(150, high + 18);
-  const place = angle => ({ x: across * Math.cos(angle), y: down * Math.sin(angle) });
-  return { across, down, places: names.map((_, i) => place(circle * i / count - start)) };
+  const angles = Array.from({ length: count }, (_, i) => circle * i / count - start);
+  return angles.map(angle => ({ x: across * Math.cos(angle), y: down * Math.sin(angle) }));
 }
 
 /** For each node its level below a root, and its slot in this level, clear of those of other subtrees. */
 function levelsBelow(root, near) {
-  const found = new Map(), next = [];
-  const move = (name, far) => {
-    const spot = found.get(name);
+  const found = new Map(), next = []; // the free slots
+  const move = (spot, far) => {
     spot.slot += far;
     next[spot.level] = Math.max(next[spot.level] ?? 0, spot.slot + 1);
     spot.below.forEach(it => move(it, far));
   };
   const visit = (name, level) => {
-    const spot = { level, slot: 0, below: [] };
+    const spot = { level, slot: 0, below: [] }, free = () => next[level] ?? 0;
     found.set(name, spot);
-    spot.below = near.get(name).filter(it => !found.has(it));
-    spot.below.forEach(it => visit(it, level + 1));
-    const slots = spot.below.map(it => found.get(it).slot), free = next[level] ?? 0;
-    const middle = slots.length ? (slots[0] + slots.at(-1)) / 2 : free;
-    spot.slot = middle;
-    move(name, Math.max(free - middle, 0));
+    spot.below = near.get(name).filter(it => !found.has(it)).map(it => visit(it, level + 1));
+    spot.slot = spot.below.length ? (spot.below[0].slot + spot.below.at(-1).slot) / 2 : free();
+    move(spot, Math.max(free() - spot.slot, 0));
+    return spot;
   };
   visit(root, 0);
   return found;
@@ -41,47 +38,42 @@ function levelsBelow(root, near) {
 function levelsOf(names, pairs) {
   if (names.length <= FEW || names.length > MANY || pairs.length !== names.length - 1) return undefined;
   const near = new Map(names.map(name => [name, pairs.filter(pair => pair.includes(name)).flat().filter(it => it !== name)]));
-  if (pairs.flat().some(name => !near.has(name))) return undefined;
   const most = levels => Math.max(...[...levels.values()].map(({ level }) => level));
   const trees = names.map(name => levelsBelow(name, near)).sort((a, b) => most(a) - most(b));
   return trees[0].size === names.length ? [trees[0], trees.at(-1)] : undefined;
 }
 
-/** The nodes of a tree: downward, to the right, or around its root, whichever can be drawn largest. A long one, for which
+/** These places around their middle, and how large they can be drawn: apart up to twice as far, if there is room. */
+function spread(places, { wide, high }, isNarrow) {
+  const axis = (way, half, room) => {
+    const all = places.map(it => it[way]), least = Math.min(...all), far = (Math.max(...all) - least) / 2;
+    return { middle: least + far, scale: room / (far + half), stretch: scale => Math.min((room / scale - half) / far, 2) };
+  };
+  const x = axis("x", wide / 2, ROOMS[isNarrow].x), y = axis("y", high / 2, ROOMS[isNarrow].y), scale = Math.min(x.scale, y.scale);
+  const place = it => ({ x: (it.x - x.middle) * x.stretch(scale), y: (it.y - y.middle) * y.stretch(scale) });
+  return { scale, places: places.map(place) };
+}
+
+/** The places of a tree: downward, to the right, or around its root, whichever can be drawn largest. A long one, for which
   * these are small, is a ring in the order of the tree, so that no edges cross. */
-function treePlaces(names, [levels, longest], { wide, high }, isNarrow) {
-  const spots = names.map(name => levels.get(name)), slots = 1 + Math.max(...spots.map(({ slot }) => slot));
+function treePlaces(names, [levels, longest], size, isNarrow) {
+  const { wide, high } = size, spots = names.map(name => levels.get(name)), order = [...longest.keys()];
+  const slots = 1 + Math.max(...spots.map(({ slot }) => slot)), angle = slot => 2 * Math.PI * (slot + 0.5) / slots;
   const leaves = Math.min(...spots.filter(({ below }) => !below.length).map(({ level }) => level));
-  const step = size => Math.max(size + 30, slots * (size + 20) / (2 * Math.PI * leaves));
-  const angle = slot => 2 * Math.PI * (slot + 0.5) / slots;
+  const step = wide => Math.max(wide + 30, slots * (wide + 20) / (2 * Math.PI * leaves));
   const ways = [
     ({ level, slot }) => ({ x: slot * (wide + 14), y: level * (high + 40) }),
     ({ level, slot }) => ({ x: level * (wide + 40), y: slot * (high + 10) }),
     ({ level, slot }) => ({ x: level * step(wide) * Math.cos(angle(slot)), y: level * step(high) * Math.sin(angle(slot)) }),
   ];
-  const { x, y } = ROOMS[isNarrow], fit = ({ across, down }) => Math.min(x / (across + wide / 2), y / (down + high / 2));
-  const [best] = ways.map(way => centred(spots.map(way))).sort((a, b) => fit(b) - fit(a));
-  const order = [...longest.keys()], ring = ringPlaces(order, { wide, high }, isNarrow);
-  if (fit(ring) > 1.3 * fit(best)) return { ...ring, places: names.map(name => ring.places[order.indexOf(name)]) };
-  return stretched(best, x / fit(best) - wide / 2, y / fit(best) - high / 2);
+  const [best] = ways.map(way => spread(spots.map(way), size, isNarrow)).sort((a, b) => b.scale - a.scale);
+  const circle = ringPlaces(names.length, size, isNarrow), ring = names.map(name => circle[order.indexOf(name)]);
+  return spread(ring, size, isNarrow).scale > 1.3 * best.scale ? ring : best.places;
 }
 
-/** These places, as far apart as there is room, but not more than twice as far. */
-function stretched({ across, down, places }, right, bottom) {
-  const x = Math.min(right / across, 2), y = Math.min(bottom / down, 2);
-  return { across: across * x, down: down * y, places: places.map(it => ({ x: it.x * x, y: it.y * y })) };
-}
-
-/** These places around their middle, and how far they reach from it. */
-function centred(places) {
-  const ends = way => [Math.min(...places.map(it => it[way])), Math.max(...places.map(it => it[way]))];
-  const [left, right] = ends("x"), [top, bottom] = ends("y"), x = (left + right) / 2, y = (top + bottom) / 2;
-  return { across: right - x, down: bottom - y, places: places.map(it => ({ x: it.x - x, y: it.y - y })) };
-}
-
-/** The places of all nodes, and how far they reach from the middle. */
+/** The place of each node, with its size. */
 function placesOf(names, tree, size, isNarrow) {
   const trees = levelsOf(names, tree);
-  const { places, ...reach } = trees ? treePlaces(names, trees, size, isNarrow) : ringPlaces(names, size, isNarrow);
-  return { ...reach, places: new Map(names.map((name, i) => [name, { ...places[i], ...size }])) };
+  const places = trees ? treePlaces(names, trees, size, isNarrow) : ringPlaces(names.length, size, isNarrow);
+  return new Map(names.map((name, i) => [name, { ...places[i], ...size }]));
 }

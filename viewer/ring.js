@@ -73,10 +73,10 @@ class Ring {
   constructor(element, { names, steps, parcels, tree }, isNarrow) {
     const most = steps.findLast(({ event }) => event?.outcome === "entered")?.event.number ?? 0, high = 46;
     const wide = 26 + 7.6 * Math.max(8, `inside ${most}`.length, ...names.map(name => name.length));
-    const { across, down, places } = placesOf(names, tree, { wide, high }, isNarrow);
+    Object.assign(this, { element, tree, places: placesOf(names, tree, { wide, high }, isNarrow) });
+    const reach = (way, least) => Math.max(...[...this.places.values()].map(it => Math.abs(it[way])), names.length > 1 ? least : 0);
     const margin = parcels.some(({ from, to }) => from === to) ? isNarrow ? 40 : 66 : 10;
-    const right = across + wide / 2 + margin, bottom = down + high / 2 + margin;
-    Object.assign(this, { element, places, tree });
+    const right = reach("x", 0) + wide / 2 + margin, bottom = reach("y", 150) + high / 2 + margin;
     element.setAttribute("viewBox", [-right, -bottom, 2 * right, 2 * bottom].join(" "));
   }
 
@@ -85,37 +85,31 @@ class Ring {
     const { chosen, arrived } = scene, isChosen = parcel => parcel.parcel === chosen.parcel;
     const drawn = unique([arrived, ...parcels.filter(isChosen), ...parcels]).slice(0, DRAWN);
     this.lines = []; // places on straight lines, which labels rather leave free
-    const waits = [...nodes].flatMap((entry, i) => hasWaits && i === (chosen.node ?? i) ? this.waits(...entry) : []);
-    const shapes = [...nodes].map((entry, i) => this.node(i, ...entry, scene));
-    const pointers = [...nodes].flatMap(([name, node]) => towards(node.told).map(other => this.pointer(name, other)));
+    const linesOf = (kind, others, title) => [...nodes].flatMap(([name, node], i) =>
+      others(node, i).map(other => this.line(kind, [name, other], title(name, other))));
+    const waits = (node, i) => hasWaits && i === (chosen.node ?? i) ? waitsFor(node) : [];
     const edges = this.tree.map(pair => this.line("tree", pair, `${pair.join(" and ")} are neighbours in the tree`));
     const links = cuts.map(pair => this.line("cut", pair, `the link between ${pair.join(" and ")} is cut`));
-    const [arrows, labels] = this.arrows(drawn, scene);
-    return [...edges, ...links, ...waits, ...pointers, ...arrows, ...shapes, ...labels];
+    const lines = linesOf("waits", waits, (name, other) => `${name} waits for ${other}`);
+    const pointers = linesOf("towards", ({ told }) => towards(told), (name, other) => `${name}: privilege towards ${other}`);
+    const shapes = [...nodes].map((entry, i) => this.node(i, ...entry, scene)), [arrows, labels] = this.arrows(drawn, scene);
+    return [...edges, ...links, ...lines, ...pointers, ...arrows, ...shapes, ...labels];
   }
 
-  /** A straight line between two nodes; nothing where one is not known, or both are the same. */
+  /** A straight line from one node to another, or only its start; nothing if one is not known, or both are the same. */
   line(kind, [name, other], title) {
     const a = this.places.get(name), b = this.places.get(other);
     if (!a || !b || a === b) return "";
-    return svg("g", { class: kind }, svg("title", {}, title), svg("path", { d: `M${xy(edge(a, b))}L${xy(edge(b, a))}` }));
-  }
-
-  /** The start of the way from a node to a neighbour, which leads to the privilege. */
-  pointer(name, other) {
-    const a = this.places.get(name), b = this.places.get(other);
-    if (!a || !b || a === b) return "";
-    const from = edge(a, b), { x, y } = unit(a, b), to = { x: from.x + 30 * x, y: from.y + 30 * y };
+    const from = edge(a, b), { x, y } = unit(a, b), to = kind === "towards" ? { x: from.x + 30 * x, y: from.y + 30 * y } : edge(b, a);
     const points = [from, mid(from, to), to];
-    return svg("g", { class: "towards" }, svg("title", {}, `${name}: privilege towards ${other}`),
-      svg("path", { d: pathOf(points) }), tip("towards", points));
+    if (kind === "waits") this.lines.push(...dots(points, 48));
+    return svg("g", { class: kind }, svg("title", {}, title), svg("path", { d: pathOf(points) }), TIPS[kind] ? tip(kind, points) : "");
   }
 
   node(i, name, node, { step, chosen, marked }) {
     const place = this.places.get(name), outline = OUTLINES[node.phase] ?? OUTLINES.idle;
     const star = node.told?.knows.some(({ fact }) => fact === "has the privilege") ? " \u2605" : "";
-    const kinds = { node: true, [node.phase]: true, acts: step?.node === name, marked: marked.includes(name),
-      chosen: chosen.node === i };
+    const kinds = { node: true, [node.phase]: true, acts: step?.node === name, marked: marked.includes(name), chosen: chosen.node === i };
     const button = { role: "button", tabindex: 0, "aria-pressed": kinds.chosen, "data-node": i };
     return svg("g", { ...button, "aria-label": `${name}, ${phaseText(node)}`, class: classes(kinds),
       transform: `translate(${xy(place)})` }, svg("path", { d: outline(place.wide / 2, place.high / 2) }),

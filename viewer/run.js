@@ -134,12 +134,13 @@ function eventText({ event, ...rest }) {
   return `${words.slice(0, cut).join(" ")}: ${words.slice(cut).join(" ")}`;
 }
 
-/** The text of a step that has no event. */
-function changeText({ changes }, parcels) {
+/** The text of an event, or of what a step changed without one. */
+function stepText({ event, place, changes }, parcels) {
+  if (event) return `${place} ${eventText(event)}`;
   const lost = changes.flatMap(({ lost }) => lost ? [fullText(parcels[+lost])] : []);
-  const cuts = changes.flatMap(({ cut }) => cut ? [cut.join(" ")] : []), links = cuts.length > 4 ? `${cuts.length} links` : cuts.join(", ");
-  return [lost.length && `lost ${lost.join(", ")}`, links && `cut ${links}`, changes.some(({ heal }) => heal) && "healed all links"]
-    .filter(Boolean).join(", ");
+  const cuts = changes.flatMap(({ cut }) => cut ? [cut.join(" ")] : []), isHealed = changes.some(({ heal }) => heal);
+  const links = cuts.length > 4 ? `${cuts.length} links` : cuts.join(", ");
+  return [lost.length && `lost ${lost.join(", ")}`, links && `cut ${links}`, isHealed && "healed all links"].filter(Boolean).join(", ");
 }
 
 function parcelText({ line: { parcel, from, to, kind, stamp, of, ...rest } }) {

@@ -11,18 +11,15 @@ addEventListener("error", ({ message }) => { byId("now").textContent = `This pag
 
 const outcomeAt = at => run.steps[at].event?.outcome;
 const parcelAt = at => run.parcels[+run.steps[at]?.event?.parcel];
-const textAt = at => {
-  const { event, place } = run.steps[at];
-  return event ? `${place} ${eventText(event)}` : changeText(run.steps[at], run.parcels);
-};
+const textAt = at => stepText(run.steps[at], run.parcels);
 const lineAt = at => parcelAt(at) ? `${textAt(at)} ${fullText(parcelAt(at))}` : textAt(at);
 const firstAt = at => Math.max(Math.floor(at / PAGE) * PAGE - 1, 0); // the first step that is listed then
 const addressAt = at => `#${run.steps[at]?.place ?? "start"}`;
 const sought = () => byId("sought").value.toLowerCase();
 
 const stepLink = at => html("a", { href: addressAt(at) }, lineAt(at));
-const parcelButton = parcel => html("button", { type: "button", class: `parcel ${kindOf(parcel, view.at)}`, "data-parcel": parcel.parcel,
-  "aria-pressed": view.chosen.parcel === parcel.parcel }, fullText(parcel));
+const parcelButton = parcel => html("button", { type: "button", class: `parcel ${kindOf(parcel, view.at)}`,
+  "data-parcel": parcel.parcel, "aria-pressed": view.chosen.parcel === parcel.parcel }, fullText(parcel));
 const parcelItem = parcel => html("li", {}, parcelButton(parcel));
 
 /** Moves a list so that one of its items is seen. */
@@ -51,8 +48,8 @@ function drawNow() {
   if (!event) return fill("now", html("b", {}, textAt(at)), ` ${note}`);
   const sends = sent.length > 2 ? [` sends ${sent.length} parcels`] : sent.flatMap((it, i) => [i ? ", " : " sends ", parcelButton(it)]);
   const more = parcelAt(at) ? [parcelButton(parcelAt(at)), ...sends] : sends, known = knownAt(at);
-  const why = reason ? `: ${reason}` : "";
-  const breaks = at === run.brokenAt ? `This breaks the run: ${clause}, ${broken.join(" and ")}${why}. ` : "";
+  const why = reason ? `: ${reason}` : "", rule = `${clause}, ${broken.join(" and ")}`;
+  const breaks = at === run.brokenAt ? `This breaks the run: ${rule}${why}. ` : "";
   return fill("now", html("b", { class: event.outcome }, textAt(at)), " ", ...more, ` ${known}${breaks}${note}`);
 }
 
@@ -118,10 +115,11 @@ function draw(before) {
   byId("slider").setAttribute("aria-valuetext", at < 0 ? "start" : textAt(at));
 }
 
-function sample(text, kind, end, isWide) {
-  const line = svg("path", { d: isWide ? "M2 0H46" : "M2 0H36" });
-  const ends = isWide ? "" : svg("path", { d: TIPS[end], class: "tip", transform: "translate(42 0)" });
-  return html("li", { class: kind }, svg("svg", { class: isWide ? kind : "arrow", viewBox: "0 -7 48 14" }, line, ends), text);
+/** What a line means: without an end, it is one of those without a tip. */
+function sample(text, kind = text, end = "") {
+  const line = svg("path", { d: end ? "M2 0H36" : "M2 0H46" });
+  const tip = end && svg("path", { d: TIPS[end], class: "tip", transform: "translate(42 0)" });
+  return html("li", { class: kind }, svg("svg", { class: end ? "arrow" : kind, viewBox: "0 -7 48 14" }, line, tip), text);
 }
 
 /** What only the run changes. */
@@ -132,11 +130,11 @@ function drawRun() {
   byId("slider").max = last;
   const link = html("a", { href: `#${index}`, class: "broken" }, `broken at ${index}: ${clause} \u2717`);
   fill("verdict", "Verdict: ", clause ? link : `${verdict} \u2713`);
-  const ofTree = [sample("tree", "tree", "", true), sample("towards the privilege", "towards", "towards")];
-  fill("legend", sample("request", "request", "arrives"), sample("grant", "grant", "arrives"),
-    sample("other", "other", "arrives"), sample("waits for", "waits", "waits"), ...(tree.length ? ofTree : []),
+  const letters = ["request", "grant", "other"].map(kind => sample(kind, kind, "arrives"));
+  fill("legend", ...letters, sample("waits for", "waits", "waits"),
+    ...(tree.length ? [sample("tree"), sample("towards the privilege", "towards", "towards")] : []),
     sample("delivered again", "other again", "arrives"), sample(isOpen ? "lost" : "never delivered", "lost", "lost"),
-    ...(isOpen ? [sample("cut link", "cut", "", true)] : []));
+    ...(isOpen ? [sample("cut link", "cut")] : []));
 }
 
 /** Takes the lines of a run. The view stays, so that `show` has to follow. */
