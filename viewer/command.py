@@ -8,10 +8,6 @@ class Fault(Exception):
     """Why a command does not do what it is for, in words for a reader."""
 
 
-class Misuse(Fault):
-    """Words that the command does not take."""
-
-
 def given():
     """The lines of standard input, as bytes."""
     if sys.stdin is None:
@@ -33,14 +29,21 @@ def say(text):
         sys.stderr.write(f"{text}\n")
 
 
-def main(name, usage, act):
-    """Calls `act` with the words of the command line, and ends with its status; `--help` prints the usage instead."""
+def main(name, usage, act, takes_words=False):
+    """Calls `act` with the words of the command line, if it takes any, and ends; `--help` prints the usage instead."""
+    words = sys.argv[1:]
     try:
-        put(f"{usage}\n".encode()) if {"-h", "--help"} & set(sys.argv) else act(*sys.argv[1:])
+        if {"-h", "--help"} & set(words):
+            put(f"{usage}\n".encode())
+        elif words and not takes_words:
+            say(f"{name}: it takes no words, and reads what mx prints; ./{name} --help shows how")
+            sys.exit(2)
+        else:
+            act(*words)
     except BrokenPipeError:  # whoever reads has enough
         sys.exit(1)
     except (Fault, OSError) as fault:
         say(f"{name}: {fault}")
-        sys.exit(2 if isinstance(fault, Misuse) else 1)
+        sys.exit(1)
     except KeyboardInterrupt:
         sys.exit(130)

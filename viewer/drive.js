@@ -2,12 +2,10 @@
 // algorithm is here: a button is disabled only if the phase of its node, or the state of its parcel, says why.
 
 const PHASES = { ask: "idle", enter: "waiting", cancel: "waiting", read: "inside", write: "inside", leave: "inside" };
-const PARCEL = ["deliver", "again", "lose"]; // the buttons of a parcel
 const LINES = { // what a button adds to the script, of a node or of a parcel
   __proto__: null,
-  read: name => `read ${name} ${byId("register").value}`,
+  read: name => `read ${name} ${byId("register").value}`, settle: name => `settle ${name} ${byId("upto").value.trim()}`,
   write: name => `write ${name} ${byId("register").value} ${byId("value").value.trim()}`,
-  settle: name => `settle ${name} ${byId("upto").value.trim()}`,
   want: name => `want ${name} ${byId("other").value}`, cut: name => `cut ${name} ${byId("other").value}`,
   deliver: (_, parcel) => `deliver ${parcel?.parcel}`, again: (_, parcel) => `deliver ${parcel?.parcel}`,
   lose: (_, parcel) => `lose ${parcel?.from} ${parcel?.to}`, all: () => "deliver all", heal: () => "heal",
@@ -15,7 +13,7 @@ const LINES = { // what a button adds to the script, of a node or of a parcel
   partition: () => `partition ${sides(true).join(" ")} | ${sides(false).join(" ")}`,
 };
 const tabs = new BroadcastChannel("drive"); // the other tabs of this browser
-let answer = JSON.parse(byId("answer").textContent), isBusy = false, drawn = null;
+let answer = JSON.parse(byId("answer").textContent), isBusy = false;
 
 const sides = isOff => [...byId("sides").querySelectorAll("input")].filter(it => it.checked === isOff).map(it => it.value);
 const linesOf = script => script === "" ? [] : script.split("\n");
@@ -24,6 +22,7 @@ const chosenNode = () => run.names[view.chosen.node];
 const chosenParcel = () => run.parcels[view.chosen.parcel];
 const lastEvent = () => run.steps.findLast(({ event }) => event)?.event;
 const lineOf = act => (LINES[act] ?? (name => `${act} ${name}`))(chosenNode(), chosenParcel());
+const add = line => change("try", textOf([...linesOf(answer.script), line]));
 const tell = (text, isBroken) => fill("told", html("span", { class: isBroken ? "broken" : "" }, text));
 
 /** Why a button cannot be used now; nothing if the program is to decide. */
@@ -31,7 +30,7 @@ function whyNot(act) {
   const name = chosenNode(), parcel = chosenParcel();
   if (answer.fault) return `Line ${answer.fault.line + 1} of the script is at fault: mend it first, or undo.`;
   if (view.at < last) return "This is the past: go to the end, or choose \u201CGo on from here\u201D.";
-  if (PARCEL.includes(act) && !parcel) return "Choose a parcel first.";
+  if (["deliver", "again", "lose"].includes(act) && !parcel) return "Choose a parcel first.";
   if (act in WHY) return WHY[act](parcel);
   const { phase } = nodesAfter(last).get(name) ?? {}, wanted = PHASES[act];
   return phase && wanted && phase !== wanted ? `${name} is ${phase}; ${act} is for a node that is ${wanted}.` : "";
@@ -44,8 +43,8 @@ const WHY = {
   again: it => it.deliveries.length ? "" : "It is not delivered yet.",
   lose: it => {
     const first = underWay(run, last).findLast(other => other.from === it.from && other.to === it.to && isFlying(other));
-    if (!isFlying(it)) return "It is not under way.";
-    return first === it ? "" : `A script can lose only the oldest from ${it.from} to ${it.to}, which is #${first.parcel}.`;
+    const other = `A script can lose only the oldest from ${it.from} to ${it.to}, which is #${first?.parcel}.`;
+    return !isFlying(it) ? "It is not under way." : first === it ? "" : other;
   },
   all: () => underWay(run, last).some(isFlying) ? "" : "Nothing is under way.",
   heal: () => cutAfter(run, last).length ? "" : "No link is cut.",
@@ -53,35 +52,28 @@ const WHY = {
   partition: () => sides(true).length && sides(false).length ? "" : "Tick some of the nodes, and not all.",
 };
 
-// Scripts
-
 /** Asks for a change, and takes what comes of it; of `try`, only if no line is at fault. Whether it was taken. */
 async function change(path, script = "") {
   if (isBusy) return false;
   isBusy = true;
-  try {
-    return settle(path, script, await ask(path, script));
-  } catch ({ message }) {
-    tell(message, true);
-    return false;
-  } finally {
-    isBusy = false;
-  }
+  const next = await ask(path, script).catch(({ message }) => tell(message, true));
+  isBusy = false;
+  return Boolean(next) && settle(path, script, next);
 }
 
 async function ask(path, script) {
-  const options = { method: "POST", headers: { "X-Drive": answer.version, "Content-Type": "text/plain" }, body: script };
+  const options = { method: "POST", headers: { "X-Drive": answer.version }, body: script };
   const given = await fetch(path, options).catch(() => { throw new Error("./drive does not answer; the script is still here."); });
   if (!given.ok) throw new Error(await given.text());
   return given.json();
 }
 
 function settle(path, script, next) {
-  const { fault, isOld } = next, isRefused = path === "try" && fault && !isOld;
+  const { fault, isOld, version } = next, isRefused = path === "try" && fault && !isOld;
+  if (!isRefused) take(next);
   if (isRefused) tell(`${linesOf(script)[fault.line]}: ${fault.text}`, true);
-  else take(next);
-  if (isOld) tell("Another tab has changed the script. This is it now; nothing else was done.", true);
-  else if (!isRefused) tabs.postMessage(next.version);
+  else if (isOld) tell("Another tab has changed the script. This is it now; nothing else was done.", true);
+  else tabs.postMessage(version);
   return !isOld && !isRefused;
 }
 
@@ -89,10 +81,9 @@ function take(next) {
   answer = next;
   tell("");
   load(next.run.map(line => JSON.parse(line)));
+  drawScript();
   show({ at: last });
 }
-
-const add = line => change("try", textOf([...linesOf(answer.script), line]));
 
 /** Of the text of an event its line in a script, or its outcome. */
 const partOf = (event, part) => eventText(event).split(": ")[part];
@@ -102,8 +93,6 @@ function scriptHere() {
   const at = view.at + 1, { ends, script } = answer, whole = ends.filter(end => end <= at).length, list = linesOf(script);
   return textOf([...list.slice(0, whole), ...run.steps.slice(ends[whole - 1] ?? 0, at).map(({ event }) => partOf(event, 0))]);
 }
-
-// Drawing
 
 function drawButton(button) {
   const { act } = button.dataset, why = whyNot(act), line = lineOf(act);
@@ -115,11 +104,9 @@ function drawButton(button) {
 function drawPanel() {
   const name = chosenNode(), parcel = chosenParcel();
   const state = it => it.deliveries.length ? "delivered" : isLost(it, last) ? "lost" : "under way";
-  const hide = (id, isHidden) => { byId(id).hidden = isHidden; };
-  hide("ofNode", name === undefined);
-  hide("ofParcel", !parcel);
-  hide("past", view.at === last || Boolean(answer.fault));
-  hide("withRegister", !byId("register").options.length);
+  const hidden = { ofNode: name === undefined, ofParcel: !parcel, past: view.at === last || Boolean(answer.fault),
+    withRegister: !byId("register").options.length };
+  Object.entries(hidden).forEach(([id, isHidden]) => { byId(id).hidden = isHidden; });
   const { fault, stuck } = answer, upTo = "is at fault, and the page shows the run before it. Mend the line, or undo.";
   fill("stuck", fault ? `Line ${fault.line + 1} ${upTo}` : view.at === last ? stuck : "");
   fill("wrong", fault ? `line ${fault.line + 1}: ${fault.text}` : "");
@@ -146,14 +133,16 @@ function lineItem(text, i) {
 
 /** The lines change with the script alone, and with the step only which of them is current. */
 function drawScript() {
-  const list = linesOf(answer.script), { ends } = answer, place = byId("script");
-  const current = view.at === last ? Math.min(ends.length, list.length) - 1 : ends.findIndex(end => end > view.at);
-  if (drawn !== answer) fill("script", ...list.map(lineItem));
-  if (!list.length) fill("script", html("li", { class: "faint" }, "Empty so far: choose a node, and let it ask."));
-  if (drawn !== answer) byId("draft").defaultValue = answer.script;
-  drawn = answer;
+  const none = html("li", { class: "faint" }, "Empty so far: choose a node, and let it ask.");
+  fill("script", ...answer.script ? linesOf(answer.script).map(lineItem) : [none]);
+  byId("draft").defaultValue = answer.script;
+}
+
+function drawCurrent() {
+  const { ends, script } = answer, place = byId("script"), done = Math.min(ends.length, linesOf(script).length);
+  const current = view.at === last ? done - 1 : ends.findIndex(end => end > view.at);
   place.querySelector("[aria-current]")?.removeAttribute("aria-current");
-  if (list.length) place.children[current]?.setAttribute("aria-current", "step");
+  if (done) place.children[current]?.setAttribute("aria-current", "step");
   reveal(place, place.querySelector(".fault, [aria-current]"));
 }
 
@@ -162,9 +151,8 @@ const drawLost = () => byId("parcels").append(
   ...lostBefore(run, view.at).map(it => html("li", { class: "lostParcels faint" }, parcelButton(it))));
 
 function drawChoices() {
-  const registers = nodeParts(nodesAfter(last).values().next().value).state.map(([word]) => word)
-    .filter(word => word.startsWith("register ")).map(word => word.slice(9));
-  fill("register", ...registers.map(it => html("option", {}, it)));
+  const { registers } = [...nodesAfter(last).values()][0].told;
+  fill("register", ...registers.map(([register]) => html("option", {}, register)));
   fill("sides", ...run.names.map(it => html("label", {}, html("input", { type: "checkbox", value: it }), it)));
 }
 
@@ -172,8 +160,6 @@ function drawOthers() {
   const was = byId("other").value, names = run.names.filter(it => it !== chosenNode());
   fill("other", ...names.map(it => html("option", it === was ? { selected: "" } : {}, it)));
 }
-
-// What buttons and keys do
 
 function use(button) {
   const { act, line } = button.dataset;
@@ -183,9 +169,8 @@ function use(button) {
 }
 
 function tap(act) {
-  const button = document.querySelector(`#drive [data-act=${act}]`), isShown = button.checkVisibility();
-  if (isShown) use(button);
-  else tell(`Choose a ${button.closest("#ofParcel") ? "parcel" : "node"} first.`, true);
+  const button = document.querySelector(`#drive [data-act=${act}]`), of = button.closest("#ofParcel") ? "parcel" : "node";
+  return button.checkVisibility() ? use(button) : tell(`Choose a ${of} first.`, true);
 }
 
 function chooseParcel(way) {
@@ -237,6 +222,7 @@ on("add", "submit", async event => {
   if (line && await add(line)) byId("line").value = "";
 });
 tabs.onmessage = ({ data }) => data !== answer.version && change("now");
-drawers.push(drawOthers, drawPanel, drawScript, drawLost);
+drawers.push(drawOthers, drawPanel, drawCurrent, drawLost);
 drawChoices();
+drawScript();
 show({ at: last });

@@ -1,5 +1,4 @@
 """Runs scripts of one plan with the program `mx`. Nothing is known here but the words that the program prints."""
-import contextlib
 import json
 import os
 import re
@@ -48,6 +47,7 @@ class Engine:
 
     def __init__(self, path):
         self.program, self.plan = program(), contents(path, "plan")
+        resource.setrlimit(resource.RLIMIT_FSIZE, (MOST, resource.getrlimit(resource.RLIMIT_FSIZE)[1]))  # also of the program
         status, printed, told = self.ran("explain", "-", text=self.plan)
         if status:
             raise Fault("the plan is at fault:\n" + re.sub("^-:", f"{path}:", printed or told, flags=re.MULTILINE).strip())
@@ -56,29 +56,18 @@ class Engine:
 
     def ran(self, *words, text):
         """The status, the output and the errors of the program, which ends in time and prints no more than it may."""
-        with contextlib.ExitStack() as opened:
-            streams = {name: opened.enter_context(tempfile.TemporaryFile()) for name in ("stdin", "stdout", "stderr")}
-            streams["stdin"].write(text)
-            streams["stdin"].seek(0)
-            status = self.status(words, streams)
-            for name in ("stdout", "stderr"):
-                streams[name].seek(0)
-            return status, *(streams[name].read().decode(errors="replace") for name in ("stdout", "stderr"))
-
-    def status(self, words, streams):
-        try:
-            with subprocess.Popen([self.program, *words], **streams) as running, contextlib.ExitStack() as at_end:
-                at_end.callback(running.kill)
-                with contextlib.suppress(ProcessLookupError):
-                    resource.prlimit(running.pid, resource.RLIMIT_FSIZE, (MOST, MOST))
-                status = running.wait(self.longest)
-        except subprocess.TimeoutExpired:
-            raise Fault(f"the program took more than {self.longest} seconds, and was ended")
-        except OSError as error:
-            raise Fault(f"the program cannot be run: {error}")
-        if status < 0:
-            raise Fault(f"the program printed more than {MOST} bytes, or failed: signal {-status}")
-        return status
+        with tempfile.TemporaryFile() as printed:
+            streams = {"input": text, "stdout": printed, "stderr": subprocess.PIPE}
+            try:
+                ended = subprocess.run([self.program, *words], timeout=self.longest, **streams)
+            except subprocess.TimeoutExpired:
+                raise Fault(f"the program took more than {self.longest} seconds, and was ended")
+            except OSError as error:
+                raise Fault(f"the program cannot be run: {error}")
+            if ended.returncode < 0:
+                raise Fault(f"the program printed more than {MOST} bytes, or failed: signal {-ended.returncode}")
+            printed.seek(0)
+            return ended.returncode, printed.read().decode(errors="replace"), ended.stderr.decode(errors="replace")
 
     def replay(self, script):
         return self.ran("replay", "-", "-", "--script", "--json", "--state", text=self.line + script.encode())
@@ -94,7 +83,7 @@ class Engine:
             raise Fault(told.strip() or f"the program ended with status {status}")
         ends, notes, stuck = self.ends(done)
         run = list(lines.lines_of([*self.starts, *woven(printed.splitlines(), notes)]))
-        fault = {"line": int(found[1]) - 1, "text": found[2]} if found else None
+        fault = found and {"line": int(found[1]) - 1, "text": found[2]}
         return {"run": run, "script": script, "ends": ends, "fault": fault, "stuck": stuck}
 
     def ends(self, script):

@@ -13,12 +13,10 @@ KINDS = {  # the member that tells the kind of a line, and what else such a line
     "act": ["outcome"], "kind": ["parcel", "from", "to"], "phase": ["node", "mine", "knows"],
     "stuck": [], "lost": [], "cut": [], "heal": [], "clause": ["verdict", "index"], "verdict": [],
 }
-COUNTERS = {"act": "event", "kind": "parcel"}
 TEXTS = """act node register from to outcome cause kind of phase fact verdict clause reason event parcel index number
     value writes count upto stamp top grant last hop mine records gapless lost line""".split()
-LISTS = ["ranges", "numbers", "knows", "values", "cut"]
-TYPES = {**dict.fromkeys(TEXTS, str), **dict.fromkeys(LISTS, list), "registers": dict, "heal": bool}
-PARTS = ["connect", "open", "drive_style", "drive_panel", "drive_lines", "drive_script"]  # which only ./drive fills
+TYPES = {**dict.fromkeys(TEXTS, str), **dict.fromkeys(["ranges", "numbers", "knows", "values", "cut"], list),
+         "registers": dict, "heal": bool}
 
 
 def members(line, needed=()):
@@ -58,7 +56,7 @@ def read(text, counts):
     kind = next((key for key in KINDS if type(line) is dict and key in line), "verdict")
     if counts["clause"] or counts["verdict"]:
         raise Fault("it follows the verdict")
-    line, counter = members(line, [kind, *KINDS[kind]]), COUNTERS.get(kind)
+    line, counter = members(line, [kind, *KINDS[kind]]), {"act": "event", "kind": "parcel"}.get(kind)
     if line.get(counter, str(counts[kind])) != str(counts[kind]):
         raise Fault(f"{counter} {counts[kind]} is missing: a page shows a whole run")
     check(kind, line, counts)
@@ -103,10 +101,11 @@ def content(name):
 
 
 def page_of(lines, **parts):
-    """The page of these lines, as bytes, with these parts beside those of the folder viewer."""
-    parts = {**dict.fromkeys(PARTS, ""), **parts, "run": shielded("[\n" + ",\n".join(lines) + "\n]")}
-    text = re.sub("@(.+?)@", lambda part: parts[part[1]] if part[1] in parts else content(part[1]), content("page.html"))
-    return text.encode()
+    """The page of these lines, as bytes. With an answer of ./drive among these parts, it has the files of ./drive, too."""
+    parts["run"] = shielded("[\n" + ",\n".join(lines) + "\n]")
+    files = re.findall(r"@(\w+\.\w+)@", content("page.html"))
+    parts |= {name: content(name) for name in files if "answer" in parts or not name.startswith("drive")}
+    return re.sub("@(.+?)@", lambda hole: parts.get(hole[1], ""), content("page.html")).encode()
 
 
 def shielded(text):

@@ -1,14 +1,13 @@
 // Where the nodes stand, around the middle of the drawing: in a ring, or, of many nodes with a tree, as this tree.
 
 const FEW = 7; // of more nodes, a chosen one hides the parcels of others, and a tree is drawn as one
-const MANY = 64; // of more nodes, which no plan has, no tree is looked for
 const ROOMS = { false: { x: 520, y: 360 }, true: { x: 360, y: 420 } }; // for a drawing in a small window, and on a phone
 
 /** The places in a ring of so many nodes of this size. On a phone it is slim, if that goes. */
 function ringPlaces(count, { wide, high }, isNarrow) {
   const circle = 2 * Math.PI, start = count === 2 ? Math.PI : Math.PI / 2;
   const radius = (least, size) => count > 1 ? Math.max(least, count * size / circle) : 0;
-  const across = isNarrow && count <= FEW ? radius(125, 0) : radius(240, wide + 20), down = radius(150, high + 18);
+  const across = isNarrow && count <= FEW ? radius(125, 0) : radius(240, wide + 26), down = radius(150, high + 26);
   const angles = Array.from({ length: count }, (_, i) => circle * i / count - start);
   return angles.map(angle => ({ x: across * Math.cos(angle), y: down * Math.sin(angle) }));
 }
@@ -36,7 +35,7 @@ function levelsBelow(root, near) {
 /** The tree from that node on from which it has the fewest levels, and from one with the most; nothing if these pairs are
   * no tree of all nodes. */
 function levelsOf(names, pairs) {
-  if (names.length <= FEW || names.length > MANY || pairs.length !== names.length - 1) return undefined;
+  if (names.length <= FEW || pairs.length !== names.length - 1) return undefined;
   const near = new Map(names.map(name => [name, pairs.filter(pair => pair.includes(name)).flat().filter(it => it !== name)]));
   const most = levels => Math.max(...[...levels.values()].map(({ level }) => level));
   const trees = names.map(name => levelsBelow(name, near)).sort((a, b) => most(a) - most(b));
@@ -60,7 +59,7 @@ function treePlaces(names, [levels, longest], size, isNarrow) {
   const { wide, high } = size, spots = names.map(name => levels.get(name)), order = [...longest.keys()];
   const slots = 1 + Math.max(...spots.map(({ slot }) => slot)), angle = slot => 2 * Math.PI * (slot + 0.5) / slots;
   const leaves = Math.min(...spots.filter(({ below }) => !below.length).map(({ level }) => level));
-  const step = wide => Math.max(wide + 30, slots * (wide + 20) / (2 * Math.PI * leaves));
+  const step = wide => Math.max(wide + 30, slots * (wide + 26) / (2 * Math.PI * leaves));
   const ways = [
     ({ level, slot }) => ({ x: slot * (wide + 14), y: level * (high + 40) }),
     ({ level, slot }) => ({ x: level * (wide + 40), y: slot * (high + 10) }),

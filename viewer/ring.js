@@ -81,13 +81,13 @@ class Ring {
   }
 
   /** What is drawn of a scene; of too many arrows, those that the scene is about. */
-  draw({ nodes, parcels, cuts, hasWaits, ...scene }) {
+  draw({ nodes, parcels, cuts, shows, ...scene }) {
     const { chosen, arrived } = scene, isChosen = parcel => parcel.parcel === chosen.parcel;
     const drawn = unique([arrived, ...parcels.filter(isChosen), ...parcels]).slice(0, DRAWN);
     this.lines = []; // places on straight lines, which labels rather leave free
     const linesOf = (kind, others, title) => [...nodes].flatMap(([name, node], i) =>
       others(node, i).map(other => this.line(kind, [name, other], title(name, other))));
-    const waits = (node, i) => hasWaits && i === (chosen.node ?? i) ? waitsFor(node) : [];
+    const waits = (node, i) => shows.waits && i === (chosen.node ?? i) ? waitsFor(node) : [];
     const edges = this.tree.map(pair => this.line("tree", pair, `${pair.join(" and ")} are neighbours in the tree`));
     const links = cuts.map(pair => this.line("cut", pair, `the link between ${pair.join(" and ")} is cut`));
     const lines = linesOf("waits", waits, (name, other) => `${name} waits for ${other}`);
@@ -204,7 +204,7 @@ class Ring {
   /** The mark of a delivery, at the end of its arrow; if it lasts some seconds, it moves there. */
   dot(points, lasts) {
     if (!lasts) return svg("circle", { class: "dot", r: 7, cx: points[2].x, cy: points[2].y });
-    const motion = { path: pathOf(points), begin: `${this.element.getCurrentTime()}s`, dur: `${lasts}s` };
-    return svg("circle", { class: "dot", r: 7 }, svg("animateMotion", { ...motion, fill: "freeze" }));
+    const motion = { path: pathOf(points), begin: `${this.element.getCurrentTime()}s`, dur: `${lasts}s`, fill: "freeze" };
+    return svg("circle", { class: "dot", r: 7 }, svg("animateMotion", motion));
   }
 }

@@ -6,10 +6,8 @@ const WAITS = ["missing", "privilege towards"]; // the facts that name the nodes
 const ALGORITHMS = { privilege: "Raymond", arbiter: "Maekawa", clock: "Ricart and Agrawala" }; // by a fact that only it has
 const EFFECTS = { // of an outcome, on the node of its event
   __proto__: null, // a file may have any outcome
-  asked: () => ({ phase: "waiting" }),
-  entered: ({ number }) => ({ phase: "inside", mine: number }),
-  left: () => ({ phase: "idle" }),
-  cancelled: () => ({ phase: "idle" }),
+  asked: () => ({ phase: "waiting" }), entered: ({ number }) => ({ phase: "inside", mine: number }),
+  left: () => ({ phase: "idle" }), cancelled: () => ({ phase: "idle" }),
 };
 
 const unique = items => [...new Set(items)].filter(item => item !== undefined);
@@ -18,9 +16,10 @@ const unique = items => [...new Set(items)].filter(item => item !== undefined);
   * after it, and a place, which its address names: the number of an event. An open run may go on. */
 function readRun(lines, isOpen) {
   const run = { steps: [], parcels: [], told: [], links: [], verdict: lines.at(-1), count: 0 };
+  const nodeOf = ({ node, parcel }) => node ?? run.parcels[+parcel]?.to;
   for (const line of lines) {
     const at = run.steps.length - 1, { sent, told } = run.steps[at] ?? run;
-    if (line.act) run.steps.push(stepOf(run, line));
+    if (line.act) run.steps.push({ event: line, node: nodeOf(line), sent: [], told: [], changes: [], place: `${run.count++}` });
     else if (line.kind) sent.push(run.parcels[+line.parcel] = { ...line, line, sentAt: at, deliveries: [], isOpen });
     else if (line.phase) told.push(line);
     else if (line.lost || line.cut || line.heal) addChange(run, line);
@@ -28,11 +27,6 @@ function readRun(lines, isOpen) {
   run.steps.forEach(({ event }, at) => run.parcels[+event?.parcel]?.deliveries.push(at));
   run.brokenAt = run.steps.findIndex(({ place }) => place === run.verdict.index);
   return { ...run, names: namesOf(run), ...shapeOf(run) };
-}
-
-function stepOf(run, event) {
-  const node = event.node ?? run.parcels[+event.parcel]?.to;
-  return { event, node, sent: [], told: [], changes: [], place: `${run.count++}` };
 }
 
 /** What one line of a script changed is one step. */
@@ -155,6 +149,5 @@ function nodeParts({ told, ...node }) {
   if (!told) return { state, facts: [] };
   const counts = ["records", "gapless"].map(word => [word, `${word} ${told[word]}`]);
   const values = (told.registers ?? []).map(([register, value]) => [`register ${register}`, `${register}=${value}`]);
-  const facts = told.knows.map(fact => [fact.fact, factText(fact)]);
-  return { state: [...state, ...counts, ...values], facts };
+  return { state: [...state, ...counts, ...values], facts: told.knows.map(fact => [fact.fact, factText(fact)]) };
 }

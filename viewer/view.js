@@ -5,8 +5,7 @@ const byId = id => document.getElementById(id);
 const isOpen = "open" in document.querySelector("main").dataset, narrow = matchMedia("(max-width: 40rem)");
 const timers = {}, drawers = []; // what else draws, after a view has changed
 let run, last, nodesAfter, broken, ring;
-let view = { at: -1, chosen: {}, hasLost: true, hasWaits: true, note: "" };
-
+let view = { at: -1, chosen: {}, shows: { lost: true, waits: true }, note: "" };
 addEventListener("error", ({ message }) => { byId("now").textContent = `This page cannot show the run: ${message}`; });
 
 const outcomeAt = at => run.steps[at].event?.outcome;
@@ -84,24 +83,24 @@ function parcelHistory(parcel) {
   return [html("h3", {}, fullText(parcel)), html("ul", {}, item(sentAt, "sent: "), ...lost, ...got, ...open)];
 }
 
-function historyOf({ node, parcel }) {
-  const name = run.names[node];
-  if (run.parcels[parcel]) return parcelHistory(run.parcels[parcel]);
-  if (name === undefined) return ["Choose a node or a parcel."];
+function nodeHistory(name) {
   const done = [...run.steps.keys()].filter(at => at <= view.at && run.steps[at].node === name).reverse();
   const item = at => html("li", {}, stepLink(at), html("ul", {}, ...run.steps[at].sent.map(parcelItem)));
   return [html("h3", {}, `${name}: ${done.length} events up to this step, newest first`),
     html("ul", {}, ...done.slice(0, SHOWN).map(item))];
 }
 
+const historyOf = ({ node, parcel }) => run.parcels[parcel] ? parcelHistory(run.parcels[parcel])
+  : run.names[node] === undefined ? ["Choose a node or a parcel."] : nodeHistory(run.names[node]);
+
 function draw(before) {
   const { at, chosen } = view, nodes = nodesAfter(at), earlier = nodesAfter(Math.max(at - 1, -1));
   const name = nodes.size > FEW ? run.names[chosen.node] : undefined;
-  const isMeant = it => it && (view.hasLost || !isLost(it, at)) && [it.from, it.to, undefined].includes(name);
+  const isMeant = it => it && (view.shows.lost || !isLost(it, at)) && [it.from, it.to, undefined].includes(name);
   const parcels = underWay(run, at).filter(isMeant), arrived = [parcelAt(at)].find(isMeant);
   const moves = at === before.at + 1 && !matchMedia("(prefers-reduced-motion: reduce)").matches;
   const lasts = moves ? Math.min(0.6, 0.7 / byId("speed").value) : 0, more = parcels.length - LISTED;
-  const scene = { nodes, parcels, at, chosen, lasts, step: run.steps[at], arrived, cuts: cutAfter(run, at), hasWaits: view.hasWaits };
+  const scene = { nodes, parcels, at, chosen, lasts, step: run.steps[at], arrived, cuts: cutAfter(run, at), shows: view.shows };
   fill("ring", ...ring.draw({ ...scene, marked: at === run.brokenAt ? broken : [] }));
   fill("way", `Parcels under way${name === undefined ? "" : ` to or from ${name}`}`);
   fill("parcels", ...parcels.slice(0, LISTED).map(parcelItem), more > 0 ? `and ${more} more` : "");
@@ -218,8 +217,7 @@ document.addEventListener("pointerover", point);
 addEventListener("hashchange", showAddress);
 on("slider", "input", ({ target }) => show({ at: +target.value }));
 on("rows", "change", ({ target }) => show({ at: firstAt(view.at) + target.selectedIndex }));
-on("lost", "change", ({ target }) => show({ hasLost: target.checked }));
-on("waits", "change", ({ target }) => show({ hasWaits: target.checked }));
+for (const id of ["lost", "waits"]) on(id, "change", ({ target }) => show({ shows: { ...view.shows, [id]: target.checked } }));
 on("speed", "change", () => play(timers.play));
 on("find", "submit", event => { event.preventDefault(); DO.next(1); });
 narrow.addEventListener("change", () => { ring = new Ring(byId("ring"), run, narrow.matches); show({}); });
