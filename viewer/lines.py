@@ -50,9 +50,8 @@ def refused(number):
     raise Fault(f"{number} is no number of a run")
 
 
-def read(text, counts):
-    """A line of a run, after so many of each kind. Its numbers are texts: those of a browser hold 53 bits."""
-    line = json.loads(text, parse_int=str, parse_float=refused, parse_constant=refused)
+def read(line, counts):
+    """What the page shows of a line, after so many of each kind."""
     kind = next((key for key in KINDS if type(line) is dict and key in line), "verdict")
     if counts["clause"] or counts["verdict"]:
         raise Fault("it follows the verdict")
@@ -82,11 +81,12 @@ def check(kind, line, counts):
 
 
 def lines_of(source):
-    """The lines of a run as the page reads them."""
-    counts, at = dict.fromkeys(KINDS, 0), 0
+    """The lines of a run as the page reads them. Their numbers become texts: those of a browser hold 53 bits."""
+    counts, at, writer = dict.fromkeys(KINDS, 0), 0, json.JSONEncoder(separators=(",", ":"))
+    reader = json.JSONDecoder(parse_int=str, parse_float=refused, parse_constant=refused)
     try:
         for at, text in enumerate(source, 1):
-            yield json.dumps(read(text, counts), separators=(",", ":"))
+            yield writer.encode(read(reader.decode(text if type(text) is str else text.decode()), counts))
     except Fault as fault:
         raise Fault(f"line {at}: {fault}")
     except (ValueError, RecursionError):
