@@ -5,13 +5,14 @@ import os
 import shutil
 import subprocess
 import tempfile
+import threading
 import time
 
 CHROMIUM = shutil.which(os.environ.get("CHROMIUM", "chromium"))
 OPTIONS = ["--headless", "--no-sandbox", "--disable-gpu", "--disable-dev-shm-usage", "--no-first-run",
            "--force-prefers-reduced-motion", "--remote-debugging-pipe"]
 CODES = {"Enter": 13, "Escape": 27, "ArrowLeft": 37, "ArrowRight": 39, "Home": 36, "End": 35, " ": 32, "Tab": 9}
-LONGEST = 20  # seconds
+LONGEST, WHOLE = 20, 600  # seconds, of one wait and of the browser
 
 
 class Browser:
@@ -25,6 +26,8 @@ class Browser:
         self.process = subprocess.Popen(words, pass_fds=(theirs, answers), stdout=subprocess.DEVNULL, stderr=subprocess.DEVNULL)
         os.close(theirs)
         os.close(answers)
+        self.timer = threading.Timer(WHOLE, self.process.kill)
+        self.timer.start()
         self.answers, self.calls, self.session, self.events = os.fdopen(self.of, "rb"), 0, None, []
         self.tab()
 
@@ -32,6 +35,7 @@ class Browser:
         return self
 
     def __exit__(self, *_):
+        self.timer.cancel()
         self.process.terminate()
         self.process.wait()
         os.close(self.to)

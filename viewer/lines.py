@@ -103,9 +103,9 @@ def content(name):
 def page_of(lines, **parts):
     """The page of these lines, as bytes. With an answer of ./drive among these parts, it has the files of ./drive, too."""
     parts["run"] = shielded("[\n" + ",\n".join(lines) + "\n]")
-    files = re.findall(r"@(\w+\.\w+)@", content("page.html"))
-    parts |= {name: content(name) for name in files if "answer" in parts or not name.startswith("drive")}
-    return re.sub("@(.+?)@", lambda hole: parts.get(hole[1], ""), content("page.html")).encode()
+    skipped = () if "answer" in parts else ("drive",)
+    text = re.sub(r"@(\w+\.\w+)@", lambda it: "" if it[1].startswith(skipped) else content(it[1]), content("page.html"))
+    return re.sub(r"@(\w+)@", lambda it: parts.get(it[1], ""), text).encode()
 
 
 def shielded(text):
