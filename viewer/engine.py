@@ -10,7 +10,7 @@ import lines
 from command import Fault
 
 HERE = os.path.dirname(lines.VIEWER)
-LARGEST, MOST = 1 << 20, 1 << 24  # bytes of a plan or a script, and of what the program prints
+PLAN, LARGEST, MOST = 1 << 16, 1 << 20, 1 << 24  # bytes of a plan, of a script, and of what the program prints
 NOTES = [  # what `play` prints of what is no event, and the line of a run that says so
     (r"lost #(\d+) ", lambda found: {"lost": int(found[1])}),
     (r"cut (\S+)(?: (\S+))?$", lambda found: {"cut": [name for name in found.groups() if name]}),
@@ -29,15 +29,15 @@ def program():
     return found.stdout.strip()
 
 
-def contents(path, what):
+def contents(path, what, most):
     """The bytes of a file."""
     try:
         with open(path, "rb") as file:
-            text = file.read(LARGEST + 1)
+            text = file.read(most + 1)
     except (OSError, ValueError) as error:
         raise Fault(f"cannot read the {what}: {error}")
-    if len(text) > LARGEST:
-        raise Fault(f"the {what} has more than {LARGEST} bytes")
+    if len(text) > most:
+        raise Fault(f"the {what} has more than {most} bytes")
     return text
 
 
@@ -46,7 +46,7 @@ class Engine:
     longest = 10  # seconds of the program
 
     def __init__(self, path):
-        self.program, self.plan = program(), contents(path, "plan")
+        self.program, self.plan = program(), contents(path, "plan", PLAN)
         resource.setrlimit(resource.RLIMIT_FSIZE, (MOST, resource.getrlimit(resource.RLIMIT_FSIZE)[1]))  # also of the program
         status, printed, told = self.ran("explain", "-", text=self.plan)
         if status:
