@@ -80,7 +80,7 @@ function settle(path, script, next) {
 function take(next) {
   answer = next;
   tell("");
-  load(next.run.map(line => JSON.parse(line)));
+  load(next.run);
   drawScript();
   show({ at: last });
 }
