@@ -3,6 +3,7 @@ import base64
 import json
 import os
 import shutil
+import signal
 import subprocess
 import tempfile
 import threading
@@ -19,11 +20,12 @@ class Browser:
     """One page in one browser. With `with`, the browser ends at the end."""
 
     def __init__(self):
-        self.room = tempfile.TemporaryDirectory()
+        self.room = tempfile.TemporaryDirectory(ignore_cleanup_errors=True)
         theirs, self.to = os.pipe()
         self.of, answers = os.pipe()
         words = ["sh", "-c", f'exec "$@" 3<&{theirs} 4>&{answers}', "sh", CHROMIUM, *OPTIONS, f"--user-data-dir={self.room.name}"]
-        self.process = subprocess.Popen(words, pass_fds=(theirs, answers), stdout=subprocess.DEVNULL, stderr=subprocess.DEVNULL)
+        streams = {"stdout": subprocess.DEVNULL, "stderr": subprocess.DEVNULL, "pass_fds": (theirs, answers)}
+        self.process = subprocess.Popen(words, start_new_session=True, **streams)
         os.close(theirs)
         os.close(answers)
         self.timer = threading.Timer(WHOLE, self.process.kill)
@@ -36,7 +38,7 @@ class Browser:
 
     def __exit__(self, *_):
         self.timer.cancel()
-        self.process.terminate()
+        os.killpg(self.process.pid, signal.SIGKILL)  # the browser, and the processes that it has begun
         self.process.wait()
         os.close(self.to)
         self.answers.close()

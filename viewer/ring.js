@@ -102,7 +102,7 @@ class Ring {
     if (!a || !b || a === b) return "";
     const from = edge(a, b), { x, y } = unit(a, b), to = kind === "towards" ? { x: from.x + 30 * x, y: from.y + 30 * y } : edge(b, a);
     const points = [from, mid(from, to), to];
-    if (kind === "waits") this.lines.push(...dots(points, 48));
+    if (TIPS[kind]) this.lines.push(...dots(points, 48));
     return svg("g", { class: kind }, svg("title", {}, title), svg("path", { d: pathOf(points) }), TIPS[kind] ? tip(kind, points) : "");
   }
 
