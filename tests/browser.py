@@ -13,7 +13,7 @@ CHROMIUM = shutil.which(os.environ.get("CHROMIUM", "chromium"))
 OPTIONS = ["--headless", "--no-sandbox", "--disable-gpu", "--disable-dev-shm-usage", "--no-first-run",
            "--force-prefers-reduced-motion", "--remote-debugging-pipe"]
 CODES = {"Enter": 13, "Escape": 27, "ArrowLeft": 37, "ArrowRight": 39, "Home": 36, "End": 35, " ": 32, "Tab": 9}
-LONGEST, WHOLE = 20, 600  # seconds, of one wait and of the browser
+LONGEST, WHOLE = 120, 600  # seconds, of one wait and of the browser
 
 
 class Browser:

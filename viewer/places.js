@@ -1,4 +1,4 @@
-// Where the nodes stand, around the middle of the drawing: in a ring, or, of many nodes with a tree, as this tree.
+// The places of the nodes, around the middle of the drawing: in a ring, or, of many nodes with a tree, as this tree.
 
 const FEW = 7; // of more nodes, a chosen one hides the parcels of others, and a tree is drawn as one
 const ROOMS = { false: { x: 520, y: 360 }, true: { x: 360, y: 420 } }; // for a drawing in a small window, and on a phone
