@@ -30,7 +30,7 @@ function reveal(list, item) {
 
 /** Puts these into a place; what had the focus there gets it again. */
 function fill(id, ...children) {
-  const place = byId(id), { dataset = {} } = place.querySelector(":focus") ?? {};
+  const place = byId(id), focused = document.activeElement, { dataset } = place.contains(focused) ? focused : { dataset: {} };
   place.replaceChildren(...children);
   Object.entries(dataset).forEach(([key, value]) => place.querySelector(`[data-${key}="${value}"]`)?.focus());
 }
