@@ -1,92 +1,150 @@
-// The page: it follows from the run and the view, and only `show` changes the view.
+// The page: it follows from the run and the view. Only `show` changes the view, and only `load` the run.
 
-const PAGE = 100, SHOWN = 40; // so many events are in the list at a time, and of a node's history
+const PAGE = 100, SHOWN = 40, LISTED = 200; // so many steps are listed at a time, events of a node, and parcels
 const byId = id => document.getElementById(id);
-const run = readRun(JSON.parse(byId("run").textContent)), last = run.steps.length - 1;
-const nodesAfter = statesOf(run), broken = concerned(run, nodesAfter), ring = new Ring(byId("ring"), run);
-const timers = {};
-let view = { at: -1, chosen: {}, hasLost: true, note: "" };
+const isOpen = "open" in document.querySelector("main").dataset, narrow = matchMedia("(max-width: 40rem)");
+const timers = {}, drawers = []; // what else draws, after a view has changed
+let run, last, nodesAfter, broken, ring;
+let view = { at: -1, chosen: {}, shows: { lost: true, waits: true }, note: "" };
+addEventListener("error", ({ message }) => { byId("now").textContent = `This page cannot show the run: ${message}`; });
 
-const outcomeAt = at => run.steps[at].event.outcome;
-const parcelAt = at => run.parcels[+run.steps[at]?.event.parcel];
-const textAt = at => `${at} ${eventText(run.steps[at].event)}`;
+const outcomeAt = at => run.steps[at].event?.outcome;
+const parcelAt = at => run.parcels[+run.steps[at]?.event?.parcel];
+const textAt = at => stepText(run.steps[at], run.parcels);
 const lineAt = at => parcelAt(at) ? `${textAt(at)} ${fullText(parcelAt(at))}` : textAt(at);
-const firstAt = at => Math.max(Math.floor(at / PAGE) * PAGE - 1, 0); // the first event that is listed then
+const firstAt = at => Math.max(Math.floor(at / PAGE) * PAGE - 1, 0); // the first step that is listed then
+const addressAt = at => `#${run.steps[at]?.place ?? "start"}`;
 const sought = () => byId("sought").value.toLowerCase();
 
-const eventLink = at => html("a", { href: `#${at}` }, lineAt(at));
-const parcelItem = parcel => html("li", { class: kindOf(parcel) },
-  html("button", { type: "button", class: "parcel", "data-parcel": parcel.parcel }, fullText(parcel)));
+const stepLink = at => html("a", { href: addressAt(at) }, lineAt(at));
+const parcelButton = parcel => html("button", { type: "button", class: `parcel ${kindOf(parcel, view.at)}`,
+  "data-parcel": parcel.parcel, "aria-pressed": view.chosen.parcel === parcel.parcel }, fullText(parcel));
+const parcelItem = parcel => html("li", {}, parcelButton(parcel));
+
+/** Moves a list so that one of its items is seen. */
+function reveal(list, item) {
+  if (!item) return;
+  const { top, bottom } = list.getBoundingClientRect(), box = item.getBoundingClientRect();
+  list.scrollTop += Math.min(box.top - top - 2, 0) || Math.max(box.bottom - bottom + 2, 0);
+}
 
 /** Puts these into a place; what had the focus there gets it again. */
 function fill(id, ...children) {
-  const place = byId(id), { dataset = {} } = place.querySelector(":focus") ?? {};
+  const place = byId(id), focused = document.activeElement, { dataset } = place.contains(focused) ? focused : { dataset: {} };
   place.replaceChildren(...children);
   Object.entries(dataset).forEach(([key, value]) => place.querySelector(`[data-${key}="${value}"]`)?.focus());
 }
 
-function drawNow() {
-  const { at, note } = view, { event, sent } = run.steps[at] ?? {}, { index, clause, reason } = run.verdict;
-  if (!event) return fill("now", html("b", {}, "Start"), ` before the first of ${last + 1} events. ${note}`);
-  const sends = sent.length > 2 ? [`sends ${sent.length} parcels`] : sent.map(it => `sends ${fullText(it)}`);
-  const more = parcelAt(at) ? [fullText(parcelAt(at)), ...sends] : sends;
-  const why = reason ? `: ${reason}` : "";
-  const breaks = at === +index ? `This breaks the run: ${clause}, ${broken.join(" and ")}${why}. ` : "";
-  return fill("now", html("b", { class: event.outcome }, textAt(at)), ` ${more.join("; ")} ${breaks}${note}`);
+/** What the node of a refused event knows, if that is known. */
+function knownAt(at) {
+  const name = run.steps[at].node, { facts } = nodeParts(nodesAfter(at).get(name) ?? {});
+  return outcomeAt(at) === "refused" && facts.length ? `${name}: ${facts.map(([, text]) => text).join(", ")}. ` : "";
 }
 
-/** The list has the page of events around this step, and at its ends events that lead on. */
+function drawNow() {
+  const { at, note } = view, { event, sent } = run.steps[at] ?? {}, { clause, reason } = run.verdict;
+  if (at < 0) return fill("now", html("b", {}, "Start"), ` before the first of ${run.count} events. ${note}`);
+  if (!event) return fill("now", html("b", {}, textAt(at)), ` ${note}`);
+  const sends = sent.length > 2 ? [` sends ${sent.length} parcels`] : sent.flatMap((it, i) => [i ? ", " : " sends ", parcelButton(it)]);
+  const more = parcelAt(at) ? [parcelButton(parcelAt(at)), ...sends] : sends, known = knownAt(at);
+  const why = reason ? `: ${reason}` : "", rule = `${clause}, ${broken.join(" and ")}`;
+  const breaks = at === run.brokenAt ? `This breaks the run: ${rule}${why}. ` : "";
+  return fill("now", html("b", { class: event.outcome }, textAt(at)), " ", ...more, ` ${known}${breaks}${note}`);
+}
+
+/** The list has the page of steps around this one, and at its ends steps that lead on. */
 function drawRows(before) {
-  const rows = byId("rows"), first = firstAt(view.at), events = run.steps.slice(first, first + PAGE + 2);
+  const rows = byId("rows"), first = firstAt(view.at), steps = run.steps.slice(first, first + PAGE + 2);
   const mark = at => outcomeAt(at) === "refused" ? "\u2717 " : "";
-  const row = at => html("option", { class: outcomeAt(at) }, mark(at) + lineAt(at));
-  if (!rows.length || first !== firstAt(before.at)) fill("rows", ...events.map((_, i) => row(first + i)));
+  const row = at => html("option", { class: outcomeAt(at) ?? "change" }, mark(at) + lineAt(at));
+  if (!rows.length || first !== firstAt(before.at)) fill("rows", ...steps.map((_, i) => row(first + i)));
   rows.selectedIndex = view.at - first;
   rows.scrollTop = (view.at - first - rows.size / 2) * rows.scrollHeight / rows.length;
 }
 
-function historyOf({ node, parcel }) {
-  const { sentAt, deliveries } = run.parcels[parcel] ?? {}, name = run.names[node];
-  if (deliveries) {
-    const item = (at, text) => html("li", {}, text, eventLink(at));
-    const got = deliveries.map((at, i) => item(at, i ? "delivered again: " : "delivered: "));
-    const ends = got.length ? got : [html("li", { class: "broken" }, "never delivered")];
-    return [html("h3", {}, fullText(run.parcels[parcel])), html("ul", {}, item(sentAt, "sent: "), ...ends)];
-  }
-  if (name === undefined) return ["Choose a node or a parcel."];
+/** A node, in which the parts are marked that were other before; what is known no more stays for the eye alone. */
+function nodeItem(name, node, was) {
+  const { state, facts } = nodeParts(node), before = nodeParts(was), isKnown = Boolean(was.told && node.told);
+  const old = new Map([...before.state, ...before.facts]), now = new Map([...state, ...facts]);
+  const isNew = ([word, text]) => old.get(word) !== text && (isKnown || old.has(word));
+  const part = it => isNew(it) ? html("mark", { title: `before: ${old.get(it[0]) ?? "not so"}` }, it[1]) : it[1];
+  const list = parts => parts.flatMap((it, i) => i ? [", ", part(it)] : [part(it)]);
+  const gone = isKnown ? before.facts.filter(([word]) => !now.has(word)) : [];
+  const more = node.told ? ["; ", html("span", { class: "facts" }, ...list(facts),
+    ...gone.map(([, text]) => html("del", { "data-gone": text })))] : [];
+  return html("li", { class: classes({ acts: run.steps[view.at]?.node === name }) }, html("b", {}, name), ": ", ...list(state), ...more);
+}
+
+function parcelHistory(parcel) {
+  const { sentAt, lostAt, deliveries } = parcel, item = (at, text) => html("li", {}, text, stepLink(at));
+  const got = deliveries.map((at, i) => item(at, i ? "delivered again: " : "delivered: "));
+  const lost = lostAt === undefined ? [] : [item(lostAt, "")];
+  const open = got.length + lost.length ? [] : [html("li", { class: isOpen ? "" : "broken" }, isOpen ? "under way" : "never delivered")];
+  return [html("h3", {}, fullText(parcel)), html("ul", {}, item(sentAt, "sent: "), ...lost, ...got, ...open)];
+}
+
+function nodeHistory(name) {
   const done = [...run.steps.keys()].filter(at => at <= view.at && run.steps[at].node === name).reverse();
-  const item = at => html("li", {}, eventLink(at), html("ul", {}, ...run.steps[at].sent.map(parcelItem)));
+  const item = at => html("li", {}, stepLink(at), html("ul", {}, ...run.steps[at].sent.map(parcelItem)));
   return [html("h3", {}, `${name}: ${done.length} events up to this step, newest first`),
     html("ul", {}, ...done.slice(0, SHOWN).map(item))];
 }
 
+const historyOf = ({ node, parcel }) => run.parcels[parcel] ? parcelHistory(run.parcels[parcel])
+  : run.names[node] === undefined ? ["Choose a node or a parcel."] : nodeHistory(run.names[node]);
+
 function draw(before) {
-  const { at, chosen } = view, nodes = nodesAfter(at);
-  const parcels = underWay(run, at).filter(it => view.hasLost || it.deliveries.length);
+  const { at, chosen } = view, nodes = nodesAfter(at), earlier = nodesAfter(Math.max(at - 1, -1));
+  const name = nodes.size > FEW ? run.names[chosen.node] : undefined;
+  const isMeant = it => it && (view.shows.lost || !isLost(it, at)) && [it.from, it.to, undefined].includes(name);
+  const parcels = underWay(run, at).filter(isMeant), arrived = [parcelAt(at)].find(isMeant);
   const moves = at === before.at + 1 && !matchMedia("(prefers-reduced-motion: reduce)").matches;
-  const lasts = moves ? Math.min(0.6, 0.7 / byId("speed").value) : 0, more = parcels.length - DRAWN;
-  const scene = { nodes, parcels, at, chosen, lasts, step: run.steps[at], arrived: parcelAt(at) };
-  fill("ring", ...ring.draw({ ...scene, marked: at === +run.verdict.index ? broken : [] }));
-  fill("parcels", ...parcels.slice(0, DRAWN).map(parcelItem), more > 0 ? `and ${more} more, not drawn` : "");
-  fill("nodes", ...[...nodes].map(([name, node]) => html("li", {}, nodeText(name, node))));
+  const lasts = moves ? Math.min(0.6, 0.7 / byId("speed").value) : 0, more = parcels.length - LISTED;
+  const scene = { nodes, parcels, at, chosen, lasts, step: run.steps[at], arrived, cuts: cutAfter(run, at), shows: view.shows };
+  fill("ring", ...ring.draw({ ...scene, marked: at === run.brokenAt ? broken : [] }));
+  fill("way", `Parcels under way${name === undefined ? "" : ` to or from ${name}`}`);
+  fill("parcels", ...parcels.slice(0, LISTED).map(parcelItem), more > 0 ? `and ${more} more` : "");
+  fill("nodes", ...[...nodes].map(([name, node]) => nodeItem(name, node, earlier.get(name))));
+  reveal(byId("nodes"), byId("nodes").querySelector(".acts"));
   fill("history", ...historyOf(chosen));
   drawNow();
   drawRows(before);
+  drawers.forEach(it => it(before));
   byId("slider").value = at;
   byId("slider").setAttribute("aria-valuetext", at < 0 ? "start" : textAt(at));
 }
 
-function drawOnce() {
-  const sample = (text, kind = text, end = "arrives") => html("li", { class: kind },
-    svg("svg", { class: "arrow", viewBox: "0 -7 48 14" }, svg("path", { d: "M2 0H36" }),
-      svg("path", { d: TIPS[end], class: "tip", transform: "translate(42 0)" })), text);
-  const { verdict, index, clause } = run.verdict;
-  byId("title").textContent = document.title = `A run of ${last + 1} events, ${run.names.length} nodes`;
+/** What a line means: without an end, it is one of those without a tip. */
+function sample(text, kind = text, end = "") {
+  const line = svg("path", { d: end ? "M2 0H36" : "M2 0H46" });
+  const tip = end && svg("path", { d: TIPS[end], class: "tip", transform: "translate(42 0)" });
+  return html("li", { class: kind }, svg("svg", { class: end ? "arrow" : kind, viewBox: "0 -7 48 14" }, line, tip), text);
+}
+
+/** What only the run changes. */
+function drawRun() {
+  const { verdict, index, clause } = run.verdict, { algorithm, tree, names } = run;
+  const size = `${run.count} events, ${names.length} nodes`;
+  byId("title").textContent = document.title = algorithm ? `${algorithm}: ${size}` : `A run of ${size}`;
   byId("slider").max = last;
   const link = html("a", { href: `#${index}`, class: "broken" }, `broken at ${index}: ${clause} \u2717`);
   fill("verdict", "Verdict: ", clause ? link : `${verdict} \u2713`);
-  fill("legend", sample("request"), sample("grant"), sample("other"), sample("waits for", "waits", "waits"),
-    sample("delivered again", "other again"), sample("never delivered", "lost", "lost"));
+  const letters = ["request", "grant", "other"].map(kind => sample(kind, kind, "arrives"));
+  fill("legend", ...letters, sample("waits for", "waits", "waits"),
+    ...(tree.length ? [sample("tree"), sample("towards the privilege", "towards", "towards")] : []),
+    sample("delivered again", "other again", "arrives"), sample(isOpen ? "lost" : "never delivered", "lost", "lost"),
+    ...(isOpen ? [sample("cut link", "cut")] : []));
+}
+
+/** Takes the lines of a run. The view stays, so that `show` has to follow. */
+function load(lines) {
+  run = readRun(lines, isOpen);
+  last = run.steps.length - 1;
+  nodesAfter = statesOf(run);
+  broken = concerned(run, nodesAfter);
+  ring = new Ring(byId("ring"), run, narrow.matches);
+  fill("rows");
+  drawRun();
 }
 
 function show(change) {
@@ -94,7 +152,7 @@ function show(change) {
   view = { ...next, at };
   draw(before);
   clearTimeout(timers.address); // browsers bound how often the address may change
-  timers.address = setTimeout(() => history.replaceState(null, "", at < 0 ? "#start" : `#${at}`), 200);
+  timers.address = setTimeout(() => history.replaceState(null, "", addressAt(at)), 200);
 }
 
 function play(isOn) {
@@ -133,7 +191,7 @@ function press({ target }) {
 
 function pressKey(event) {
   const { key, target } = event, presses = key === " " || key === "Enter", word = KEYS[key.toLowerCase()];
-  const isTyped = target.closest("input:not([type=range]), #speed") || presses && target.closest("button, a");
+  const isTyped = target.closest("input:not([type=range]), textarea, select:not(#rows)") || presses && target.closest("button, a, summary");
   if (isTyped || event.ctrlKey || event.altKey || event.metaKey) return;
   if (presses && target.dataset.node) press(event);
   else if (word) DO[word](event.shiftKey ? -1 : 1);
@@ -142,18 +200,26 @@ function pressKey(event) {
 }
 
 function showAddress() {
-  const digits = /^#(\d+)$/.exec(location.hash)?.[1];
-  show({ at: +(digits ?? (location.hash ? -1 : run.verdict.index ?? -1)) });
+  const place = location.hash.slice(1), at = run.steps.findIndex(it => it.place === place);
+  show({ at: place === "" ? run.brokenAt : at < 0 && +place ? last : at });
+}
+
+/** Marks the arrow and the text of the parcel below the pointer, also of one in a list. */
+function point({ target }) {
+  const { parcel } = target.closest("[data-parcel]")?.dataset ?? {};
+  document.querySelectorAll("#ring [data-parcel]").forEach(it => it.classList.toggle("hovered", it.dataset.parcel === parcel));
 }
 
 const on = (id, kind, act) => byId(id).addEventListener(kind, act);
 document.addEventListener("click", press);
 document.addEventListener("keydown", pressKey);
+document.addEventListener("pointerover", point);
 addEventListener("hashchange", showAddress);
 on("slider", "input", ({ target }) => show({ at: +target.value }));
 on("rows", "change", ({ target }) => show({ at: firstAt(view.at) + target.selectedIndex }));
-on("lost", "change", ({ target }) => show({ hasLost: target.checked }));
+for (const id of ["lost", "waits"]) on(id, "change", ({ target }) => show({ shows: { ...view.shows, [id]: target.checked } }));
 on("speed", "change", () => play(timers.play));
 on("find", "submit", event => { event.preventDefault(); DO.next(1); });
-drawOnce();
+narrow.addEventListener("change", () => { ring = new Ring(byId("ring"), run, narrow.matches); show({}); });
+load(JSON.parse(byId("run").textContent));
 showAddress();

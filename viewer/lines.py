@@ -1,0 +1,113 @@
+"""Reads what `mx replay --json` or `mx judge --json` prints, and makes the page of it: for ./page, ./drive and ./shiviz.
+
+Beyond what these print, a run may have `{"lost":K}`, `{"cut":[N]}`, `{"cut":[N,M]}` and `{"heal":true}` after an event: what
+a script did before the next one. Those of one line of a script have its number as `line`. ./drive adds them."""
+import json
+import os
+import re
+
+from command import Fault
+
+VIEWER = os.path.dirname(os.path.realpath(__file__))
+KINDS = {  # the member that tells the kind of a line, and what else such a line needs
+    "act": ["outcome"], "kind": ["parcel", "from", "to"], "phase": ["node", "mine", "knows"],
+    "stuck": [], "lost": [], "cut": [], "heal": [], "clause": ["verdict", "index"], "verdict": [],
+}
+TEXTS = """act node register from to outcome cause kind of phase fact verdict clause reason event parcel index number
+    value writes count upto stamp top grant last hop mine records gapless lost line""".split()
+TYPES = {**dict.fromkeys(TEXTS, str), **dict.fromkeys(["ranges", "numbers", "knows", "values", "cut"], list),
+         "registers": dict, "heal": bool}
+
+
+def members(line, needed=()):
+    """The members of an object that the page shows."""
+    if type(line) is not dict:
+        raise Fault("no object of a run")
+    for key in [*needed, *(["of"] if "stamp" in line else [])]:
+        if key not in line:
+            raise Fault(f"{key} is missing")
+    return {key: member(key, line[key]) for key in line if key in TYPES}
+
+
+def member(key, value):
+    if type(value) is not TYPES[key] or not has_form(key, value):
+        raise Fault(f"{key} is wrong")
+    if value == "":
+        raise Fault(f"{key} is empty")
+    if key in ("knows", "values"):
+        return [members(item, ["fact", "values"] if key == "knows" else ()) for item in value]
+    return list(value.items()) if key == "registers" else value  # a browser would put a name like 7 first
+
+
+def has_form(key, value):
+    """Whether the items of a list of numbers, of one or two names, or of pairs of numbers, are such."""
+    if key == "ranges":
+        return all(type(item) is list and len(item) == 2 and has_form("numbers", item) for item in value)
+    return key not in ("numbers", "cut") or all(type(item) is str for item in value) and (key != "cut" or 0 < len(value) < 3)
+
+
+def refused(number):
+    raise Fault(f"{number} is no number of a run")
+
+
+def read(line, counts):
+    """What the page shows of a line, after so many of each kind."""
+    kind = next((key for key in KINDS if type(line) is dict and key in line), "verdict")
+    if counts["clause"] or counts["verdict"]:
+        raise Fault("it follows the verdict")
+    line, counter = members(line, [kind, *KINDS[kind]]), {"act": "event", "kind": "parcel"}.get(kind)
+    if line.get(counter, str(counts[kind])) != str(counts[kind]):
+        raise Fault(f"{counter} {counts[kind]} is missing: a page shows a whole run")
+    check(kind, line, counts)
+    counts[kind] += 1
+    return line
+
+
+def is_below(text, count):
+    """Whether a text is one of the first so many numbers, as JSON writes them."""
+    return text.isdecimal() and str(int(text)) == text and int(text) < count
+
+
+def check(kind, line, counts):
+    """Refuses a line that names what is not there."""
+    if kind == "verdict" and line["verdict"] != "sound":
+        raise Fault("clause is missing")
+    if kind == "act" and not {"node", "parcel"} & set(line):
+        raise Fault("node is missing")
+    if kind == "lost" and not is_below(line["lost"], counts["kind"]):
+        raise Fault("its parcel is missing")
+    if kind == "kind" and not counts["act"] or kind == "clause" and not is_below(line["index"], counts["act"]):
+        raise Fault("its event is missing")
+
+
+def lines_of(source):
+    """The lines of a run as the page reads them. Their numbers become texts: those of a browser hold 53 bits."""
+    counts, at, writer = dict.fromkeys(KINDS, 0), 0, json.JSONEncoder(separators=(",", ":"))
+    reader = json.JSONDecoder(parse_int=str, parse_float=refused, parse_constant=refused)
+    try:
+        for at, text in enumerate(source, 1):
+            yield writer.encode(read(reader.decode(text if type(text) is str else text.decode()), counts))
+    except Fault as fault:
+        raise Fault(f"line {at}: {fault}")
+    except (ValueError, RecursionError):
+        raise Fault(f"line {at}: not JSON, as `mx replay --json` and `mx judge --json` print it")
+    if not counts["verdict"] and not counts["clause"]:
+        raise Fault(f"line {at + 1}: the verdict is missing; if mx has printed a message, look at that first")
+
+
+def content(name):
+    with open(os.path.join(VIEWER, name), encoding="utf-8") as file:
+        return file.read()
+
+
+def page_of(lines, **parts):
+    """The page of these lines, as bytes. With an answer of ./drive among these parts, it has the files of ./drive, too."""
+    parts["run"] = shielded("[\n" + ",\n".join(lines) + "\n]")
+    skipped = () if "answer" in parts else ("drive",)
+    text = re.sub(r"@(\w+\.\w+)@", lambda it: "" if it[1].startswith(skipped) else content(it[1]), content("page.html"))
+    return re.sub(r"@(\w+)@", lambda it: parts.get(it[1], ""), text).encode()
+
+
+def shielded(text):
+    """JSON that cannot end the script that it is in."""
+    return text.replace("<", "\\u003c")
