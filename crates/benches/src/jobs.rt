@@ -4,14 +4,15 @@
 use crate::shapes::{LIMIT, binary_tree, count_of, quorums_of};
 use anyhow::{Result, bail};
 use arrayvec::ArrayVec;
-use mx_jobs::{Job, RunOptions, Settings, fair_links, run, stations};
+use mx_jobs::{Host, Job, RunOptions, Settings, run, stations};
 use mx_journal::Write;
+use mx_letters::{Fair, Fate, Fates};
 use mx_maekawa::Maekawa;
 use mx_raymond::Raymond;
 use mx_ricart::Ricart;
 use std::alloc::{AllocError, Global};
-use std::rt::Clock;
-use std::thread::Threads;
+use std::sync::Arc;
+use std::sync::atomic::{AtomicU64, Ordering};
 use std::time::Instant;
 
 const OPTIONS: RunOptions = RunOptions {
@@ -24,6 +25,33 @@ const SETTINGS: Settings = Settings {
     sections: LIMIT,
     registers: 1,
 };
+
+/// A link that loses nothing, and counts the parcels that it delivers.
+#[derive(Drop)]
+struct Counting {
+    parcels: Arc<AtomicU64, Global>,
+}
+
+impl Fates for Counting {
+    fn fate(&mut self) -> Fate {
+        self.parcels.fetch_add(1, Ordering::SeqCst);
+        Fair.fate()
+    }
+}
+
+fn counting_links(
+    alloc: Global,
+    parcels: &Arc<AtomicU64, Global>,
+    count: usize,
+) -> Result<Vec<Counting>, AllocError> {
+    let mut links = Vec::new(alloc);
+    for _node in 0..count {
+        links.push(Counting {
+            parcels: Arc::try_clone(parcels)?,
+        })?;
+    }
+    Ok(links)
+}
 
 #[derive(Drop)]
 struct Adder {
@@ -61,9 +89,15 @@ fn adders(alloc: Global, nodes: usize, sections: u64) -> Result<Vec<Adder>, Allo
 }
 
 /// Runs this many sections for each node, and returns how many were run.
-fn ricart<R: Threads>(rt: &R, alloc: Global, nodes: u8, sections: u64) -> Result<usize> {
+fn ricart<R: Host>(
+    rt: &R,
+    alloc: Global,
+    parcels: &Arc<AtomicU64, Global>,
+    nodes: u8,
+    sections: u64,
+) -> Result<usize> {
     let stations = stations::<Ricart>(alloc, &count_of(nodes)?, &SETTINGS)?;
-    let links = fair_links(alloc, stations.len())?;
+    let links = counting_links(alloc, parcels, stations.len())?;
     let jobs = adders(alloc, stations.len(), sections)?;
     match run(rt, alloc, stations, jobs, links, OPTIONS) {
         Ok(all) => Ok(all.gathered.receipts.len()),
@@ -71,9 +105,15 @@ fn ricart<R: Threads>(rt: &R, alloc: Global, nodes: u8, sections: u64) -> Result
     }
 }
 
-fn maekawa<R: Threads>(rt: &R, alloc: Global, nodes: u8, sections: u64) -> Result<usize> {
+fn maekawa<R: Host>(
+    rt: &R,
+    alloc: Global,
+    parcels: &Arc<AtomicU64, Global>,
+    nodes: u8,
+    sections: u64,
+) -> Result<usize> {
     let stations = stations::<Maekawa>(alloc, &quorums_of(nodes)?, &SETTINGS)?;
-    let links = fair_links(alloc, stations.len())?;
+    let links = counting_links(alloc, parcels, stations.len())?;
     let jobs = adders(alloc, stations.len(), sections)?;
     match run(rt, alloc, stations, jobs, links, OPTIONS) {
         Ok(all) => Ok(all.gathered.receipts.len()),
@@ -81,9 +121,15 @@ fn maekawa<R: Threads>(rt: &R, alloc: Global, nodes: u8, sections: u64) -> Resul
     }
 }
 
-fn raymond<R: Threads>(rt: &R, alloc: Global, nodes: u8, sections: u64) -> Result<usize> {
+fn raymond<R: Host>(
+    rt: &R,
+    alloc: Global,
+    parcels: &Arc<AtomicU64, Global>,
+    nodes: u8,
+    sections: u64,
+) -> Result<usize> {
     let stations = stations::<Raymond>(alloc, &binary_tree(alloc, nodes)?, &SETTINGS)?;
-    let links = fair_links(alloc, stations.len())?;
+    let links = counting_links(alloc, parcels, stations.len())?;
     let jobs = adders(alloc, stations.len(), sections)?;
     match run(rt, alloc, stations, jobs, links, OPTIONS) {
         Ok(all) => Ok(all.gathered.receipts.len()),
@@ -91,31 +137,40 @@ fn raymond<R: Threads>(rt: &R, alloc: Global, nodes: u8, sections: u64) -> Resul
     }
 }
 
-fn run_by<R: Threads + AllocGlobal>(
+fn run_by<R: Host + AllocGlobal>(
     rt: &R,
     algorithm: &str,
+    parcels: &Arc<AtomicU64, Global>,
     nodes: u8,
     sections: u64,
 ) -> Result<usize> {
     match algorithm {
-        "ricart" => ricart(rt, rt.alloc(), nodes, sections),
-        "maekawa" => maekawa(rt, rt.alloc(), nodes, sections),
-        "raymond" => raymond(rt, rt.alloc(), nodes, sections),
+        "ricart" => ricart(rt, rt.alloc(), parcels, nodes, sections),
+        "maekawa" => maekawa(rt, rt.alloc(), parcels, nodes, sections),
+        "raymond" => raymond(rt, rt.alloc(), parcels, nodes, sections),
         _ => bail!("no such algorithm"),
     }
 }
 
 /// Runs this many sections in all, the same number for each node. Prints how many were run and the
 /// microseconds that they took.
-pub(crate) fn time_jobs<R: Threads + Clock + Print + AllocGlobal>(
+pub(crate) fn time_jobs<R: Host + Print + AllocGlobal>(
     rt: &R,
     algorithm: &str,
     nodes: u8,
     sections: u64,
 ) -> Result<()> {
     let begun = Instant::now(rt)?;
-    let entered = run_by(rt, algorithm, nodes, sections / u64::from(nodes.max(1)))?;
+    let parcels = Arc::new(rt.alloc(), AtomicU64::new(0))?;
+    let entered = run_by(
+        rt,
+        algorithm,
+        &parcels,
+        nodes,
+        sections / u64::from(nodes.max(1)),
+    )?;
     let took = begun.elapsed(rt)?.as_micros();
-    println!(rt; "{entered} {took}")?;
+    let parcels = parcels.load(Ordering::SeqCst);
+    println!(rt; "{entered} {parcels} {took}")?;
     Ok(())
 }

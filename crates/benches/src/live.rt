@@ -1,9 +1,9 @@
 //! Times stations in threads, one for each node, over a network that loses nothing. Measures how
 //! long they take to enter a given number of sections in all, and how many parcels that takes.
 
-use crate::gate::Meeting;
 use crate::shapes::{LIMIT, binary_tree, count_of, quorums_of};
 use anyhow::{Result, bail};
+use mx_jobs::{Host, StartGate};
 use mx_letters::{Fair, Fate, Fates};
 use mx_maekawa::Maekawa;
 use mx_nodelaws::Exclusion;
@@ -12,9 +12,9 @@ use mx_ricart::Ricart;
 use mx_stations::{Field, Script, Station, Worked, work};
 use std::alloc::AllocError;
 use std::rt::Clock;
+use std::sync::Wait;
 use std::sync::atomic::{AtomicU64, Ordering};
 use std::thread;
-use std::thread::Threads;
 use std::time::Instant;
 
 const MAX_TURNS: u64 = 1_000_000_000_000;
@@ -34,9 +34,9 @@ impl Fates for Counting<'_> {
 
 /// Works at a station, and returns how many sections the node has entered, if it has entered all of
 /// them.
-fn sections_of<C: Exclusion>(
+fn sections_of<C: Exclusion, R: Wait + Clock>(
     station: Station<C>,
-    meeting: &Meeting,
+    meeting: &StartGate<R>,
     parcels: &AtomicU64,
     sections: u64,
 ) -> u64 {
@@ -59,7 +59,7 @@ fn total(numbers: &[u64]) -> u64 {
     sum
 }
 
-fn run_nodes<C: Exclusion + Send + 'static, R: Threads + Sync>(
+fn run_nodes<C: Exclusion + Send + 'static, R: Host>(
     rt: &R,
     stations: Vec<Station<C>>,
     sections: u64,
@@ -68,7 +68,7 @@ where
     C::Msg: Send + 'static,
     C::Shape: Send + 'static,
 {
-    let meeting = Meeting::new(stations.len() as u64);
+    let meeting = StartGate::new(*rt, stations.len() as u8, 100_000_000);
     let parcels = AtomicU64::new(0);
     let each = thread::map_vec(
         rt,
@@ -80,7 +80,7 @@ where
 
 /// Runs the nodes, each for this many sections. Prints how many they entered, how many parcels were
 /// delivered, and the microseconds that they took.
-fn measure<C: Exclusion + Send + 'static, R: Threads + Sync + Clock + Print>(
+fn measure<C: Exclusion + Send + 'static, R: Host + Print>(
     rt: &R,
     stations: Vec<Station<C>>,
     sections: u64,
@@ -96,7 +96,7 @@ where
     Ok(())
 }
 
-pub(crate) fn time_stations<R: Threads + Sync + Clock + Print + AllocGlobal>(
+pub(crate) fn time_stations<R: Host + Print + AllocGlobal>(
     rt: &R,
     algorithm: &str,
     nodes: u8,

@@ -3,7 +3,6 @@
 //! SECTIONS. Without arguments it prints this usage.
 #![tactic(auto)]
 
-mod gate;
 mod jobs;
 mod journals;
 mod live;
@@ -13,9 +12,8 @@ use crate::jobs::time_jobs;
 use crate::journals::{time_journals, time_settling};
 use crate::live::time_stations;
 use anyhow::{Result, bail};
+use mx_jobs::Host;
 use std::env;
-use std::rt::Clock;
-use std::thread::Threads;
 
 const USAGE: &str =
     "usage: benches journals RECORDS SEED, benches settling RECORDS EVERY, or benches stations|jobs ALGORITHM NODES SECTIONS";
@@ -28,7 +26,7 @@ fn time(rt: &HostRuntime, what: &str, first: &str, second: &str) -> Result<()> {
     }
 }
 
-fn time_run<R: Threads + Sync + Clock + Print + AllocGlobal>(
+fn time_run<R: Host + Print + AllocGlobal>(
     rt: &R,
     what: &str,
     algorithm: &str,

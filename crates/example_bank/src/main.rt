@@ -11,7 +11,7 @@ ghost use Rattle.example_bank.specs.declared.TheConstants.{ACCOUNTS};
 use anyhow::{Result, bail};
 use arrayvec::ArrayVec;
 use mx_explorer::Weather;
-use mx_jobs::{Finished, Job, RunOptions, Settings, contents, run, stations};
+use mx_jobs::{Finished, Host, Job, RunOptions, Settings, contents, run, stations};
 use mx_journal::Write;
 use mx_maekawa::Maekawa;
 use mx_quorums::Quorums;
@@ -19,7 +19,6 @@ use mx_raymond::Raymond;
 use mx_ricart::{Count, Ricart};
 use mx_trees::Tree;
 use std::alloc::{AllocError, Global};
-use std::thread::Threads;
 
 const TELLERS: u8 = 5;
 
@@ -57,11 +56,14 @@ struct Teller {
 
 impl Job for Teller {
     ghost use Rattle.std.specs.Prelude.{◌≡◌, ◌*◌, [], ◌∷◌, min, sum};
+    ghost use Rattle.mx_jobs.specs.Terms.{no_terms};
 
-    ghost asks_for = { λ teller accounts. accounts ≡ teller.from ∷ teller.to ∷ [] };
-
-    // the law: all accounts have 800 together, or 0 before the first section
-    ghost holds = { λ sections accounts. sum accounts ≡ 800 * min sections 1 };
+    // a section reads two accounts; the law: all accounts have 800 together, or 0 before the first
+    // section
+    ghost terms = { record no_terms {
+      asks_for = λ teller accounts. accounts ≡ teller.from ∷ teller.to ∷ [];
+      holds = λ sections accounts. sum accounts ≡ 800 * min sections 1;
+    } };
 
     fn asks(&self) -> Option<ArrayVec<u8, 8>> {
         if self.left == 0 {
@@ -153,7 +155,7 @@ fn total(values: &[u64]) -> u64
     values.iter().sum()
 }
 
-fn ricart<R: Threads>(rt: &R, alloc: Global) -> Result<u64>
+fn ricart<R: Host>(rt: &R, alloc: Global) -> Result<u64>
     ensures { IfOk result (λ total. total ≡ 800) }
 {
     let Some(shape) = Count::of(TELLERS) else {
@@ -166,7 +168,7 @@ fn ricart<R: Threads>(rt: &R, alloc: Global) -> Result<u64>
     }
 }
 
-fn maekawa<R: Threads>(rt: &R, alloc: Global) -> Result<u64>
+fn maekawa<R: Host>(rt: &R, alloc: Global) -> Result<u64>
     ensures { IfOk result (λ total. total ≡ 800) }
 {
     let shape = Quorums::grid(1, TELLERS)?;
@@ -177,7 +179,7 @@ fn maekawa<R: Threads>(rt: &R, alloc: Global) -> Result<u64>
     }
 }
 
-fn raymond<R: Threads>(rt: &R, alloc: Global) -> Result<u64>
+fn raymond<R: Host>(rt: &R, alloc: Global) -> Result<u64>
     ensures { IfOk result (λ total. total ≡ 800) }
 {
     let shape = Tree::of(TELLERS, &[(0, 1), (0, 2), (1, 3), (1, 4)], 0)?;

@@ -9,7 +9,8 @@ use crate::arbiters::quorums_of;
 use arrayvec::ArrayVec;
 use mx_io::SourceFault;
 use mx_jobs::{
-    Calls, Finished, JobFault, RunFault, RunOptions, Settings, Unfinished, contents, run, stations,
+    Calls, Finished, Host, JobFault, RunFault, RunOptions, Settings, Unfinished, contents, run,
+    stations,
 };
 use mx_journal::Write;
 use mx_letters::{Fate, Fates};
@@ -20,7 +21,6 @@ use std::alloc::{AllocError, Global};
 use std::fmt::Display;
 use std::process::Abort;
 use std::test::Fail;
-use std::thread::Threads;
 
 /// Links that give each parcel the same fate.
 #[derive(Clone, Copy)]
@@ -204,7 +204,7 @@ fn phases_of<J: Drop>(left: &Unfinished<Maekawa, J>) -> Ending {
     }
 }
 
-fn ending_of<R: Threads>(
+fn ending_of<R: Host>(
     rt: &R,
     alloc: Global,
     stations: Vec<Station<Maekawa>>,
@@ -232,7 +232,7 @@ fn ending_of<R: Threads>(
     }
 }
 
-fn assert_cases<R: Threads + Abort>(rt: &R, alloc: Global, cases: &[Case]) -> Result<(), Fail> {
+fn assert_cases<R: Host + Abort>(rt: &R, alloc: Global, cases: &[Case]) -> Result<(), Fail> {
     for (k, case) in cases.iter().enumerate() {
         let stations = new_stations(alloc, &case.sets)?;
         let ends = ending_of(rt, alloc, stations, case)?;

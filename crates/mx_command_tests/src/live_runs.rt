@@ -1,10 +1,9 @@
 //! `live`, from its arguments to its output.
 
 use mx_io::Table;
+use mx_jobs::Host;
 use mx_live::live;
 use std::alloc::Global;
-use std::rt::Clock;
-use std::thread::Threads;
 
 const RICART: &str =
     "{\"algorithm\":\"ricart\",\"nodes\":[\"a\",\"b\",\"c\",\"d\",\"e\"],\"registers\":[\"count\"],\"sections\":100}";
@@ -22,7 +21,7 @@ struct Ran {
     err: Vec<u8>,
 }
 
-fn run_words<R: Threads + Clock>(rt: &R, alloc: Global, words: &[&str], plan: &str) -> Ran {
+fn run_words<R: Host>(rt: &R, alloc: Global, words: &[&str], plan: &str) -> Ran {
     let entries = [("p", plan.as_bytes())];
     let mut source = Table { entries: &entries };
     let mut out = Vec::new(alloc);
@@ -54,7 +53,7 @@ fn live_counts_to_one_hundred(rt: HostRuntime) {
 const ALONE: &str =
     "{\"algorithm\":\"maekawa\",\"nodes\":[\"a\"],\"registers\":[\"count\"],\"sections\":1000,\"quorums\":{\"kind\":\"listed\",\"sets\":[[\"a\"]]}}";
 
-fn run_alone<R: Threads + Clock>(rt: &R, alloc: Global, seed: &str, turns: &str) -> Ran {
+fn run_alone<R: Host>(rt: &R, alloc: Global, seed: &str, turns: &str) -> Ran {
     let words = [
         "live",
         "p",

@@ -2,10 +2,9 @@
 
 use mx_dispatch::command;
 use mx_io::{Output, OutputFault, Table};
+use mx_jobs::Host;
 use mx_live::live;
 use std::alloc::Global;
-use std::rt::Clock;
-use std::thread::Threads;
 
 pub(crate) const RICART: &str =
     "{\"algorithm\":\"ricart\",\"nodes\":[\"a\",\"b\",\"c\"],\"registers\":[\"count\"],\"sections\":10}";
@@ -32,7 +31,7 @@ impl Output for Narrow {
     }
 }
 
-fn run_words<R: Threads + Clock>(
+fn run_words<R: Host>(
     rt: &R,
     alloc: Global,
     words: &[&str],

@@ -1,6 +1,6 @@
 //! Workers at the gate of a run.
 
-use mx_jobs::StartGate;
+use mx_jobs::{Host, StartGate};
 use mx_letters::Fair;
 use mx_ricart::{Count, Ricart};
 use mx_stamps::NodeId;
@@ -14,7 +14,7 @@ fn stations_of(alloc: Global, nodes: u8) -> Result<Vec<Station<Ricart>>, Fail> {
     Ok(Field::<Ricart>::stations(alloc, &shape, 0, 1000, 1)?)
 }
 
-fn work_at(station: Station<Ricart>, gate: &StartGate) -> Worked {
+fn work_at<R: Host>(station: Station<Ricart>, gate: &StartGate<R>) -> Worked {
     let script = Script {
         register: 0,
         sections: 0,
@@ -25,7 +25,7 @@ fn work_at(station: Station<Ricart>, gate: &StartGate) -> Worked {
 
 #[test]
 fn gate_of_a_live_run_holds(rt: HostRuntime) -> Result<(), Fail> {
-    let gate = StartGate::new(5, 100_000_000);
+    let gate = StartGate::new(rt, 5, 100_000_000);
     let all = stations_of(rt.alloc(), 5)?;
     let ended = thread::map_vec(
         &rt,
@@ -37,8 +37,8 @@ fn gate_of_a_live_run_holds(rt: HostRuntime) -> Result<(), Fail> {
         assert_eq!(rt; *worked, Worked::Done);
     }
     // for workers in one thread the gate stays shut, so a run that works its stations in turn does
-    // not pass the test above; each look lets other threads run, so the looks are fewer here
-    let shut = StartGate::new(5, 1000);
+    // not pass the test above; up to a millisecond passes between two looks, so they are fewer here
+    let shut = StartGate::new(rt, 5, 1000);
     for station in stations_of(rt.alloc(), 5)? {
         assert_eq!(rt; work_at(station, &shut), Worked::GateShut);
     }

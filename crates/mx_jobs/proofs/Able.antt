@@ -1,8 +1,8 @@
 -- Where a node is not refused for want of a section number: inside, after leaving, and after an enter that was not.
-use Rattle.std.proofs.Common.{◌≡◌, ◌∙◌, ℕ, Result, Ok, Err, OnOk, OnErr, ap, subst, sym}
+use Rattle.std.proofs.Common.{◌≡◌, ◌∙◌, false, ℕ, Result, Ok, Err, OnOk, OnErr, ap, subst, sym}
 use Rattle.mx_nodelaws.specs.Core.{Core, KeepsPhases}
 use Rattle.mx_nodelaws.specs.declared.faults.EnterFault.{EnterFault}
-use Rattle.mx_nodelaws.specs.declared.faults.EnterFault.TheVariants.{NotWaiting, NumbersSpent}
+use Rattle.mx_nodelaws.specs.declared.faults.EnterFault.TheVariants.{NotGranted, NotWaiting, NumbersSpent}
 use Rattle.mx_nodelaws.specs.declared.phase.Phase.{Phase}
 use Rattle.mx_nodelaws.specs.declared.phase.Phase.TheVariants.{Idle, Waiting, Inside}
 use Rattle.mx_member.specs.declared.acts.Act.TheVariants.{Enter, Leave}
@@ -14,6 +14,9 @@ use Rattle.mx_jobs.specs.Sections.{IsSpent}
 
 apart : ◌≡◌ {A = Result ℕ EnterFault} (Err NotWaiting) (Err NumbersSpent) → ⊥
 apart e = cc
+
+granted : ◌≡◌ {A = Result ℕ EnterFault} (Err NotGranted) (Err NumbersSpent) → ⊥
+granted e = cc
 
 idle_waiting : Idle ≡ Waiting → ⊥
 idle_waiting e = cc
@@ -27,6 +30,9 @@ module _ {H S M : Type 0} (core : Core H S M) (phases : KeepsPhases core) where
 
   pub inside_able : (n : ℕ) (s : Station core) → core.phase s.me.member.core ≡ Inside n → IsSpent core s → ⊥
   inside_able n s is spent = only_waiting s.me.member.core (Inside n) is (inside_waiting n) spent
+
+  pub waiting_able : (s : Station core) → core.phase s.me.member.core ≡ Waiting → core.can_enter s.me.member.core ≡ false → IsSpent core s → ⊥
+  waiting_able s waits not spent = granted (sym ((phases.enter_not_granted s.me.member.core).1 (waits, not)) ∙ spent)
 
   pub left_able : (n : ℕ) (s t : Station core) → core.phase s.me.member.core ≡ Inside n → t ≡ does core Leave s → IsSpent core t → ⊥
   left_able n s t is did spent =

@@ -25,6 +25,7 @@ use Rattle.mx_jobs.specs.declared.tries.JobFault.{JobFault}
 use Rattle.mx_jobs.specs.Sections.{Advances, CannotGoOn, Fails, IsSection, Leaves, Pends, Reaches, Rests, Runs}
 use Rattle.mx_jobs.proofs.Made.{pending_left}
 use Rattle.mx_jobs.proofs.Members.{pick, rests_acting, rests_here, rests_on}
+use Rattle.mx_jobs.specs.Terms.{Terms}
 
 module _ {H S M : Type 0} (core : Core H S M) where
   kept_by : (s t u : Station core) → t ≡ u → Rests core s u → Rests core s t
@@ -123,16 +124,16 @@ module _ {H S M : Type 0} (core : Core H S M) where
   pub came : {A F : Type 0} (r : Result A F) (s t : Station core) → OnOk r (t ≡ does core Enter s) → OnErr r (t ≡ s) → Rests core s t
   came r s t did same = trying Enter r s t refl (entered_setting (core.enter s.me.member.core).answer _) did same
 
-module _ {J : Type 0} (AsksFor : J → List ℕ → Type 0) (Makes : J → ℕ → List ℕ → List OneWrite → J → Type 0) (Holds : ℕ → List ℕ → Type 0) where
-  runs_on : (count : ℕ) (job : J) (rs : List Receipt) (next : J) (more : List Receipt) (after : J) → Runs AsksFor Makes Holds count job rs next → Runs AsksFor Makes Holds count next more after → Runs AsksFor Makes Holds count job (rs ++ more) after
-  runs_on count job [] next more after same runs = subst (λ (j : J). Runs AsksFor Makes Holds count j more after) same runs
+module _ {J : Type 0} (terms : Terms J) where
+  runs_on : (count : ℕ) (job : J) (rs : List Receipt) (next : J) (more : List Receipt) (after : J) → Runs terms count job rs next → Runs terms count next more after → Runs terms count job (rs ++ more) after
+  runs_on count job [] next more after same runs = subst (λ (j : J). Runs terms count j more after) same runs
   runs_on count job (r ∷ rs) next more after did runs = (did.0, did.1, runs_on count did.0 rs next more after did.2 runs)
 
   module _ {H S M : Type 0} (core : Core H S M) where
-    pub stands : (job after : J) (s t : Station core) → after ≡ job → Rests core s t → Advances AsksFor Makes Holds core job s after t
+    pub stands : (job after : J) (s t : Station core) → after ≡ job → Rests core s t → Advances terms core job s after t
     stands job after s t same rests = record { home = rests.home; setting = rests.setting; sections = []; runs = same; receipts = rests.receipts ∙ sym (append-nil s.me.receipts) }
 
-    pub one_left : (job after : J) (s t : Station core) → ((r : Receipt) × IsSection AsksFor Makes Holds s.me.member.setting.registers job r after × Leaves core s r t) → Advances AsksFor Makes Holds core job s after t
+    pub one_left : (job after : J) (s t : Station core) → ((r : Receipt) × IsSection terms s.me.member.setting.registers job r after × Leaves core s r t) → Advances terms core job s after t
     one_left job after s t did = record {
       home = did.2.home;
       setting = did.2.setting;
@@ -141,60 +142,60 @@ module _ {J : Type 0} (AsksFor : J → List ℕ → Type 0) (Makes : J → ℕ �
       receipts = did.2.receipts;
     }
 
-    pub advances_on : (job next after : J) (s t u : Station core) → Advances AsksFor Makes Holds core job s next t → Advances AsksFor Makes Holds core next t after u → Advances AsksFor Makes Holds core job s after u
+    pub advances_on : (job next after : J) (s t u : Station core) → Advances terms core job s next t → Advances terms core next t after u → Advances terms core job s after u
     advances_on job next after s t u a b = record {
       home = b.home ∙ a.home;
       setting = b.setting ∙ a.setting;
       sections = a.sections ++ b.sections;
       runs =
           runs_on s.me.member.setting.registers job a.sections next b.sections after a.runs
-          (subst (λ (x : Setting). Runs AsksFor Makes Holds x.registers next b.sections after) a.setting b.runs);
+          (subst (λ (x : Setting). Runs terms x.registers next b.sections after) a.setting b.runs);
       receipts = b.receipts ∙ ap (λ (rs : List Receipt). rs ++ b.sections) a.receipts ∙ append_assoc s.me.receipts a.sections b.sections;
     }
 
     -- a section that is left after other acts
-    pub left_after : (job after : J) (s t u : Station core) → Rests core s t → ((r : Receipt) × IsSection AsksFor Makes Holds t.me.member.setting.registers job r after × Leaves core t r u) → Advances AsksFor Makes Holds core job s after u
+    pub left_after : (job after : J) (s t u : Station core) → Rests core s t → ((r : Receipt) × IsSection terms t.me.member.setting.registers job r after × Leaves core t r u) → Advances terms core job s after u
     left_after job after s t u begun left = advances_on job job after s t u (stands job job s t refl begun) (one_left job after t u left)
 
     -- a station that goes on without a section
-    pub on_rests : (job next : J) (s t u : Station core) → Advances AsksFor Makes Holds core job s next t → Rests core t u → Advances AsksFor Makes Holds core job s next u
+    pub on_rests : (job next : J) (s t u : Station core) → Advances terms core job s next t → Rests core t u → Advances terms core job s next u
     on_rests job next s t u a rests = advances_on job next next s t u a (stands next next t u refl rests)
 
     -- nothing is pending
-    pub settled : (job after : J) (s t : Station core) → Advances AsksFor Makes Holds core job s after t → Reaches AsksFor Makes Holds core false job s after t
+    pub settled : (job after : J) (s t : Station core) → Advances terms core job s after t → Reaches terms core false job s after t
     settled job after s t a = record { next = after; advances = a; rest = refl }
 
-    pub reached : (job after : J) (s t : Station core) → Reaches AsksFor Makes Holds core false job s after t → Advances AsksFor Makes Holds core job s after t
-    reached job after s t r = subst (λ (j : J). Advances AsksFor Makes Holds core job s j t) (sym r.rest) r.advances
+    pub reached : (job after : J) (s t : Station core) → Reaches terms core false job s after t → Advances terms core job s after t
+    reached job after s t r = subst (λ (j : J). Advances terms core job s j t) (sym r.rest) r.advances
 
     -- a section is pending
-    pub pending : (job after : J) (s t : Station core) → Rests core s t → Pends AsksFor Makes Holds core job t after → Reaches AsksFor Makes Holds core true job s after t
+    pub pending : (job after : J) (s t : Station core) → Rests core s t → Pends terms core job t after → Reaches terms core true job s after t
     pending job after s t rests pends = record { next = job; advances = stands job job s t refl rests; rest = pends }
 
-    pub reaches_on : (p : Bool) (first job after : J) (from s t : Station core) → Reaches AsksFor Makes Holds core false first from job s → Reaches AsksFor Makes Holds core p job s after t → Reaches AsksFor Makes Holds core p first from after t
+    pub reaches_on : (p : Bool) (first job after : J) (from s t : Station core) → Reaches terms core false first from job s → Reaches terms core p job s after t → Reaches terms core p first from after t
     reaches_on p first job after from s t a b = record { next = b.next; advances = advances_on first job b.next from s t (reached first job from s a) b.advances; rest = b.rest }
 
     -- the job cannot go on
-    pub fails_on : (why : JobFault) (first job after : J) (from s t : Station core) → Reaches AsksFor Makes Holds core false first from job s → Rests core s t → CannotGoOn AsksFor Makes Holds core why job after t → Fails AsksFor Makes Holds core why first from after t
+    pub fails_on : (why : JobFault) (first job after : J) (from s t : Station core) → Reaches terms core false first from job s → Rests core s t → CannotGoOn terms core why job after t → Fails terms core why first from after t
     fails_on why first job after from s t a rests reason = record { next = job; advances = on_rests first job from s t (reached first job from s a) rests; reason = reason }
 
     -- a pending section is left
-    pub left_at_last : (first job : J) (from s t : Station core) → Reaches AsksFor Makes Holds core true first from job s → (r : Receipt) × ((leave_of core s.me.member).answer ≡ Ok r) × (t ≡ does core Leave s) → Reaches AsksFor Makes Holds core false first from job t
+    pub left_at_last : (first job : J) (from s t : Station core) → Reaches terms core true first from job s → (r : Receipt) × ((leave_of core s.me.member).answer ≡ Ok r) × (t ≡ does core Leave s) → Reaches terms core false first from job t
     left_at_last first job from s t r did =
-        settled first job from t (advances_on first r.next job from s t r.advances (one_left r.next job s t (pending_left AsksFor Makes Holds core r.next job did.0 s s t (rests_here core s s refl) r.rest did.1 did.2)))
+        settled first job from t (advances_on first r.next job from s t r.advances (one_left r.next job s t (pending_left terms core r.next job did.0 s s t (rests_here core s s refl) r.rest did.1 did.2)))
 
-    pub still_there : (p : Bool) (first job : J) (from s t : Station core) → t ≡ s → Reaches AsksFor Makes Holds core p first from job s → Reaches AsksFor Makes Holds core p first from job t
-    still_there p first job from s t same r = subst (λ (z : Station core). Reaches AsksFor Makes Holds core p first from job z) (sym same) r
+    pub still_there : (p : Bool) (first job : J) (from s t : Station core) → t ≡ s → Reaches terms core p first from job s → Reaches terms core p first from job t
+    still_there p first job from s t same r = subst (λ (z : Station core). Reaches terms core p first from job z) (sym same) r
 
     -- what leaves phase and draft leaves what is pending
-    carried : (p : Bool) (first job : J) (from s t : Station core) → Rests core s t → Stays core s t → Reaches AsksFor Makes Holds core p first from job s → Reaches AsksFor Makes Holds core p first from job t
+    carried : (p : Bool) (first job : J) (from s t : Station core) → Rests core s t → Stays core s t → Reaches terms core p first from job s → Reaches terms core p first from job t
     carried false first job from s t rests stays r = record { next = r.next; advances = on_rests first r.next from s t r.advances rests; rest = r.rest }
     carried true first job from s t rests stays r = record {
       next = r.next;
       advances = on_rests first r.next from s t r.advances rests;
       rest = record {
         receipt = r.rest.receipt;
-        section = subst (λ (x : Setting). IsSection AsksFor Makes Holds x.registers r.next r.rest.receipt job) (sym rests.setting) r.rest.section;
+        section = subst (λ (x : Setting). IsSection terms x.registers r.next r.rest.receipt job) (sym rests.setting) r.rest.section;
         inside = stays.0 ∙ r.rest.inside;
         drafted =
             r.rest.drafted ∙ ap (λ (x : Setting). receipt_of r.rest.receipt.number x.me s.me.member.draft) (sym rests.setting)
@@ -203,7 +204,7 @@ module _ {J : Type 0} (AsksFor : J → List ℕ → Type 0) (Makes : J → ℕ �
     }
 
     -- as a turn of the station does, and its settling
-    pub turned : (phases : KeepsPhases core) (every before : ℕ) (p : Bool) (first job : J) (from s t u : Station core) → Goes core s t → SettlesIfDue core every before t u → Reaches AsksFor Makes Holds core p first from job s → Reaches AsksFor Makes Holds core p first from job u
+    pub turned : (phases : KeepsPhases core) (every before : ℕ) (p : Bool) (first job : J) (from s t u : Station core) → Goes core s t → SettlesIfDue core every before t u → Reaches terms core p first from job s → Reaches terms core p first from job u
     turned phases every before p first job from s t u goes settles r =
         let kept = settling core every before t u settles in
         carried p first job from t u kept.0 kept.1 (carried p first job from s t (goes_rests core s t goes) (goes_stays core phases s t goes) r)

@@ -27,6 +27,7 @@ use Rattle.mx_jobs.specs.Runs.{HaveRun, own_of}
 use Rattle.mx_jobs.specs.Sections.{IsSection, Runs, registers_of, values_of}
 use Rattle.mx_jobs.specs.Serial.{AreSerial}
 use Rattle.mx_jobs.proofs.OwnReceipts.{to_filter}
+use Rattle.mx_jobs.specs.Terms.{Terms}
 
 same_list : (xs ys : List ℕ) → length xs ≡ length ys → ((i : ℕ) → i < length xs → get_or xs i 0 ≡ get_or ys i 0) → xs ≡ ys
 same_list [] [] long each = refl
@@ -134,13 +135,13 @@ module _ (count : ℕ) (receipts : List Receipt) (journal : JournalState) (seria
       length_registers : length (registers_in count journal) ≡ count
       length_registers = length_each_below _ count
 
-  module _ {J : Type 0} (AsksFor : J → List ℕ → Type 0) (Makes : J → ℕ → List ℕ → List Write → J → Type 0) (Holds : ℕ → List ℕ → Type 0) where
+  module _ {J : Type 0} (terms : Terms J) where
     -- each receipt is of a section of some job
     abbrev AreSections : Type 0
-    AreSections = (r : Receipt) → IsIn r receipts → (job : J) × (after : J) × IsSection AsksFor Makes Holds count job r after
+    AreSections = (r : Receipt) → IsIn r receipts → (job : J) × (after : J) × IsSection terms count job r after
 
-    holds_at : AreSections → ((n : ℕ) → Holds 0 (replicate n 0)) → (k : ℕ) → k ≤ length receipts → Holds k (contents k)
-    holds_at sections begins zero low = subst (Holds 0) (sym at_first) (begins count)
+    holds_at : AreSections → ((n : ℕ) → terms.holds 0 (replicate n 0)) → (k : ℕ) → k ≤ length receipts → terms.holds k (contents k)
+    holds_at sections begins zero low = subst (terms.holds 0) (sym at_first) (begins count)
     holds_at sections begins (suc k) low =
         let e = element receipts k (omega arith) in
         let r = e.0 in
@@ -152,22 +153,22 @@ module _ (count : ℕ) (receipts : List Receipt) (journal : JournalState) (seria
         (subst (λ (n : ℕ). AreThere n (map (λ (w : Write). w.register) r.writes.items)) (sym size) s.2.write_there)
         (read_so k r.reads.items (λ x h. first_read k r x e.1 h (all_in r.reads.items x s.2.first h)) s.2.read_there)
         (holds_at sections begins k (omega arith)) in
-        subst (Holds (suc k)) (sym (step k r e.1)) (subst (λ (n : ℕ). Holds n (after_writes r.writes.items (contents k))) number kept)
+        subst (terms.holds (suc k)) (sym (step k r e.1)) (subst (λ (n : ℕ). terms.holds n (after_writes r.writes.items (contents k))) number kept)
 
-    pub holds_shown : AreSections → ((n : ℕ) → Holds 0 (replicate n 0)) → count ≤ MAX_REGISTERS → Holds (length receipts) (contents_of count journal)
-    holds_shown sections begins few = subst (Holds (length receipts)) (sym (shown few)) (holds_at sections begins (length receipts) (omega arith))
+    pub holds_shown : AreSections → ((n : ℕ) → terms.holds 0 (replicate n 0)) → count ≤ MAX_REGISTERS → terms.holds (length receipts) (contents_of count journal)
+    holds_shown sections begins few = subst (terms.holds (length receipts)) (sym (shown few)) (holds_at sections begins (length receipts) (omega arith))
 
-module _ {J : Type 0} (AsksFor : J → List ℕ → Type 0) (Makes : J → ℕ → List ℕ → List Write → J → Type 0) (Holds : ℕ → List ℕ → Type 0) (Finished : J → Type 0) (count : ℕ) where
-  section_in : (job : J) (rs : List Receipt) (after : J) → Runs AsksFor Makes Holds count job rs after → (r : Receipt) → IsIn r rs → (j : J) × (next : J) × IsSection AsksFor Makes Holds count j r next
+module _ {J : Type 0} (terms : Terms J) (count : ℕ) where
+  section_in : (job : J) (rs : List Receipt) (after : J) → Runs terms count job rs after → (r : Receipt) → IsIn r rs → (j : J) × (next : J) × IsSection terms count j r next
   section_in job [] after runs r h = absurd h
-  section_in job (x ∷ rs) after runs r (inl e) = (job, runs.0, subst (λ (z : Receipt). IsSection AsksFor Makes Holds count job z runs.0) (sym e) runs.1)
+  section_in job (x ∷ rs) after runs r (inl e) = (job, runs.0, subst (λ (z : Receipt). IsSection terms count job z runs.0) (sym e) runs.1)
   section_in job (x ∷ rs) after runs r (inr h) = section_in runs.0 rs after runs.2 r h
 
   -- what holds at the end of a run
-  pub law_holds : (jobs : List J) (receipts : List Receipt) (journal : JournalState) (afters : List J) → HaveRun AsksFor Makes Holds Finished count jobs receipts journal afters → ((n : ℕ) → Holds 0 (replicate n 0)) → count ≤ MAX_REGISTERS
-      → Holds (length receipts) (contents_of count journal)
+  pub law_holds : (jobs : List J) (receipts : List Receipt) (journal : JournalState) (afters : List J) → HaveRun terms count jobs receipts journal afters → ((n : ℕ) → terms.holds 0 (replicate n 0)) → count ≤ MAX_REGISTERS
+      → terms.holds (length receipts) (contents_of count journal)
   law_holds jobs receipts journal afters ran begins few =
-      holds_shown count receipts journal ran.serial AsksFor Makes Holds
+      holds_shown count receipts journal ran.serial terms
       (λ r h.
       let low = ran.own r h in
       let job = element jobs r.node low in

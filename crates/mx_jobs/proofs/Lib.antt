@@ -2,7 +2,6 @@ pub mod Members
 pub mod Made
 pub mod Advancing
 pub mod Able
-pub mod Kept
 pub mod Each
 pub mod OwnReceipts
 pub mod Promised

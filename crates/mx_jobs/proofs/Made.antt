@@ -18,22 +18,23 @@ use Rattle.mx_stations.specs.Turns.{Station}
 use Rattle.mx_jobs.specs.Laws.{AreThere, KeepsLaw}
 use Rattle.mx_jobs.specs.Sections.{Drafts, HasRead, IsSection, Leaves, Pends, Rests, values_of}
 use Rattle.mx_jobs.proofs.Members.{drafts_on, same_ok}
+use Rattle.mx_jobs.specs.Terms.{Terms}
 
-module _ {J : Type 0} (AsksFor : J → List ℕ → Type 0) (Makes : J → ℕ → List ℕ → List OneWrite → J → Type 0) (Holds : ℕ → List ℕ → Type 0) where
-  section_made : (count : ℕ) (job after : J) (n me : ℕ) (registers values : List ℕ) (writes : List OneWrite) (d : Drafted) (r : Receipt) → AsksFor job registers → Makes job n values writes after → KeepsLaw AsksFor Holds job n values writes → HasRead count registers values d
-      → AreThere count (map (λ (w : OneWrite). w.register) writes) → r ≡ receipt_of n me (record { reads = d.reads; writes = d.writes ++ writes }) → IsSection AsksFor Makes Holds count job r after
+module _ {J : Type 0} (terms : Terms J) where
+  section_made : (count : ℕ) (job after : J) (n me : ℕ) (registers values : List ℕ) (writes : List OneWrite) (d : Drafted) (r : Receipt) → terms.asks_for job registers → terms.makes job n values writes after → KeepsLaw terms job n values writes → HasRead count registers values d
+      → AreThere count (map (λ (w : OneWrite). w.register) writes) → r ≡ receipt_of n me (record { reads = d.reads; writes = d.writes ++ writes }) → IsSection terms count job r after
   section_made count job after n me registers values writes d r asked made keeps has there is =
-      subst (λ (x : Receipt). IsSection AsksFor Makes Holds count job x after) (sym is) (record {
-        asked = subst (AsksFor job) (sym has.registers_are) asked;
+      subst (λ (x : Receipt). IsSection terms count job x after) (sym is) (record {
+        asked = subst (terms.asks_for job) (sym has.registers_are) asked;
         read_there = subst (AreThere count) (sym has.registers_are) has.there;
         write_there = subst (λ (ws : List OneWrite). AreThere count (map (λ (w : OneWrite). w.register) ws)) (sym (ap (λ (ws : List OneWrite). ws ++ writes) has.no_writes)) there;
         first = has.first;
         made =
-            subst (λ (ws : List OneWrite). Makes job n (values_of d.reads) ws after) (sym (ap (λ (ws : List OneWrite). ws ++ writes) has.no_writes))
-            (subst (λ (vs : List ℕ). Makes job n vs writes after) (sym has.values_are) made);
+            subst (λ (ws : List OneWrite). terms.makes job n (values_of d.reads) ws after) (sym (ap (λ (ws : List OneWrite). ws ++ writes) has.no_writes))
+            (subst (λ (vs : List ℕ). terms.makes job n vs writes after) (sym has.values_are) made);
         keeps =
-            subst (λ (ws : List OneWrite). KeepsLaw AsksFor Holds job n (values_of d.reads) ws) (sym (ap (λ (ws : List OneWrite). ws ++ writes) has.no_writes))
-            (subst (λ (vs : List ℕ). KeepsLaw AsksFor Holds job n vs writes) (sym has.values_are) keeps);
+            subst (λ (ws : List OneWrite). KeepsLaw terms job n (values_of d.reads) ws) (sym (ap (λ (ws : List OneWrite). ws ++ writes) has.no_writes))
+            (subst (λ (vs : List ℕ). KeepsLaw terms job n vs writes) (sym has.values_are) keeps);
       })
 
   module _ {H S M : Type 0} (core : Core H S M) where
@@ -58,10 +59,10 @@ module _ {J : Type 0} (AsksFor : J → List ℕ → Type 0) (Makes : J → ℕ �
     }
 
     -- from the restart to the last write
-    pub section_pends : (job after : J) (n : ℕ) (registers values : List ℕ) (writes : List OneWrite) (s a b c : Station core) → core.phase s.me.member.core ≡ Inside n → AsksFor job registers → Makes job n values writes after → KeepsLaw AsksFor Holds job n values writes → Drafts core s fresh a
+    pub section_pends : (job after : J) (n : ℕ) (registers values : List ℕ) (writes : List OneWrite) (s a b c : Station core) → core.phase s.me.member.core ≡ Inside n → terms.asks_for job registers → terms.makes job n values writes after → KeepsLaw terms job n values writes → Drafts core s fresh a
         → ((d : Drafted) × HasRead a.me.member.setting.registers registers values d × Drafts core a d b)
         → Drafts core b (record { reads = b.me.member.draft.reads; writes = b.me.member.draft.writes ++ writes }) c × AreThere b.me.member.setting.registers (map (λ (w : OneWrite). w.register) writes)
-        → Rests core s c × Pends AsksFor Makes Holds core job c after
+        → Rests core s c × Pends terms core job c after
     section_pends job after n registers values writes s a b c is asked made keeps woke got wrote =
         let all = drafts_on core _ _ s b c (drafts_on core _ _ s a b woke got.2) wrote.0 in
         let count : ℕ = c.me.member.setting.registers in
@@ -80,12 +81,12 @@ module _ {J : Type 0} (AsksFor : J → List ℕ → Type 0) (Makes : J → ℕ �
         )
 
     -- and then the leaving
-    pub pending_left : (job after : J) (r : Receipt) (s c t : Station core) → Rests core s c → Pends AsksFor Makes Holds core job c after → (leave_of core c.me.member).answer ≡ Ok r → t ≡ does core Leave c
-        → (x : Receipt) × IsSection AsksFor Makes Holds s.me.member.setting.registers job x after × Leaves core s x t
+    pub pending_left : (job after : J) (r : Receipt) (s c t : Station core) → Rests core s c → Pends terms core job c after → (leave_of core c.me.member).answer ≡ Ok r → t ≡ does core Leave c
+        → (x : Receipt) × IsSection terms s.me.member.setting.registers job x after × Leaves core s x t
     pending_left job after r s c t rests pends told did =
         let n : ℕ = pends.receipt.number in
         let same : r ≡ pends.receipt = closes n c r pends.inside told ∙ sym pends.drafted in (
           r,
-          subst (λ (x : Receipt). IsSection AsksFor Makes Holds s.me.member.setting.registers job x after) (sym same) (subst (λ (x : Setting). IsSection AsksFor Makes Holds x.registers job pends.receipt after) rests.setting pends.section),
+          subst (λ (x : Receipt). IsSection terms s.me.member.setting.registers job x after) (sym same) (subst (λ (x : Setting). IsSection terms x.registers job pends.receipt after) rests.setting pends.section),
           leaves_on s c t r rests (leaves n c t r pends.inside told did),
         )

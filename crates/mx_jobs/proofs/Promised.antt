@@ -1,6 +1,7 @@
--- What workers leave, by what they promised.
-use Rattle.std.proofs.Common.{◌≡◌, ◌∙◌, ◌+◌, ◌<◌, ◌++◌, ℕ, zero, suc, List, [], ◌∷◌, None, length, map, slice_get, Some, refl, sym, ap, arith, subst}
-use Rattle.std.proofs.lemmas.List.{length-map, length_push}
+-- What workers leave of the stations and jobs of a run.
+use Rattle.std.proofs.Common.{◌≡◌, ◌∙◌, ◌+◌, ◌<◌, ◌≤◌, ◌++◌, ℕ, zero, suc, List, [], ◌∷◌, None, length, map, slice_get, Some, refl, sym, ap, arith, subst}
+use Rattle.std.specs.List.{AllZip}
+use Rattle.std.proofs.lemmas.List.{length-map}
 use Rattle.std.proofs.lemmas.Option.{same_Some, slice_get_within}
 use mathlib.Core.Option.{some}
 use lib.ListN.{get_elem?}
@@ -21,45 +22,13 @@ use Rattle.mx_jobs.specs.declared.worker.Ended.TheVariants.{Done, GateShut}
 use Rattle.mx_jobs.specs.declared.worker.RunOptions.{RunOptions}
 use Rattle.mx_jobs.specs.Faults.{Tells}
 use Rattle.mx_jobs.specs.Sections.{Runs}
-use Rattle.mx_jobs.specs.declared.threads.WorkAt.{WorkAt}
-use Rattle.mx_jobs.specs.Posted.{AddsWorker, AreEach, ArePosted, Fit, IsPosted}
-use Rattle.mx_jobs.specs.Runs.{AreBack, AreDone, AreLeft, HasLeft, HaveRun, IsAtRest, IsDone, IsLeft, IsUnderWay, Opening, own_of, registers_at}
-use Rattle.mx_jobs.proofs.Each.{as_elem, cons_each, each_at, first_each, last_each, none_each, pushed_each, rest_each}
+use Rattle.mx_jobs.specs.declared.threads.Worker.{Worker}
+use Rattle.mx_jobs.specs.Posted.{AreEach, workers}
+use Rattle.mx_jobs.specs.Runs.{AreBack, AreDone, HaveRun, IsAtRest, IsDone, IsLeft, Opening, own_of, registers_at}
+use Rattle.mx_jobs.proofs.Each.{as_elem, each_at}
 use Rattle.mx_jobs.proofs.Telling.{done_is_not_yet, done_not_own, shut_is_done, shut_is_not_yet, shut_not_own}
 use Rattle.mx_jobs.proofs.OwnReceipts.{own_receipts, owned}
-
-module _ {X J : Type 0} (stations : List X) (jobs : List J) where
-  -- all stations, with all jobs
-  pub all_fit : Fit stations jobs 0 stations jobs
-  all_fit = record {
-    places = record { each = λ k s at. subst (λ (i : ℕ). slice_get stations i ≡ Some s) (let e : k ≡ 0 + k = omega arith in e) at };
-    own = record { each = λ k j at. subst (λ (i : ℕ). slice_get jobs i ≡ Some j) (let e : k ≡ 0 + k = omega arith in e) at };
-  }
-
-  -- the first of the stations and of the jobs, and the others
-  pub first_fit : (k : ℕ) (s : X) (ss all : List X) (j : J) (js these : List J) → all ≡ s ∷ ss → these ≡ j ∷ js → Fit stations jobs k all these
-      → (slice_get stations k ≡ Some s) × (slice_get jobs k ≡ Some j) × Fit stations jobs (suc k) ss js
-  first_fit k s ss all j js these is are fit = (
-    first_each k s ss all is fit.places,
-    first_each k j js these are fit.own,
-    record { places = rest_each k s ss all is fit.places; own = rest_each k j js these are fit.own },
-  )
-
-  -- one more worker
-  pub posted_on : (options : RunOptions) (s : X) (j : J) (old new : List (WorkAt X J)) → slice_get stations (length old) ≡ Some s → slice_get jobs (length old) ≡ Some j
-      → AddsWorker options s j old new → ArePosted options stations jobs old → ArePosted options stations jobs new
-  posted_on options s j old new place own adds rest =
-      let k = length old in
-      pushed_each 0 old old new adds.promise refl adds.grown rest
-      (subst (λ (i : ℕ). IsPosted options stations jobs i adds.promise) (let e : k ≡ 0 + k = omega arith in e) (record {
-        place = subst (λ x. slice_get stations k ≡ Some x) (sym adds.here) place;
-        own = subst (λ x. slice_get jobs k ≡ Some x) (sym adds.own) own;
-        as_told = adds.as_told;
-      }))
-
--- so many workers more
-pub one_more : {X J : Type 0} (options : RunOptions) (s : X) (j : J) (old new : List (WorkAt X J)) → AddsWorker options s j old new → suc (length old) ≡ length new
-one_more options s j old new adds = let pushed = length_push old adds.promise in let grown = ap length adds.grown in omega (arith, pushed, grown)
+use Rattle.mx_jobs.specs.Terms.{Terms}
 
 -- the stations of a new table are at rest
 pub new_rests : {H S M : Type 0} (core : Core H S M) (shape : H) (origin limit registers : ℕ) (ss : List (Station core)) (fresh_ones : AreFresh (core.count shape) (λ i. start_of core shape i origin limit registers) ss)
@@ -88,22 +57,45 @@ found_at [] k low = absurd (omega (arith, low))
 found_at (x ∷ xs) zero low = (x, refl)
 found_at (x ∷ xs) (suc k) low = found_at xs k (omega (arith, low))
 
-module _ {J : Type 0} (AsksFor : J → List ℕ → Type 0) (Makes : J → ℕ → List ℕ → List Write → J → Type 0) (Holds : ℕ → List ℕ → Type 0) (Finished : J → Type 0) {H S M : Type 0} (core : Core H S M) (options : RunOptions) (stations : List (Station core)) (jobs : List J) where
-  none_left : (k : ℕ) → AreLeft AsksFor Makes Holds Finished core options stations jobs k [] [] []
-  none_left k = record { all = []; each = none_each k [] refl; stations_are = refl; jobs_are = refl; ends_are = refl }
+-- the worker at a place has the station and the job at that place
+worker_at : {S J F : Type 0} (options : RunOptions) (ss : List S) (js : List J) (fs : List F) (k : ℕ) (w : Worker S J F) → slice_get (workers options ss js fs) k ≡ Some w
+    → (slice_get ss k ≡ Some w.station) × (slice_get js k ≡ Some w.job) × (w.options ≡ options)
+worker_at options [] js fs k w at = absurd (none_is_no_some w at)
+worker_at options (s ∷ ss) [] fs k w at = absurd (none_is_no_some w at)
+worker_at options (s ∷ ss) (j ∷ js) [] k w at = absurd (none_is_no_some w at)
+worker_at {S} {J} {F} options (s ∷ ss) (j ∷ js) (f ∷ fs) zero w at =
+    let same = same_Some (record { station = s; job = j; fates = f; options = options }) w at in
+    (ap (λ (z : Worker S J F). Some z.station) same, ap (λ (z : Worker S J F). Some z.job) same, sym (ap (λ (z : Worker S J F). z.options) same))
+worker_at options (s ∷ ss) (j ∷ js) (f ∷ fs) (suc k) w at = worker_at options ss js fs k w at
 
-  -- one more, before the others
-  pub left_on : (k : ℕ) (ends : List Ended) (lefts more : List (Station core)) (afters others : List J) (left : Station core × J × Ended) → HasLeft AsksFor Makes Holds Finished core options stations jobs k left → more ≡ left.0 ∷ lefts → others ≡ left.1 ∷ afters
-      → AreLeft AsksFor Makes Holds Finished core options stations jobs (suc k) ends lefts afters → AreLeft AsksFor Makes Holds Finished core options stations jobs k (left.2 ∷ ends) more others
-  left_on k ends lefts more afters others left has grown and so = record {
-    all = left ∷ so.all;
-    each = cons_each k left so.all has so.each;
-    stations_are = grown ∙ ap (λ (ss : List (Station core)). left.0 ∷ ss) so.stations_are;
-    jobs_are = and ∙ ap (λ (js : List J). left.1 ∷ js) so.jobs_are;
-    ends_are = ap (λ (es : List Ended). left.2 ∷ es) so.ends_are;
-  }
+pub next_worker : {S J F : Type 0} (options : RunOptions) (s : S) (ss all : List S) (j : J) (js these : List J) (f : F) (fs those : List F) → all ≡ s ∷ ss → these ≡ j ∷ js → those ≡ f ∷ fs
+    → workers options all these those ≡ record { station = s; job = j; fates = f; options = options } ∷ workers options ss js fs
+next_worker options s ss all j js these f fs those is are lie =
+    ap (λ l. workers options l these those) is ∙ ap (λ l. workers options (s ∷ ss) l those) are ∙ ap (λ l. workers options (s ∷ ss) (j ∷ js) l) lie
 
-  did_nothing : (s : Station core) (j : J) → IsLeft AsksFor Makes Holds Finished core options s j (s, j, GateShut)
+pub many_workers : {S J F : Type 0} (options : RunOptions) (ss : List S) (js : List J) (fs : List F) → length js ≡ length ss → length ss ≤ length fs → length (workers options ss js fs) ≡ length ss
+many_workers options [] js fs each linked = refl
+many_workers options (s ∷ ss) [] fs each linked = absurd (omega (arith, each))
+many_workers options (s ∷ ss) (j ∷ js) [] each linked = absurd (omega (arith, linked))
+many_workers options (s ∷ ss) (j ∷ js) (f ∷ fs) each linked = ap suc (many_workers options ss js fs (omega (arith, each)) (omega (arith, linked)))
+
+module _ {A B : Type 0} (R : A → B → Type 0) where
+  pub zip_many : (xs : List A) (ys : List B) → AllZip R xs ys → length ys ≡ length xs
+  zip_many [] [] all = refl
+  zip_many [] (y ∷ ys) all = absurd all
+  zip_many (x ∷ xs) [] all = absurd all
+  zip_many (x ∷ xs) (y ∷ ys) all = ap suc (zip_many xs ys all.1)
+
+  zip_at : (xs : List A) (ys : List B) → AllZip R xs ys → (k : ℕ) (y : B) → slice_get ys k ≡ Some y → (x : A) × (slice_get xs k ≡ Some x) × R x y
+  zip_at [] [] all k y at = absurd (none_is_no_some y at)
+  zip_at [] (z ∷ ys) all k y at = absurd all
+  zip_at (x ∷ xs) [] all k y at = absurd all
+  zip_at (x ∷ xs) (z ∷ ys) all zero y at = (x, refl, subst (R x) (same_Some z y at) all.0)
+  zip_at (x ∷ xs) (z ∷ ys) all (suc k) y at = zip_at xs ys all.1 k y at
+
+module _ {J : Type 0} (terms : Terms J) {H S M : Type 0} (core : Core H S M) (options : RunOptions) (stations : List (Station core)) (jobs : List J) where
+  -- with no thread nothing is done
+  did_nothing : (s : Station core) (j : J) → IsLeft terms core options s j (s, j, GateShut)
   did_nothing s j = record {
     works = refl;
     done = λ e. absurd (shut_is_done e);
@@ -113,135 +105,89 @@ module _ {J : Type 0} (AsksFor : J → List ℕ → Type 0) (Makes : J → ℕ �
     shut = λ e. refl;
   }
 
-  -- with no thread nothing is done
-  pub unstarted : (k : ℕ) (ss : List (Station core)) (js : List J) → length js ≡ length ss → Fit stations jobs k ss js → (ends : List Ended) × AreLeft AsksFor Makes Holds Finished core options stations jobs k ends ss js
-  unstarted k [] [] same fit = ([], none_left k)
-  unstarted k [] (j ∷ js) same fit = absurd (omega (arith, same))
-  unstarted k (s ∷ ss) [] same fit = absurd (omega (arith, same))
-  unstarted k (s ∷ ss) (j ∷ js) same fit =
-      let first = first_fit stations jobs k s ss (s ∷ ss) j js (j ∷ js) refl refl fit in
-      let rest = unstarted (suc k) ss js (omega (arith, same)) first.2 in (
-        GateShut ∷ rest.0,
-        left_on k rest.0 ss (s ∷ ss) js (j ∷ js) (s, j, GateShut) (record { from = s; job = j; place = first.0; own = first.1; is_left = did_nothing s j }) refl refl rest.1,
-      )
+  pub none_begun : length jobs ≡ length stations → AreBack terms core options stations jobs (map (λ (s : Station core). GateShut) stations) stations jobs
+  none_begun same = record {
+    many = refl;
+    jobs_many = same;
+    afters_many = same;
+    ends_many = length-map stations (λ (s : Station core). GateShut);
+    each = λ k from left job after end place own here there last.
+        let is_left = same_Some from left (sym place ∙ here) in
+        let is_after = same_Some job after (sym own ∙ there) in
+        let is_end = (was_at (λ (s : Station core). GateShut) stations k end last).2 in
+        subst (λ (z : Ended). IsLeft terms core options from job (left, after, z)) is_end
+        (subst (λ (z : J). IsLeft terms core options from job (left, z, GateShut)) is_after
+        (subst (λ (z : Station core). IsLeft terms core options from job (z, job, GateShut)) is_left (did_nothing from job)));
+  }
 
-  -- before any thread is started
-  pub none_under_way : (lefts : List (Station core)) (afters : List J) → length afters ≡ length stations → lefts ≡ stations → afters ≡ jobs → IsUnderWay AsksFor Makes Holds Finished core options stations jobs [] lefts afters
-  none_under_way lefts afters same here there =
-      let fit = all_fit stations jobs in
-      let all = unstarted 0 lefts afters (omega (arith, same, ap length here)) (subst (λ (ss : List (Station core)). Fit stations jobs 0 ss afters) (sym here) (subst (λ (js : List J). Fit stations jobs 0 stations js) (sym there) fit)) in
-      record { many = (let e = ap length here in omega (arith, e)); posted = none_each 0 [] refl; ends = all.0; left = all.1 }
+  -- what all workers left is back
+  module _ {F : Type 0} (fates : List F) (lefts : List (Station core × J × Ended)) (each : length jobs ≡ length stations) (linked : length stations ≤ length fates)
+      (all : AllZip (λ (w : Worker (Station core) J F) left. IsLeft terms core w.options w.station w.job left) (workers options stations jobs fates) lefts) where
+    abbrev left_stations : List (Station core)
+    left_stations = map (λ (l : Station core × J × Ended). l.0) lefts
 
-  -- where no more threads are started
-  pub under_way : (workers : List (WorkAt (Station core) J)) (ss : List (Station core)) (js : List J) → length workers + length ss ≡ length stations → length js ≡ length ss → ArePosted options stations jobs workers
-      → Fit stations jobs (length workers) ss js → IsUnderWay AsksFor Makes Holds Finished core options stations jobs workers ss js
-  under_way workers ss js many same posted fit =
-      let all = unstarted (length workers) ss js same fit in
-      record { many = many; posted = posted; ends = all.0; left = all.1 }
+    abbrev left_jobs : List J
+    left_jobs = map (λ (l : Station core × J × Ended). l.1) lefts
 
-  -- and one ran without a thread
-  pub refused : (workers : List (WorkAt (Station core) J)) (s : Station core) (ss all more : List (Station core)) (j : J) (js these others : List J) (left : Station core × J × Ended)
-      → length workers + length all ≡ length stations → length these ≡ length all → ArePosted options stations jobs workers → Fit stations jobs (length workers) all these
-      → all ≡ s ∷ ss → these ≡ j ∷ js → more ≡ left.0 ∷ ss → others ≡ left.1 ∷ js → IsLeft AsksFor Makes Holds Finished core options s j left → IsUnderWay AsksFor Makes Holds Finished core options stations jobs workers more others
-  refused workers s ss all more j js these others left many same posted fit is are grown and has =
-      let k = length workers in
-      let first = first_fit stations jobs k s ss all j js these is are fit in
-      let one = ap length is in
-      let other = ap length are in
-      let back = ap length grown in
-      let rest = unstarted (suc k) ss js (omega (arith, same, one, other)) first.2 in
-      record {
-        many = omega (arith, many, one, back);
-        posted = posted;
-        ends = left.2 ∷ rest.0;
-        left = left_on k rest.0 ss more js others left (record { from = s; job = j; place = first.0; own = first.1; is_left = has }) grown and rest.1;
-      }
+    abbrev ends : List Ended
+    ends = map (λ (l : Station core × J × Ended). l.2) lefts
 
-  -- one is joined, the last
-  unfoldable pub joined : (worker : WorkAt (Station core) J) (workers old : List (WorkAt (Station core) J)) (lefts more : List (Station core)) (afters others : List J) (left : Station core × J × Ended)
-      → old ≡ workers ++ worker ∷ [] → IsLeft AsksFor Makes Holds Finished core worker.options worker.at.value worker.job.value left → more ≡ left.0 ∷ lefts → others ≡ left.1 ∷ afters
-      → IsUnderWay AsksFor Makes Holds Finished core options stations jobs old lefts afters → IsUnderWay AsksFor Makes Holds Finished core options stations jobs workers more others
-  joined worker workers old lefts more afters others left is kept grown and was =
-      let both = last_each 0 worker workers old is was.posted in
-      let posted = subst (λ (i : ℕ). IsPosted options stations jobs i worker) (let e : 0 + length workers ≡ length workers = omega arith in e) both.1 in
-      let pushed = length_push workers worker in
-      let fewer = ap length is in
-      let back = ap length grown in
-      let many = was.many in
-      record {
-        many = omega (arith, many, pushed, fewer, back);
-        posted = both.0;
-        ends = left.2 ∷ was.ends;
-        left =
-            left_on (length workers) was.ends lefts more afters others left
-            (record {
-              from = worker.at.value;
-              job = worker.job.value;
-              place = posted.place;
-              own = posted.own;
-              is_left = subst (λ (o : RunOptions). IsLeft AsksFor Makes Holds Finished core o worker.at.value worker.job.value left) posted.as_told kept;
-            })
-            grown and
-            (subst (λ (k : ℕ). AreLeft AsksFor Makes Holds Finished core options stations jobs k was.ends lefts afters) (let e : length old ≡ suc (length workers) = omega (arith, pushed, fewer) in e) was.left);
-      }
-
-  no_ends : (all : List (Station core × J × Ended)) (lefts : List (Station core)) (ends : List Ended) → lefts ≡ [] → lefts ≡ map (λ (one : Station core × J × Ended). one.0) all → ends ≡ map (λ (one : Station core × J × Ended). one.2) all → Tells None ends
-  no_ends [] lefts ends none are is = λ e here. absurd (subst (λ (es : List Ended). IsIn e es) is here)
-  no_ends (x ∷ all) lefts ends none are is = absurd (let e = ap length (sym none ∙ are) in omega (arith, e))
-
-  -- none has ended where none is back
-  pub none_ended : (workers : List (WorkAt (Station core) J)) (lefts : List (Station core)) (afters : List J) (was : IsUnderWay AsksFor Makes Holds Finished core options stations jobs workers lefts afters) → lefts ≡ [] → Tells None was.ends
-  none_ended workers lefts afters was none = no_ends was.left.all lefts was.ends none was.left.stations_are was.left.ends_are
-
-  -- at the end all are back
-  module _ (lefts : List (Station core)) (afters : List J) (each : length jobs ≡ length stations) (now : IsUnderWay AsksFor Makes Holds Finished core options stations jobs [] lefts afters) where
-    is_left_at : (k : ℕ) (from left : Station core) (job after : J) (end : Ended) → slice_get stations k ≡ Some from → slice_get jobs k ≡ Some job → slice_get lefts k ≡ Some left → slice_get afters k ≡ Some after → slice_get now.ends k ≡ Some end
-        → IsLeft AsksFor Makes Holds Finished core options from job (left, after, end)
+    is_left_at : (k : ℕ) (from left : Station core) (job after : J) (end : Ended) → slice_get stations k ≡ Some from → slice_get jobs k ≡ Some job → slice_get left_stations k ≡ Some left → slice_get left_jobs k ≡ Some after → slice_get ends k ≡ Some end
+        → IsLeft terms core options from job (left, after, end)
     is_left_at k from left job after end place own here there last =
-        let are = now.left in
-        let w = was_at (λ (one : Station core × J × Ended). one.0) are.all k left (ap (λ (l : List (Station core)). slice_get l k) (sym are.stations_are) ∙ here) in
-        let is_after : w.0.1 ≡ after = same_Some w.0.1 after (sym (is_at (λ (one : Station core × J × Ended). one.1) are.all k w.0 w.1) ∙ ap (λ (l : List J). slice_get l k) (sym are.jobs_are) ∙ there) in
-        let is_end : w.0.2 ≡ end = same_Some w.0.2 end (sym (is_at (λ (one : Station core × J × Ended). one.2) are.all k w.0 w.1) ∙ ap (λ (l : List Ended). slice_get l k) (sym are.ends_are) ∙ last) in
-        let has : HasLeft AsksFor Makes Holds Finished core options stations jobs k w.0 = each_at k are.all w.0 w.1 are.each in
-        let is_from : has.from ≡ from = same_Some has.from from (sym has.place ∙ place) in
-        let is_job : has.job ≡ job = same_Some has.job job (sym has.own ∙ own) in
-        subst (λ (z : Station core). IsLeft AsksFor Makes Holds Finished core options z job (left, after, end)) is_from
-        (subst (λ (z : J). IsLeft AsksFor Makes Holds Finished core options has.from z (left, after, end)) is_job
-        (subst (λ (z : Ended). IsLeft AsksFor Makes Holds Finished core options has.from has.job (left, after, z)) is_end
-        (subst (λ (z : J). IsLeft AsksFor Makes Holds Finished core options has.from has.job (left, z, w.0.2)) is_after
-        (subst (λ (z : Station core). IsLeft AsksFor Makes Holds Finished core options has.from has.job (z, w.0.1, w.0.2)) w.2 has.is_left))))
+        let one = was_at (λ (l : Station core × J × Ended). l.0) lefts k left here in
+        let is_after : one.0.1 ≡ after = same_Some one.0.1 after (sym (is_at (λ (l : Station core × J × Ended). l.1) lefts k one.0 one.1) ∙ there) in
+        let is_end : one.0.2 ≡ end = same_Some one.0.2 end (sym (is_at (λ (l : Station core × J × Ended). l.2) lefts k one.0 one.1) ∙ last) in
+        let by = zip_at (λ (w : Worker (Station core) J F) left. IsLeft terms core w.options w.station w.job left) (workers options stations jobs fates) lefts all k one.0 one.1 in
+        let at = worker_at options stations jobs fates k by.0 by.1 in
+        let is_from : by.0.station ≡ from = same_Some by.0.station from (sym at.0 ∙ place) in
+        let is_job : by.0.job ≡ job = same_Some by.0.job job (sym at.1 ∙ own) in
+        subst (λ (z : Station core). IsLeft terms core options z job (left, after, end)) is_from
+        (subst (λ (z : J). IsLeft terms core options by.0.station z (left, after, end)) is_job
+        (subst (λ (z : Ended). IsLeft terms core options by.0.station by.0.job (left, after, z)) is_end
+        (subst (λ (z : J). IsLeft terms core options by.0.station by.0.job (left, z, one.0.2)) is_after
+        (subst (λ (z : Station core). IsLeft terms core options by.0.station by.0.job (z, one.0.1, one.0.2)) one.2
+        (subst (λ (o : RunOptions). IsLeft terms core o by.0.station by.0.job one.0) at.2 by.2)))))
 
-    pub all_back : AreBack AsksFor Makes Holds Finished core options stations jobs now.ends lefts afters
+    all_back : AreBack terms core options stations jobs ends left_stations left_jobs
     all_back =
-        let are = now.left in
-        let many = now.many in
-        let s = ap length are.stations_are ∙ length-map are.all (λ (one : Station core × J × Ended). one.0) in
-        let j = ap length are.jobs_are ∙ length-map are.all (λ (one : Station core × J × Ended). one.1) in
-        let e = ap length are.ends_are ∙ length-map are.all (λ (one : Station core × J × Ended). one.2) in
+        let many = zip_many _ _ lefts all in
+        let workers_many = many_workers options stations jobs fates each linked in
+        let s = length-map lefts (λ (l : Station core × J × Ended). l.0) in
+        let j = length-map lefts (λ (l : Station core × J × Ended). l.1) in
+        let e = length-map lefts (λ (l : Station core × J × Ended). l.2) in
         record {
-          many = omega (arith, many);
+          many = omega (arith, many, workers_many, s);
           jobs_many = each;
-          afters_many = omega (arith, many, s, j);
-          ends_many = omega (arith, many, s, e);
+          afters_many = omega (arith, many, workers_many, j);
+          ends_many = omega (arith, many, workers_many, e);
           each = is_left_at;
         }
 
     -- where nothing is told, all are done
-    pub all_done : Tells None now.ends → AreDone AsksFor Makes Holds Finished core options stations jobs lefts afters
+    all_done : Tells None ends → AreDone terms core options stations jobs left_stations left_jobs
     all_done told = record {
       many = all_back.many;
       jobs_many = each;
       afters_many = all_back.afters_many;
       each = λ k from left job after place own here there.
-          let low = slice_get_within lefts k left here in
+          let low = slice_get_within left_stations k left here in
           let many = all_back.many in
           let ends_many = all_back.ends_many in
-          let end = found_at now.ends k (omega (arith, low, many, ends_many)) in
-          (is_left_at k from left job after end.0 place own here there end.1).done (told end.0 (in_get now.ends k end.0 end.1));
+          let end = found_at ends k (omega (arith, low, many, ends_many)) in
+          (is_left_at k from left job after end.0 place own here there end.1).done (told end.0 (in_get ends k end.0 end.1));
     }
 
+    -- the same, of stations and jobs that are those of `lefts`
+    module _ (ss : List (Station core)) (js : List J) (here : ss ≡ left_stations) (there : js ≡ left_jobs) where
+      pub back_as : AreBack terms core options stations jobs ends ss js
+      back_as = subst (λ l. AreBack terms core options stations jobs ends l js) (sym here) (subst (λ l. AreBack terms core options stations jobs ends left_stations l) (sym there) all_back)
+
+      pub done_as : Tells None ends → AreDone terms core options stations jobs ss js
+      done_as told = subst (λ l. AreDone terms core options stations jobs l js) (sym here) (subst (λ l. AreDone terms core options stations jobs left_stations l) (sym there) (all_done told))
+
   -- all that are done are back
-  pub done_back : (lefts : List (Station core)) (afters : List J) → AreDone AsksFor Makes Holds Finished core options stations jobs lefts afters → AreBack AsksFor Makes Holds Finished core options stations jobs (map (λ (s : Station core). Done) lefts) lefts afters
+  pub done_back : (lefts : List (Station core)) (afters : List J) → AreDone terms core options stations jobs lefts afters → AreBack terms core options stations jobs (map (λ (s : Station core). Done) lefts) lefts afters
   done_back lefts afters done = record {
     many = done.many;
     jobs_many = done.jobs_many;
@@ -250,7 +196,7 @@ module _ {J : Type 0} (AsksFor : J → List ℕ → Type 0) (Makes : J → ℕ �
     each = λ k from left job after end place own here there last.
         let one = was_at (λ (s : Station core). Done) lefts k end last in
         let is = done.each k from left job after place own here there in
-        subst (λ (z : Ended). IsLeft AsksFor Makes Holds Finished core options from job (left, after, z)) one.2
+        subst (λ (z : Ended). IsLeft terms core options from job (left, after, z)) one.2
         (record {
           works = is.works;
           done = λ e. is;
@@ -261,10 +207,10 @@ module _ {J : Type 0} (AsksFor : J → List ℕ → Type 0) (Makes : J → ℕ �
         });
   }
 
-  module _ (o : Opening H) (lefts : List (Station core)) (afters : List J) (rests : AreEach (IsAtRest core o) 0 stations) (done : AreDone AsksFor Makes Holds Finished core options stations jobs lefts afters) where
+  module _ (o : Opening H) (lefts : List (Station core)) (afters : List J) (rests : AreEach (IsAtRest core o) 0 stations) (done : AreDone terms core options stations jobs lefts afters) where
     -- what the k-th station, which was at rest, and its job came to
     came_to : (k : ℕ) (left : Station core) → slice_get lefts k ≡ Some left
-        → (from : Station core) × (job after : J) × (slice_get jobs k ≡ Some job) × (slice_get afters k ≡ Some after) × IsAtRest core o k from × IsDone AsksFor Makes Holds Finished core options from job left after
+        → (from : Station core) × (job after : J) × (slice_get jobs k ≡ Some job) × (slice_get afters k ≡ Some after) × IsAtRest core o k from × IsDone terms core options from job left after
     came_to k left here =
         let low = slice_get_within lefts k left here in
         let many = done.many in
@@ -290,7 +236,7 @@ module _ {J : Type 0} (AsksFor : J → List ℕ → Type 0) (Makes : J → ℕ �
         ap (λ h. h.2) c.6.advanced.home ∙ ap (λ (e : Node S M). e.node) c.5.me
 
     module _ (receipts : List Receipt) (journal : JournalState) (gathered : IsGathered lefts journal receipts) where
-      run_of : (k : ℕ) (job after : J) → slice_get jobs k ≡ Some job → slice_get afters k ≡ Some after → Runs AsksFor Makes Holds o.registers job (own_of k receipts) after × Finished after
+      run_of : (k : ℕ) (job after : J) → slice_get jobs k ≡ Some job → slice_get afters k ≡ Some after → Runs terms o.registers job (own_of k receipts) after × terms.finished after
       run_of k job after mine at =
           let low = slice_get_within jobs k job mine in
           let many = done.many in
@@ -301,16 +247,16 @@ module _ {J : Type 0} (AsksFor : J → List ℕ → Type 0) (Makes : J → ℕ �
           let me = c.5.me in
           let own = own_receipts lefts journal receipts gathered ordered k l.0 (as_elem lefts k l.0 l.1) in
           let runs =
-          subst (λ (rs : List Receipt). Runs AsksFor Makes Holds o.registers c.1 rs c.2) (sym (own ∙ went.receipts ∙ ap (λ (e : Node S M). e.receipts ++ went.sections) me))
-          (subst (λ (n : ℕ). Runs AsksFor Makes Holds n c.1 went.sections c.2) (ap (λ (e : Node S M). e.member.setting.registers) me) went.runs) in
+          subst (λ (rs : List Receipt). Runs terms o.registers c.1 rs c.2) (sym (own ∙ went.receipts ∙ ap (λ (e : Node S M). e.receipts ++ went.sections) me))
+          (subst (λ (n : ℕ). Runs terms n c.1 went.sections c.2) (ap (λ (e : Node S M). e.member.setting.registers) me) went.runs) in
           let is_job : c.1 ≡ job = same_Some c.1 job (sym c.3 ∙ mine) in
           let is_after : c.2 ≡ after = same_Some c.2 after (sym c.4 ∙ at) in (
-            subst (λ (j : J). Runs AsksFor Makes Holds o.registers job (own_of k receipts) j) is_after (subst (λ (j : J). Runs AsksFor Makes Holds o.registers j (own_of k receipts) c.2) is_job runs),
-            subst Finished is_after c.6.finished,
+            subst (λ (j : J). Runs terms o.registers job (own_of k receipts) j) is_after (subst (λ (j : J). Runs terms o.registers j (own_of k receipts) c.2) is_job runs),
+            subst terms.finished is_after c.6.finished,
           )
 
       -- what all came to
-      pub have_run : HaveRun AsksFor Makes Holds Finished o.registers jobs receipts journal afters
+      pub have_run : HaveRun terms o.registers jobs receipts journal afters
       have_run = record {
         count = done.afters_many ∙ sym done.jobs_many;
         runs = run_of;

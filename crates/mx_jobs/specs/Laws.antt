@@ -4,6 +4,7 @@ use Rattle.mx_journal.specs.declared.records.Write.{Write}
 use Rattle.mx_journal.specs.Settled.{JournalState}
 use Rattle.mx_registers.specs.declared.contents.Content.{Content}
 use Rattle.mx_registers.specs.Based.{registers_in}
+use Rattle.mx_jobs.specs.Terms.{Terms}
 
 -- each of these registers is below `count`, the number of registers
 abbrev pub AreThere : ℕ → List ℕ → Type 0
@@ -27,13 +28,13 @@ values_in contents = map (λ (c : Content). c.value) contents
 abbrev pub contents_of : ℕ → JournalState → List ℕ
 contents_of count journal = values_in (registers_in count journal)
 
-module _ {J : Type 0} (AsksFor : J → List ℕ → Type 0) (Holds : ℕ → List ℕ → Type 0) where
+module _ {J : Type 0} (terms : Terms J) where
   -- The section of this number keeps the law: if the law held before it, and the registers that the
   -- job asked for had these values, then the law holds after these writes.
   abbrev pub KeepsLaw : J → ℕ → List ℕ → List Write → Type 0
   KeepsLaw job number values writes =
-      (before : ℕ) (contents asked : List ℕ) → number ≡ suc before → AsksFor job asked
+      (before : ℕ) (contents asked : List ℕ) → number ≡ suc before → terms.asks_for job asked
       → AreThere (length contents) asked
       → AreThere (length contents) (map (λ (w : Write). w.register) writes)
-      → values ≡ held_in contents asked → Holds before contents
-      → Holds number (after_writes writes contents)
+      → values ≡ held_in contents asked → terms.holds before contents
+      → terms.holds number (after_writes writes contents)

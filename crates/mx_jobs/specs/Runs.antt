@@ -1,4 +1,4 @@
-use Rattle.std.specs.Prelude.{◌≡◌, ◌<◌, ◌≤◌, ◌+◌, ◌==◌, ℕ, Bool, List, [], ◌∷◌, filter, length, map, slice_get, Some}
+use Rattle.std.specs.Prelude.{◌≡◌, ◌<◌, ◌≤◌, ◌==◌, ℕ, Bool, List, [], ◌∷◌, filter, length, slice_get, Some}
 use Rattle.atomic_table.specs.Seated.{TableId}
 use Rattle.mx_stamps.specs.Lists.{IsIn}
 use Rattle.mx_stamps.specs.declared.limits.TheConstants.{MAX_REGISTERS}
@@ -19,11 +19,11 @@ use Rattle.mx_jobs.specs.declared.worker.RunOptions.{RunOptions}
 use Rattle.mx_jobs.specs.declared.faults.RunFault.{RunFault}
 use Rattle.mx_jobs.specs.declared.tries.JobFault.{JobFault}
 use Rattle.mx_jobs.specs.Faults.{Tells}
-use Rattle.mx_jobs.specs.declared.threads.WorkAt.{WorkAt}
-use Rattle.mx_jobs.specs.Posted.{AreEach, ArePosted}
+use Rattle.mx_jobs.specs.Posted.{AreEach}
 use Rattle.mx_jobs.specs.Rounds.{BusyRounds, Works, WorksAtMost}
 use Rattle.mx_jobs.specs.Sections.{Advances, Fails, Reaches, Runs}
 use Rattle.mx_jobs.specs.Serial.{AreSerial}
+use Rattle.mx_jobs.specs.Terms.{Terms}
 
 -- how the stations of a run were created: the cluster's shape, the number from which the numbers of
 -- requests count on, the greatest section number, the number of registers, and the table
@@ -63,9 +63,7 @@ module _ {H S M : Type 0} (core : Core H S M) (o : Opening H) where
 abbrev pub own_of : ℕ → List Receipt → List Receipt
 own_of node receipts = filter (λ (r : Receipt). r.node == node) receipts
 
-module _ {J : Type 0} (AsksFor : J → List ℕ → Type 0)
-    (Makes : J → ℕ → List ℕ → List Write → J → Type 0)
-    (Holds : ℕ → List ℕ → Type 0) (Finished : J → Type 0) where
+module _ {J : Type 0} (terms : Terms J) where
   -- The result of a run with this number of registers: the receipts and the journal of all sections
   -- that were left, and the jobs after the run.
   pub record HaveRun (registers : ℕ) (jobs : List J) (receipts : List Receipt)
@@ -75,7 +73,7 @@ module _ {J : Type 0} (AsksFor : J → List ℕ → Type 0)
     -- led to the k-th job after the run, which has no more sections
     pub runs : (k : ℕ) (job after : J) → slice_get jobs k ≡ Some job
         → slice_get afters k ≡ Some after
-        → Runs AsksFor Makes Holds registers job (own_of k receipts) after × Finished after
+        → Runs terms registers job (own_of k receipts) after × terms.finished after
     -- each receipt is of a node that has a job
     pub own : (r : Receipt) → IsIn r receipts → r.node < length jobs
     pub serial : AreSerial receipts journal
@@ -86,8 +84,8 @@ module _ {J : Type 0} (AsksFor : J → List ℕ → Type 0)
     -- from the station `from` to the station `left`, whose node is not inside.
     pub record IsDone (from : Station core) (job : J) (left : Station core) (after : J)
         : Type 0 where
-      pub advanced : Advances AsksFor Makes Holds core job from after left
-      pub finished : Finished after
+      pub advanced : Advances terms core job from after left
+      pub finished : terms.finished after
       pub outside : IsInside core left.me.member.core → ⊥
       pub works : WorksAtMost core options from left
 
@@ -101,41 +99,15 @@ module _ {J : Type 0} (AsksFor : J → List ℕ → Type 0)
       -- one more that it has not left yet. It was idle in its last round only if the job has no
       -- more sections
       pub reached : left.2 ≡ NotYet
-          → (pending : Bool) × Reaches AsksFor Makes Holds core pending job from left.1 left.0
+          → (pending : Bool) × Reaches terms core pending job from left.1 left.0
       pub idles : left.2 ≡ NotYet
-          → BusyRounds core (Finished left.1) options.settle_every options.turns from left.0
+          → BusyRounds core (terms.finished left.1) options.settle_every options.turns from left.0
       -- if its job cannot go on, that is for this reason
       pub broken : (why : JobFault) → left.2 ≡ Broken why
-          → Fails AsksFor Makes Holds core why job from left.1 left.0
+          → Fails terms core why job from left.1 left.0
       pub shut : left.2 ≡ GateShut → left.1 ≡ job
 
     module _ (stations : List (Station core)) (jobs : List J) where
-      -- what the worker with the k-th station and the k-th job returned
-      pub record HasLeft (k : ℕ) (left : Station core × J × Ended) : Type 0 where
-        pub from : Station core
-        pub job : J
-        pub place : slice_get stations k ≡ Some from
-        pub own : slice_get jobs k ≡ Some job
-        pub is_left : IsLeft from job left
-
-      -- how the workers from the k-th on ended, and which stations and jobs they returned, in order
-      pub record AreLeft (k : ℕ) (ends : List Ended) (lefts : List (Station core))
-          (afters : List J) : Type 0 where
-        pub all : List (Station core × J × Ended)
-        pub each : AreEach HasLeft k all
-        pub stations_are : lefts ≡ map (λ (one : Station core × J × Ended). one.0) all
-        pub jobs_are : afters ≡ map (λ (one : Station core × J × Ended). one.1) all
-        pub ends_are : ends ≡ map (λ (one : Station core × J × Ended). one.2) all
-
-      -- A run that is under way: these workers have the first stations and jobs. The others were
-      -- returned, each as `IsLeft` says for one of the ways in which a worker ends.
-      pub record IsUnderWay (workers : List (WorkAt (Station core) J))
-          (lefts : List (Station core)) (afters : List J) : Type 0 where
-        pub many : length workers + length lefts ≡ length stations
-        pub posted : ArePosted options stations jobs workers
-        pub ends : List Ended
-        pub left : AreLeft (length workers) ends lefts afters
-
       -- All workers are done. For each k, rounds led from the k-th given station to the k-th
       -- returned station, and sections of the k-th given job to the k-th returned job.
       pub record AreDone (lefts : List (Station core)) (afters : List J) : Type 0 where

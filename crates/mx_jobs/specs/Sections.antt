@@ -13,6 +13,7 @@ use Rattle.mx_stations.specs.Turns.{Station}
 use Rattle.mx_jobs.specs.declared.tries.JobFault.{JobFault}
 use Rattle.mx_jobs.specs.declared.tries.JobFault.TheVariants.{NoRegister, NumbersSpent}
 use Rattle.mx_jobs.specs.Laws.{AreThere, KeepsLaw}
+use Rattle.mx_jobs.specs.Terms.{Terms}
 
 abbrev pub registers_of : List Read → List ℕ
 registers_of reads = map (λ x. x.register) reads
@@ -57,19 +58,17 @@ pub record HasRead (count : ℕ) (registers values : List ℕ) (draft : Drafted)
   pub first : All (λ (x : Read). x.after ≡ 0) draft.reads
   pub no_writes : draft.writes ≡ []
 
-module _ {J : Type 0} (AsksFor : J → List ℕ → Type 0)
-    (Makes : J → ℕ → List ℕ → List Write → J → Type 0)
-    (Holds : ℕ → List ℕ → Type 0) where
+module _ {J : Type 0} (terms : Terms J) where
   -- the section of this receipt is the job's next one, and leads to the job `after`. The section
   -- read the registers that the job asked for, before any write; its writes are what the job made
   -- of their values; and it keeps the law. All its registers are among the first `count`
   pub record IsSection (count : ℕ) (job : J) (r : Receipt) (after : J) : Type 0 where
-    pub asked : AsksFor job (registers_of r.reads.items)
+    pub asked : terms.asks_for job (registers_of r.reads.items)
     pub read_there : AreThere count (registers_of r.reads.items)
     pub write_there : AreThere count (map (λ (w : Write). w.register) r.writes.items)
     pub first : All (λ (x : Read). x.after ≡ 0) r.reads.items
-    pub made : Makes job r.number (values_of r.reads.items) r.writes.items after
-    pub keeps : KeepsLaw AsksFor Holds job r.number (values_of r.reads.items) r.writes.items
+    pub made : terms.makes job r.number (values_of r.reads.items) r.writes.items after
+    pub keeps : KeepsLaw terms job r.number (values_of r.reads.items) r.writes.items
 
   -- sections of the job, one after another, have these receipts, and lead to the job `after`
   abbrev pub Runs : ℕ → J → List Receipt → J → Type 0
@@ -82,9 +81,9 @@ module _ {J : Type 0} (AsksFor : J → List ℕ → Type 0)
   abbrev pub LacksRegister : ℕ → J → J → Type 0
   LacksRegister count job after =
       ((after ≡ job)
-      × ((registers : List ℕ) × AsksFor job registers × (AreThere count registers → ⊥)))
+      × ((registers : List ℕ) × terms.asks_for job registers × (AreThere count registers → ⊥)))
       ⊎ ((number : ℕ) × (values : List ℕ) × (writes : List Write)
-      × Makes job number values writes after
+      × terms.makes job number values writes after
       × (AreThere count (map (λ (w : Write). w.register) writes) → ⊥))
 
   module _ {H S M : Type 0} (core : Core H S M) where

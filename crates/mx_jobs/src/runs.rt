@@ -12,17 +12,16 @@ ghost use Rattle.mx_jobs.specs.Laws.{contents_of};
 ghost use Rattle.mx_jobs.specs.Posted.{AreEach, AreReady};
 ghost use Rattle.mx_jobs.specs.Runs.{AreBack, AreDone, AreNew, AreNotDone, HaveRun, IsAtRest, Opening, registers_at};
 
-use crate::ends::join_all;
-use crate::faults::{RunFault, Unfinished};
+use crate::faults::{RunFault, Unfinished, fault_of};
+use crate::host::Host;
 use crate::job::Job;
 use crate::thread_group::ThreadGroup;
-use crate::threads::start_each;
+use crate::threads::{put_back, start_each};
 use crate::worker::RunOptions;
 use mx_letters::{Fair, Fates};
 use mx_nodelaws::Exclusion;
 use mx_stations::{Gathered, Station, gather};
 use std::alloc::{AllocError, Global};
-use std::thread::Threads;
 
 /// The result of a finished run: the receipts of all sections, in order, their journal, and the
 /// jobs as they are after the run.
@@ -52,7 +51,7 @@ pub fn run<
     C: Exclusion + Send + 'static,
     J: Job + Send + 'static,
     F: Fates + Send + Drop + 'static,
-    R: Threads,
+    R: Host,
 >(
     rt: &R,
     alloc: Global,
@@ -66,18 +65,18 @@ where
     C::Shape: Send + 'static,
     requires new { AreNew C.core stations.items }
     requires ready { AreReady J.ready jobs.items }
-    requires begins { (count : ℕ) → J.holds 0 (replicate count 0) }
-    ensures ran { IfOk result (λ out. HaveRun J.asks_for J.makes J.holds J.finished
+    requires begins { (count : ℕ) → J.terms.holds 0 (replicate count 0) }
+    ensures ran { IfOk result (λ out. HaveRun J.terms
         (registers_at stations.items) jobs.items
         out.gathered.receipts.items out.gathered.journal out.jobs.items) }
-    ensures law { IfOk result (λ out. J.holds (length out.gathered.receipts.items)
+    ensures law { IfOk result (λ out. J.terms.holds (length out.gathered.receipts.items)
         (contents_of (registers_at stations.items) out.gathered.journal)) }
     ensures told { IfErr result (λ back. IfOfEnds back.fault
-        (AreNotDone J.asks_for J.makes J.holds J.finished C.core options
+        (AreNotDone J.terms C.core options
         stations.items jobs.items back.fault back.stations.items back.jobs.items)) }
     ensures back { length jobs.items ≡ length stations.items
         → IfErr result (λ back. (ends : List TheEnd)
-        × AreBack J.asks_for J.makes J.holds J.finished C.core options
+        × AreBack J.terms C.core options
         stations.items jobs.items ends back.stations.items back.jobs.items) }
     ensures not_each { length jobs.items ≢ length stations.items
         → IsErrAnd result (λ back. (back.fault ≡ RunFault.NotAJobEach)
@@ -99,7 +98,7 @@ pub fn run_stations<
     C: Exclusion + Send + 'static,
     J: Job + Send + 'static,
     F: Fates + Send + Drop + 'static,
-    R: Threads,
+    R: Host,
 >(
     rt: &R,
     alloc: Global,
@@ -112,14 +111,14 @@ where
     C::Msg: Send + 'static,
     C::Shape: Send + 'static,
     requires { AreReady J.ready jobs.items }
-    ensures done { IfOk result (λ ran. AreDone J.asks_for J.makes J.holds J.finished C.core options
+    ensures done { IfOk result (λ ran. AreDone J.terms C.core options
         stations.items jobs.items ran.stations.items ran.jobs.items) }
     ensures told { IfErr result (λ back. IfOfEnds back.fault
-        (AreNotDone J.asks_for J.makes J.holds J.finished C.core options
+        (AreNotDone J.terms C.core options
         stations.items jobs.items back.fault back.stations.items back.jobs.items)) }
     ensures back { length jobs.items ≡ length stations.items
         → IfErr result (λ back. (ends : List TheEnd)
-        × AreBack J.asks_for J.makes J.holds J.finished C.core options
+        × AreBack J.terms C.core options
         stations.items jobs.items ends back.stations.items back.jobs.items) }
     ensures not_each { length jobs.items ≢ length stations.items
         → IsErrAnd result (λ back. (back.fault ≡ RunFault.NotAJobEach)
@@ -155,7 +154,7 @@ fn run_all<
     C: Exclusion + Send + 'static,
     J: Job + Send + 'static,
     F: Fates + Send + Drop + 'static,
-    R: Threads,
+    R: Host,
 >(
     rt: &R,
     alloc: Global,
@@ -169,27 +168,29 @@ where
     C::Shape: Send + 'static,
     requires ready { AreReady J.ready jobs.old.items }
     requires each { length jobs.old.items ≡ length stations.old.items }
-    ensures ok { OnOk result (AreDone J.asks_for J.makes J.holds J.finished C.core options
+    ensures ok { OnOk result (AreDone J.terms C.core options
         stations.old.items jobs.old.items stations.new.items jobs.new.items) }
     ensures err { IfErr result (λ fault. IfOfEnds fault
-        (AreNotDone J.asks_for J.makes J.holds J.finished C.core options
+        (AreNotDone J.terms C.core options
         stations.old.items jobs.old.items fault stations.new.items jobs.new.items)) }
     ensures back { (ends : List TheEnd)
-        × AreBack J.asks_for J.makes J.holds J.finished C.core options
+        × AreBack J.terms C.core options
         stations.old.items jobs.old.items ends stations.new.items jobs.new.items }
 {
-    let Ok(mut workers) = ThreadGroup::new(alloc, count_of(stations.as_slice())) else {
+    if fates.len() < stations.len() {
+        return Err(RunFault::NotAJobEach);
+    }
+    let nodes = count_of(stations.as_slice());
+    let Ok(mut group) = ThreadGroup::new(rt, alloc, nodes, stations.len()) else {
         return Err(RunFault::Memory);
     };
-    let started = start_each(rt, &mut workers, stations, jobs, &mut fates, options);
-    let ended = join_all(rt, workers, stations, jobs);
-    match started {
-        Ok(()) => {}
-        Err(fault) => return Err(fault),
-    }
-    match ended {
-        None => Ok(()),
-        Some(fault) => Err(fault),
+    start_each(rt, &mut group, stations, jobs, &mut fates, options);
+    let (lefts, refused) = group.join(rt);
+    let ended = put_back(lefts, stations, jobs);
+    match (refused, ended) {
+        (Some(refused), _) => Err(fault_of(refused)),
+        (None, Some(fault)) => Err(fault),
+        (None, None) => Ok(()),
     }
 }
 
@@ -211,9 +212,9 @@ fn finish<C: Exclusion, J: Job>(
     ensures ok { (o : Opening C.Shape) (options : TheOptions)
         (posts : List (Post (MemberState C) (Parcel C.Msg))) (all : List J)
         → AreEach (IsAtRest C.core o) 0 posts
-        → AreDone J.asks_for J.makes J.holds J.finished C.core options posts all
+        → AreDone J.terms C.core options posts all
         stations.items jobs.items
-        → IfOk result (λ out. HaveRun J.asks_for J.makes J.holds J.finished o.registers all
+        → IfOk result (λ out. HaveRun J.terms o.registers all
         out.gathered.receipts.items out.gathered.journal out.jobs.items) }
     ensures err { IfErr result (λ back. (back.fault ≡ RunFault.Memory)
         × (back.stations.items ≡ stations.items) × (back.jobs ≡ jobs)) }

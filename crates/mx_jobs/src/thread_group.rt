@@ -1,19 +1,36 @@
-//! The threads of a run, which share one gate.
+//! The threads of a run, which share one gate, and what they do.
 
-ghost use Rattle.std.specs.Prelude.{◌≡◌, ◌<◌, ◌++◌, ◌∷◌, [], IfErr, IfNone, IfOk, IfSome, OnErr, OnOk};
+ghost use Rattle.std.specs.Prelude.{◌≡◌, ◌<◌, ◌≤◌, ◌++◌, ◌∷◌, [], IfOk, length, vec_capacity};
 ghost use Rattle.std.specs.List.{AllZip};
 
+use crate::host::Host;
 use crate::start_gate::StartGate;
 use std::alloc::{AllocError, Global};
 use std::marker::Model;
-use std::sync::Arc;
+use std::rt::Clock;
+use std::snapshot::Snapshot;
+use std::sync::{Arc, Wait};
 use std::thread;
 use std::thread::{Promise, PromisedHandle, Threads};
 
 /// The greatest number of times that a worker looks whether all have arrived at the gate.
 const MAX_LOOKS: u64 = 100_000_000;
 
-/// Why a thread was not started.
+/// The work of one thread of a run, which leaves a `T`.
+pub trait Work<T>: Drop {
+    // the work may be done
+    ghost able: { Self → Type 0 } = { λ work. Unit {0} };
+
+    // the work may leave this
+    ghost leads: { Self → T → Type 0 } = { λ work left. Unit {0} };
+
+    /// Waits at the gate, and does the work. Does nothing if the gate is shut.
+    fn run<R: Wait + Clock>(self, gate: &StartGate<R>) -> T
+        requires { able self }
+        ensures { leads self result };
+}
+
+/// Why a work got no thread.
 #[derive(Clone, Copy, Debug, PartialEq, Eq)]
 pub enum StartFault {
     /// Memory was refused.
@@ -22,204 +39,187 @@ pub enum StartFault {
     NoThread,
 }
 
-/// What a task returned that ran without a thread, and why it got no thread.
+/// The promise of a thread: it leaves what this work may leave.
 #[derive(Drop)]
-pub struct NotStarted<T> {
-    pub left: T,
-    pub fault: StartFault,
+struct Doing<W> {
+    work: Snapshot<W>,
 }
 
-impl<T: Drop> From<NotStarted<T>> for AllocError {
-    fn from(_refused: NotStarted<T>) -> AllocError {
-        AllocError
+impl<T, W: Work<T>> Promise<T> for Doing<W> {
+    ghost kept_by = { λ doing left. W.leads doing.work.value left };
+}
+
+/// Where a work has begun.
+#[derive(Drop)]
+enum Place<T, W: Work<T>> {
+    /// In a thread.
+    Thread(PromisedHandle<T, Doing<W>>),
+    /// In the thread that began it, at the shut gate. It left this.
+    Here(T),
+}
+
+/// A work that has begun. A contract sees the work.
+#[derive(Drop)]
+struct Begun<T, W: Work<T>> {
+    work: Snapshot<W>,
+    place: Place<T, W>,
+}
+
+impl<T, W: Work<T>> Model for Begun<T, W> {
+    ghost use Rattle.mx_jobs.specs.Groups.{IsOf};
+
+    ghost Value = { W };
+
+    ghost view = { λ begun. begun.work.value };
+
+    ghost invariant = { λ begun. IsOf W.leads begun.work.value begun.place };
+}
+
+impl<T, W: Work<T>> Begun<T, W> {
+    fn join<R: Threads>(self, rt: &R) -> T
+        ensures { W.leads self result }
+    {
+        let Begun { work: _, place } = self;
+        match place {
+            Place::Thread(handle) => handle.join(rt),
+            Place::Here(left) => left,
+        }
     }
 }
 
-/// The threads of a run, which share one gate. Each has promised something about the value that it
-/// leaves; a contract sees the promises of the threads that are not joined yet, in order.
+/// The threads of a run, which share one gate. A contract sees the works that have begun, in order,
+/// and how many may begin in all.
 #[derive(Drop)]
-pub struct ThreadGroup<T, P: Promise<T>> {
-    handles: Vec<PromisedHandle<T, P>>,
-    gate: Arc<StartGate, Global>,
+pub struct ThreadGroup<T, W: Work<T>, R> {
+    gate: Arc<StartGate<R>, Global>,
+    room: usize,
+    begun: Vec<Begun<T, W>>,
+    /// Room for what all works leave.
+    lefts: Vec<T>,
+    /// Why a work got no thread. The gate is shut then.
+    fault: Option<StartFault>,
 }
 
-impl<T, P: Promise<T>> Model for ThreadGroup<T, P> {
-    ghost use Rattle.std.specs.Prelude.{List, map};
+impl<T, W: Work<T>, R> Model for ThreadGroup<T, W, R> {
+    ghost use Rattle.std.specs.Prelude.{◌≡◌, ◌≤◌, [], length, vec_capacity};
+    ghost use Rattle.mx_jobs.specs.Groups.{Group};
 
-    ghost Value = { List P };
+    ghost Value = { Group W };
 
-    ghost view = { λ group. map (λ handle. handle.promise) group.handles.items };
+    ghost view = { λ group. record {
+      room = group.room;
+      works = group.begun.items;
+    } };
+
+    ghost invariant = { λ group. (length group.begun.items ≤ group.room)
+        × (group.room ≤ vec_capacity group.begun) × (group.room ≤ vec_capacity group.lefts)
+        × (group.lefts.items ≡ []) };
 }
 
-impl<T: Drop, P: Promise<T> + Drop> ThreadGroup<T, P> {
-    /// Creates a group without threads, with a gate for this number of nodes.
-    pub fn new(alloc: Global, nodes: u8) -> Result<Self, AllocError>
+impl<T: Send + Drop + 'static, W: Work<T> + Send + 'static, R: Host> ThreadGroup<T, W, R> {
+    /// Creates a group without threads, with a gate for this number of nodes, and with room for
+    /// `room` works.
+    pub fn new(rt: &R, alloc: Global, nodes: u8, room: usize) -> Result<Self, AllocError>
         requires { nodes < 22 }
-        ensures { IfOk result (λ group. group ≡ []) }
+        ensures { IfOk result (λ group. group ≡ record { room = room; works = [] }) }
     {
-        let gate = Arc::new(alloc, StartGate::new(nodes, MAX_LOOKS))?;
+        let begun = Vec::with_capacity(alloc, room)?;
+        let lefts = Vec::with_capacity(alloc, room)?;
+        let gate = Arc::new(alloc, StartGate::new(*rt, nodes, MAX_LOOKS))?;
         Ok(ThreadGroup {
-            handles: Vec::new(alloc),
             gate,
+            room,
+            begun,
+            lefts,
+            fault: None,
         })
     }
 
-    /// Starts a thread for a task, which gets the gate. `promise` tells the proof something about
-    /// the value that the task returns.
-    ///
-    /// # Errors
-    ///
-    /// If memory or a thread is refused, the gate is shut, and the task runs in the calling thread.
-    /// A task that waits at the gate then returns at once, so what it owns comes back.
-    pub fn start<R: Threads, F: FnOnce(&StartGate) -> T + Send + 'static>(
-        &mut self,
-        rt: &R,
-        promise: P,
-        task: F,
-    ) -> Result<(), NotStarted<T>>
-    where
-        T: Send + 'static,
-        requires runs { F.IsAlwaysCallable task }
-        requires keeps { (gate : _) (left : T) → F.post task gate left → P.kept_by promise left }
-        ensures ok { OnOk result (self.new ≡ self.old ++ promise ∷ []) }
-        ensures same { OnErr result (self.new ≡ self.old) }
-        ensures err { IfErr result (λ back. P.kept_by promise back.left) }
+    /// Begins a work in a thread. If memory or a thread is refused, the gate is shut, and the work
+    /// is run in the calling thread. It returns at once there, as do all other works.
+    pub fn start(&mut self, rt: &R, work: W)
+        requires able { W.able work }
+        requires room { length self.old.works < self.old.room }
+        ensures { self.new ≡ record {
+          room = self.old.room;
+          works = self.old.works ++ work ∷ [];
+        } }
     {
-        let Ok(()) = self.handles.reserve(1) else {
-            return Err(self.run_here(task, StartFault::Memory));
-        };
+        let begun = self.begin(rt, work);
+        self.begun.push_reserved(begun);
+    }
+
+    fn begin(&mut self, rt: &R, work: W) -> Begun<T, W>
+        requires { W.able work }
+        ensures begun { result ≡ work }
+        ensures same { self.new ≡ self.old }
+    {
+        let of = Snapshot::of(&work);
         let Ok(share) = Arc::try_clone(&self.gate) else {
-            return Err(self.run_here(task, StartFault::Memory));
+            self.refuse(StartFault::Memory);
+            let place = Place::Here(work.run(&*self.gate));
+            return Begun { work: of, place };
+        };
+        let doing = Doing {
+            work: Snapshot::of(&work),
         };
         let started = thread::spawn_with(
             rt,
-            promise,
+            doing,
             move || -> T
-                requires { F.IsAlwaysCallable task }
-                ensures { (gate : _) × F.post task gate result }
-            {
-                let left = task(&*share);
-                share.finish();
-                left
-            },
+                requires { W.able work }
+                ensures { W.leads work result }
+            { work.run(&*share) },
         );
-        match started {
-            Ok(handle) => {
-                self.handles.push_reserved(handle);
-                Ok(())
-            }
+        let place = match started {
+            Ok(handle) => Place::Thread(handle),
             Err(refused) => {
-                self.shut();
-                let left = (refused.value)();
-                let fault = StartFault::NoThread;
-                Err(NotStarted { left, fault })
+                self.refuse(StartFault::NoThread);
+                Place::Here((refused.value)())
             }
-        }
+        };
+        Begun { work: of, place }
     }
 
-    /// Starts a thread for a task, which gets the gate, or drops the task. `promise` tells the
-    /// proof something about the value that the task returns.
-    ///
-    /// # Errors
-    ///
-    /// If memory or a thread is refused, the gate is shut, and the task is dropped. It does not run
-    /// in the calling thread, whose stack may lack the room.
-    pub fn start_or_drop<R: Threads, F: FnOnce(&StartGate) -> T + Send + Drop + 'static>(
-        &mut self,
-        rt: &R,
-        promise: P,
-        task: F,
-    ) -> Result<(), AllocError>
-    where
-        T: Send + 'static,
-        requires runs { F.IsAlwaysCallable task }
-        requires keeps { (gate : _) (left : T) → F.post task gate left → P.kept_by promise left }
-        ensures ok { OnOk result (self.new ≡ self.old ++ promise ∷ []) }
-        ensures same { OnErr result (self.new ≡ self.old) }
+    fn refuse(&mut self, fault: StartFault)
+        ensures { self.new ≡ self.old }
     {
-        let Ok(()) = self.handles.reserve(1) else {
-            self.shut();
-            return Err(AllocError);
-        };
-        let Ok(share) = Arc::try_clone(&self.gate) else {
-            self.shut();
-            return Err(AllocError);
-        };
-        let started = thread::spawn_with(
-            rt,
-            promise,
-            move || -> T
-                requires { F.IsAlwaysCallable task }
-                ensures { (gate : _) × F.post task gate result }
-            {
-                let left = task(&*share);
-                share.finish();
-                left
-            },
-        );
-        let Ok(handle) = started else {
-            self.shut();
-            return Err(AllocError);
-        };
-        self.handles.push_reserved(handle);
-        Ok(())
-    }
-
-    fn run_here<F: FnOnce(&StartGate) -> T>(&self, task: F, fault: StartFault) -> NotStarted<T>
-        requires { F.IsAlwaysCallable task }
-        ensures { (gate : _) × F.post task gate result.left }
-    {
-        self.shut();
-        let left = task(&*self.gate);
-        NotStarted { left, fault }
-    }
-
-    /// Shuts the gate for good, unless all nodes have arrived.
-    pub fn shut(&self) {
         self.gate.shut();
+        self.fault = self.fault.or(Some(fault));
     }
 
-    /// Returns whether the threads of all nodes have ended.
-    pub fn has_ended(&self) -> bool {
-        self.gate.has_ended()
-    }
-
-    /// Joins the thread that was started last, and returns what it left. Returns `None` if no
-    /// thread is left.
-    pub fn join_last<R: Threads>(&mut self, rt: &R) -> Option<T>
-        ensures some { IfSome result (λ left. (promise : P)
-            × (self.old ≡ self.new ++ promise ∷ []) × P.kept_by promise left) }
-        ensures none { IfNone result (self.old ≡ []) }
+    /// Waits until all works have ended. Returns what they left, in order, and why a work got no
+    /// thread, if one got none.
+    pub fn join(self, rt: &R) -> (Vec<T>, Option<StartFault>)
+        ensures { AllZip W.leads self.works result.0.items }
     {
-        let handle = self.handles.pop()?;
-        Some(handle.join(rt))
-    }
-
-    /// Joins all threads, and returns what they left, in order. If memory is refused, what they
-    /// left is dropped.
-    pub fn join_all<R: Threads>(self, rt: &R) -> Result<Vec<T>, AllocError>
-        ensures { IfOk result (λ all. AllZip P.kept_by self all.items) }
-    {
-        let ThreadGroup { handles, gate: _ } = self;
-        match thread::join_promised(rt, handles) {
-            Ok(all) => Ok(all),
-            Err(refused) => {
-                join_each(rt, refused.value);
-                Err(AllocError)
-            }
+        let ThreadGroup {
+            gate: _,
+            room: _,
+            mut begun,
+            mut lefts,
+            fault,
+        } = self;
+        while let Some(last) = begun.pop() {
+            put_first(&mut lefts, last.join(rt));
         }
-    }
-
-    /// Shuts the gate, and joins all threads. What they leave is dropped.
-    pub fn give_up<R: Threads>(self, rt: &R) {
-        let ThreadGroup { handles, gate } = self;
-        gate.shut();
-        join_each(rt, handles);
+        (lefts, fault)
     }
 }
 
-fn join_each<T: Drop, P: Promise<T>, R: Threads>(rt: &R, handles: Vec<PromisedHandle<T, P>>) {
-    for handle in handles {
-        drop(handle.join(rt));
+impl<T, W: Work<T>, R> ThreadGroup<T, W, R> {
+    /// Returns whether all threads have ended: each has a share of the gate until then.
+    pub fn has_ended(&self) -> bool {
+        Arc::strong_count(&self.gate) == 1
     }
+}
+
+pub(crate) fn put_first<T: Drop>(items: &mut Vec<T>, item: T)
+    requires { length items.old.items < vec_capacity items.old }
+    ensures items { items.new.items ≡ item ∷ items.old.items }
+    ensures room { vec_capacity items.old ≤ vec_capacity items.new }
+{
+    let Ok(()) = items.insert(0, item) else {
+        unreachable!();
+    };
 }

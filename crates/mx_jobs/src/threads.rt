@@ -1,172 +1,138 @@
-//! The threads of a run, one for each station and its job.
+//! The works of a run: each takes one station through its job.
 
-ghost use Rattle.std.specs.Prelude.{◌≡◌, ◌<◌, ◌≤◌, ◌∷◌, [], length, vec_capacity, IfErr, IfNone, IfSome, OnErr, OnOk};
-ghost use Rattle.mx_jobs.specs.Faults.{IfOfEnds};
-ghost use Rattle.mx_jobs.specs.Posted.{AddsWorker, AreReady, HaveRoom};
-ghost use Rattle.mx_jobs.specs.Runs.{IsLeft, IsUnderWay};
+ghost use Rattle.std.specs.Prelude.{◌≡◌, ◌≤◌, ◌∷◌, [], length, map, vec_capacity, IfNone, IfSome};
+ghost use Rattle.mx_jobs.specs.Faults.{Tells};
+ghost use Rattle.mx_jobs.specs.Posted.{AreReady, workers};
 
-use crate::faults::{RunFault, fault_of};
+use crate::faults::{RunFault, with_end};
+use crate::host::Host;
 use crate::job::Job;
 use crate::start_gate::StartGate;
-use crate::thread_group::{NotStarted, ThreadGroup};
+use crate::thread_group::{ThreadGroup, Work, put_first};
 use crate::worker::{Ended, RunOptions, work};
 use mx_letters::Fates;
 use mx_nodelaws::Exclusion;
 use mx_stations::Station;
-use std::snapshot::Snapshot;
-use std::thread::{Promise, Threads};
+use std::rt::Clock;
+use std::sync::Wait;
 
 pub(crate) type Left<C, J> = (Station<C>, J, Ended);
 
-/// The promise of a worker's thread: with these options, its work leads from this station and this
-/// job to those that it leaves.
+/// A station and its job, with the fates of the parcels to its node.
 #[derive(Drop)]
-pub(crate) struct WorkAt<S, J> {
-    at: Snapshot<S>,
-    job: Snapshot<J>,
-    options: RunOptions,
-}
-
-impl<C: Exclusion, J: Job> Promise<Left<C, J>> for WorkAt<Station<C>, J> {
-    ghost use Rattle.mx_jobs.specs.Runs.{IsLeft};
-
-    ghost kept_by = { λ p left.
-        IsLeft J.asks_for J.makes J.holds J.finished C.core
-        p.options p.at.value p.job.value left };
-}
-
-pub(crate) type Workers<C, J> = ThreadGroup<Left<C, J>, WorkAt<Station<C>, J>>;
-
-fn do_work<C: Exclusion, J: Job, F: Fates + Drop>(
-    mut station: Station<C>,
-    mut job: J,
-    mut fates: F,
-    gate: &StartGate,
-    options: RunOptions,
-) -> Left<C, J>
-    requires { J.ready job }
-    ensures { IsLeft J.asks_for J.makes J.holds J.finished C.core options station job result }
-{
-    let ended = work(&mut station, &mut job, gate, &mut fates, options);
-    gate.heed(ended);
-    (station, job, ended)
-}
-
-fn start_one<
-    C: Exclusion + Send + 'static,
-    J: Job + Send + 'static,
-    F: Fates + Send + Drop + 'static,
-    R: Threads,
->(
-    rt: &R,
-    workers: &mut Workers<C, J>,
-    station: Station<C>,
+pub(crate) struct Worker<S, J, F> {
+    station: S,
     job: J,
     fates: F,
     options: RunOptions,
-) -> Result<(), NotStarted<Left<C, J>>>
-where
-    C::Msg: Send + 'static,
-    C::Shape: Send + 'static,
-    requires { J.ready job }
-    ensures ok { OnOk result (AddsWorker options station job workers.old workers.new) }
-    ensures same { OnErr result (workers.new ≡ workers.old) }
-    ensures err { IfErr result (λ back. IsLeft J.asks_for J.makes J.holds J.finished C.core
-        options station job back.left) }
-{
-    let promise = WorkAt {
-        at: Snapshot::of(&station),
-        job: Snapshot::of(&job),
-        options,
-    };
-    workers.start(
-        rt,
-        promise,
-        move |gate: &StartGate| -> Left<C, J>
-            requires { J.ready job }
-            ensures { IsLeft J.asks_for J.makes J.holds J.finished C.core
-                options station job result }
-        { do_work(station, job, fates, gate, options) },
-    )
 }
+
+impl<C: Exclusion, J: Job, F: Fates + Drop> Work<Left<C, J>> for Worker<Station<C>, J, F> {
+    ghost use Rattle.mx_jobs.specs.Runs.{IsLeft};
+
+    ghost able = { λ worker. J.ready worker.job };
+
+    ghost leads = { λ worker left.
+        IsLeft J.terms C.core
+        worker.options worker.station worker.job left };
+
+    fn run<R: Wait + Clock>(self, gate: &StartGate<R>) -> Left<C, J> {
+        let Worker {
+            mut station,
+            mut job,
+            mut fates,
+            options,
+        } = self;
+        let ended = work(&mut station, &mut job, gate, &mut fates, options);
+        gate.heed(ended);
+        gate.leave(station.node());
+        (station, job, ended)
+    }
+}
+
+pub(crate) type Workers<C, J, F, R> = ThreadGroup<Left<C, J>, Worker<Station<C>, J, F>, R>;
 
 fn take_next<S: Drop, J: Drop, F: Drop>(
     stations: &mut Vec<S>,
     jobs: &mut Vec<J>,
     fates: &mut Vec<F>,
 ) -> Option<(S, J, F)>
+    requires each { length jobs.old.items ≡ length stations.old.items }
+    requires linked { length stations.old.items ≤ length fates.old.items }
     ensures station { IfSome result (λ next. stations.old.items ≡ next.0 ∷ stations.new.items) }
     ensures job { IfSome result (λ next. jobs.old.items ≡ next.1 ∷ jobs.new.items) }
     ensures fates { IfSome result (λ next. fates.old.items ≡ next.2 ∷ fates.new.items) }
-    ensures none { IfNone result ((stations.new.items ≡ stations.old.items)
-        × (jobs.new.items ≡ jobs.old.items)) }
+    ensures none { IfNone result ((stations.old.items ≡ [])
+        × (stations.new.items ≡ stations.old.items) × (jobs.new.items ≡ jobs.old.items)) }
     ensures room { (vec_capacity stations.new ≡ vec_capacity stations.old)
         × (vec_capacity jobs.new ≡ vec_capacity jobs.old) }
 {
-    if stations.is_empty() || jobs.is_empty() || fates.is_empty() {
+    if stations.is_empty() {
         return None;
     }
     Some((stations.remove(0), jobs.remove(0), fates.remove(0)))
 }
 
-pub(crate) fn put_first<T: Drop>(items: &mut Vec<T>, item: T)
-    requires { length items.old.items < vec_capacity items.old }
-    ensures items { items.new.items ≡ item ∷ items.old.items }
-    ensures room { vec_capacity items.old ≤ vec_capacity items.new }
-{
-    let Ok(()) = items.insert(0, item) else {
-        unreachable!();
-    };
-}
-
+/// Begins the work of each station and its job. The stations and jobs move into it.
 pub(crate) fn start_each<
     C: Exclusion + Send + 'static,
     J: Job + Send + 'static,
     F: Fates + Send + Drop + 'static,
-    R: Threads,
+    R: Host,
 >(
     rt: &R,
-    workers: &mut Workers<C, J>,
+    group: &mut Workers<C, J, F, R>,
     stations: &mut Vec<Station<C>>,
     jobs: &mut Vec<J>,
     fates: &mut Vec<F>,
     options: RunOptions,
-) -> Result<(), RunFault>
+)
 where
     C::Msg: Send + 'static,
     C::Shape: Send + 'static,
     requires ready { AreReady J.ready jobs.old.items }
-    requires none { workers.old ≡ [] }
+    requires none { group.old.works ≡ [] }
+    requires fit { length stations.old.items ≤ group.old.room }
     requires each { length jobs.old.items ≡ length stations.old.items }
-    ensures started { IsUnderWay J.asks_for J.makes J.holds J.finished C.core
-        options stations.old.items jobs.old.items workers.new stations.new.items jobs.new.items }
-    ensures room { HaveRoom (length workers.new) stations.new jobs.new }
-    ensures ok { OnOk result (stations.new.items ≡ []) }
-    ensures err { IfErr result (λ fault. IfOfEnds fault ⊥) }
+    requires linked { length stations.old.items ≤ length fates.old.items }
+    ensures started { group.new.works
+        ≡ workers options stations.old.items jobs.old.items fates.old.items }
+    ensures stations { stations.new.items ≡ [] }
+    ensures jobs { jobs.new.items ≡ [] }
+    ensures room { (vec_capacity stations.new ≡ vec_capacity stations.old)
+        × (vec_capacity jobs.new ≡ vec_capacity jobs.old) }
 {
     while let Some((station, job, own)) = take_next(stations, jobs, fates) {
-        match start_one(rt, workers, station, job, own, options) {
-            Ok(()) => {}
-            Err(back) => {
-                put_first(stations, back.left.0);
-                put_first(jobs, back.left.1);
-                return Err(fault_of(back.fault));
-            }
-        }
+        let worker = Worker {
+            station,
+            job,
+            fates: own,
+            options,
+        };
+        group.start(rt, worker);
     }
-    all_taken(stations, workers)
 }
 
-fn all_taken<C: Exclusion, J: Job>(
-    stations: &Vec<Station<C>>,
-    workers: &Workers<C, J>,
-) -> Result<(), RunFault>
-    ensures ok { OnOk result (stations.now.items ≡ []) }
-    ensures err { IfErr result (λ fault. IfOfEnds fault ⊥) }
+/// Puts the stations and jobs that workers left back, in order. Returns the fault of how they
+/// ended, or `None` if all are done.
+pub(crate) fn put_back<C: Exclusion, J: Job>(
+    mut lefts: Vec<Left<C, J>>,
+    stations: &mut Vec<Station<C>>,
+    jobs: &mut Vec<J>,
+) -> Option<RunFault>
+    requires stations { stations.old.items ≡ [] }
+    requires jobs { jobs.old.items ≡ [] }
+    requires room { (length lefts.items ≤ vec_capacity stations.old)
+        × (length lefts.items ≤ vec_capacity jobs.old) }
+    ensures stations { stations.new.items ≡ map (λ left. left.0) lefts.items }
+    ensures jobs { jobs.new.items ≡ map (λ left. left.1) lefts.items }
+    ensures told { Tells result (map (λ left. left.2) lefts.items) }
 {
-    if stations.is_empty() {
-        return Ok(());
+    let mut fault = None;
+    while let Some(left) = lefts.pop() {
+        put_first(stations, left.0);
+        put_first(jobs, left.1);
+        fault = with_end(fault, left.2);
     }
-    workers.shut();
-    Err(RunFault::NotAJobEach)
+    fault
 }

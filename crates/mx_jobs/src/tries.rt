@@ -105,15 +105,15 @@ pub(crate) fn try_section<C: Exclusion, J: Job>(
     registers: &[u8],
 ) -> Result<Tried, JobFault>
     requires few { length registers.now ≤ 8 }
-    requires asked { J.asks_for job.old registers.now }
+    requires asked { J.terms.asks_for job.old registers.now }
     requires ready { J.ready job.old }
     ensures ready { J.ready job.new }
     ensures left { result ≡ Ok Tried.Left → (r : OneReceipt)
-        × IsSection J.asks_for J.makes J.holds
+        × IsSection J.terms
         station.old.me.member.setting.registers job.old r job.new
         × Leaves C.core station.old r station.new }
     ensures pending { result ≡ Ok Tried.Pending → Rests C.core station.old station.new
-        × Pends J.asks_for J.makes J.holds C.core job.old station.new job.new }
+        × Pends J.terms C.core job.old station.new job.new }
     ensures outside { result ≡ Ok Tried.Outside
         → (job.new ≡ job.old) × (station.new ≡ station.old) }
     ensures gap { result ≡ Ok Tried.Gap → (job.new ≡ job.old)
@@ -124,7 +124,7 @@ pub(crate) fn try_section<C: Exclusion, J: Job>(
     ensures acts { result ≡ Ok Tried.Gap → ActsForJob C.core station.old station.new }
     ensures broken { OnErr result (ActsForJob C.core station.old station.new) }
     ensures fails { IfErr result (λ why. Rests C.core station.old station.new
-        × CannotGoOn J.asks_for J.makes J.holds C.core why job.old job.new station.new) }
+        × CannotGoOn J.terms C.core why job.old job.new station.new) }
 {
     let Phase::Inside(number) = station.phase() else {
         return Ok(Tried::Outside);

@@ -11,11 +11,11 @@ ghost use Rattle.mx_jobs.specs.Rounds.{ActsForJob, BusyRounds, Round, Serves, Wo
 ghost use Rattle.mx_jobs.specs.Sections.{Advances, CannotGoOn, Fails, IsSpent, Reaches, Rests};
 
 use crate::job::Job;
+use crate::search::Search;
 use crate::tries::{JobFault, Tried, try_leave, try_section};
 use mx_letters::Fates;
 use mx_nodelaws::{EnterFault, Exclusion, Phase};
-use mx_stamps::NodeId;
-use mx_stations::{Patience, Station, TakeFault, TurnReport, settle_if_due};
+use mx_stations::{Patience, Station, settle_if_due};
 
 /// Decides when workers may start, when they may stop, and when they must stop. Each call may wait
 /// for other workers.
@@ -51,21 +51,23 @@ pub enum Ended {
     Stopped(JobFault),
 }
 
-/// The state of a worker: whether a section of its job is made but not left, which node it asked
-/// last for records, and how long it waits between turns.
+/// The state of a worker.
 #[derive(Drop)]
 struct WorkerState {
+    /// Whether a section of its job is made but not left.
     pending: bool,
-    wanted: NodeId,
+    /// Whether its node asks in the next turn.
+    asks: bool,
+    search: Search,
     patience: Patience,
 }
 
 /// Waits at the gate, then takes the station through the sections of the job, in at most
 /// `options.turns` turns. In each turn the acts that are due come first: the node asks, enters and,
 /// inside, makes the job's next section and leaves. If its journal lacks records, the node asks the
-/// next node in cyclic order for them. If memory is refused when it leaves, it tries again in the
-/// next turn. Then the station takes a turn, in which parcels have these fates, and settles if that
-/// is due.
+/// node for them that was asked last, and then others in cyclic order. If memory is refused when it
+/// leaves, it tries again in the next turn. Then the station takes a turn, in which parcels have
+/// these fates, and settles if that is due.
 pub fn work<C: Exclusion, J: Job, G: Gate, F: Fates>(
     station: &mut Station<C>,
     job: &mut J,
@@ -76,17 +78,17 @@ pub fn work<C: Exclusion, J: Job, G: Gate, F: Fates>(
     requires ready { J.ready job.old }
     ensures works { Works C.core options result station.old station.new }
     ensures done { result ≡ Ended.Done
-        → Advances J.asks_for J.makes J.holds C.core job.old station.old job.new station.new }
-    ensures finished { result ≡ Ended.Done → J.finished job.new }
+        → Advances J.terms C.core job.old station.old job.new station.new }
+    ensures finished { result ≡ Ended.Done → J.terms.finished job.new }
     ensures outside { result ≡ Ended.Done → IsInside C.core station.new.me.member.core → ⊥ }
     ensures not_yet { result ≡ Ended.NotYet → (pending : Bool)
-        × Reaches J.asks_for J.makes J.holds C.core
+        × Reaches J.terms C.core
         pending job.old station.old job.new station.new }
     ensures idles { result ≡ Ended.NotYet
-        → BusyRounds C.core (J.finished job.new) options.settle_every options.turns
+        → BusyRounds C.core (J.terms.finished job.new) options.settle_every options.turns
         station.old station.new }
     ensures broken { (why : TheFault) → result ≡ Ended.Broken why
-        → Fails J.asks_for J.makes J.holds C.core why job.old station.old job.new station.new }
+        → Fails J.terms C.core why job.old station.old job.new station.new }
     ensures shut { result ≡ Ended.GateShut → job.new ≡ job.old }
 {
     let node = station.node();
@@ -95,11 +97,12 @@ pub fn work<C: Exclusion, J: Job, G: Gate, F: Fates>(
     }
     let mut stance = WorkerState {
         pending: false,
-        wanted: node,
+        asks: true,
+        search: Search::new(node),
         patience: Patience::new(),
     };
     for _turn in 0..options.turns {
-        match take_turn(station, job, &mut stance, fates, options.settle_every) {
+        match take_turn(station, job, &mut stance, gate, fates, options.settle_every) {
             Ok(idle) => {
                 if idle && !is_inside(station) && gate.done(node) {
                     return Ended::Done;
@@ -120,51 +123,44 @@ fn is_inside<C: Exclusion>(station: &Station<C>) -> bool
     matches!(station.phase(), Phase::Inside(_))
 }
 
-fn take_turn<C: Exclusion, J: Job, F: Fates>(
+fn take_turn<C: Exclusion, J: Job, G: Gate, F: Fates>(
     station: &mut Station<C>,
     job: &mut J,
     stance: &mut WorkerState,
+    gate: &G,
     fates: &mut F,
     every: u64,
 ) -> Result<bool, JobFault>
     requires ready { J.ready job.old }
     ensures ready { J.ready job.new }
     ensures reaches { (first : J) (from : Post (MemberState C) (Parcel C.Msg))
-        → Reaches J.asks_for J.makes J.holds C.core
+        → Reaches J.terms C.core
         stance.old.pending first from job.old station.old
-        → OnOk result (Reaches J.asks_for J.makes J.holds C.core
+        → OnOk result (Reaches J.terms C.core
         stance.new.pending first from job.new station.new) }
     ensures finished { IfOk result (λ idle. idle ≡ true
-        → (stance.new.pending ≡ false) × J.finished job.new) }
+        → (stance.new.pending ≡ false) × J.terms.finished job.new) }
     ensures round { (first : J) (from : Post (MemberState C) (Parcel C.Msg))
-        → Reaches J.asks_for J.makes J.holds C.core
+        → Reaches J.terms C.core
         stance.old.pending first from job.old station.old
         → IfOk result (λ idle. (round : Round C.core every station.old station.new)
         × (round.idle ≡ idle)) }
     ensures broken { OnErr result (ActsForJob C.core station.old station.new) }
     ensures fails { (first : J) (from : Post (MemberState C) (Parcel C.Msg))
-        → Reaches J.asks_for J.makes J.holds C.core
+        → Reaches J.terms C.core
         stance.old.pending first from job.old station.old
-        → IfErr result (λ why. Fails J.asks_for J.makes J.holds C.core
+        → IfErr result (λ why. Fails J.terms C.core
         why first from job.new station.new) }
 {
+    stance.patience.wait(station, gate, stance.asks);
     let before = station.receipts().len();
     let idle = act(station, job, stance)?;
+    stance.patience.before_turn(station, gate);
     let report = station.turn(fates);
+    stance.patience.after_turn(station, gate, &report);
     settle_if_due(station, before, every);
-    rest(station, &mut stance.patience, &report, idle);
+    stance.asks = !idle && matches!(station.phase(), Phase::Idle);
     Ok(idle)
-}
-
-/// `idle` says whether the job is done.
-fn rest<C: Exclusion>(
-    station: &Station<C>,
-    patience: &mut Patience,
-    report: &Result<TurnReport, TakeFault>,
-    idle: bool,
-) {
-    let asks = !idle && matches!(station.phase(), Phase::Idle);
-    patience.wait(station, report, asks);
 }
 
 fn act<C: Exclusion, J: Job>(
@@ -175,22 +171,22 @@ fn act<C: Exclusion, J: Job>(
     requires ready { J.ready job.old }
     ensures ready { J.ready job.new }
     ensures reaches { (first : J) (from : Post (MemberState C) (Parcel C.Msg))
-        → Reaches J.asks_for J.makes J.holds C.core
+        → Reaches J.terms C.core
         stance.old.pending first from job.old station.old
-        → OnOk result (Reaches J.asks_for J.makes J.holds C.core
+        → OnOk result (Reaches J.terms C.core
         stance.new.pending first from job.new station.new) }
     ensures finished { IfOk result (λ idle. idle ≡ true
-        → (stance.new.pending ≡ false) × J.finished job.new) }
+        → (stance.new.pending ≡ false) × J.terms.finished job.new) }
     ensures serves { OnOk result (Serves C.core station.old station.new) }
     ensures able { (first : J) (from : Post (MemberState C) (Parcel C.Msg))
-        → Reaches J.asks_for J.makes J.holds C.core
+        → Reaches J.terms C.core
         stance.old.pending first from job.old station.old
         → IfOk result (λ idle. idle ≡ false → IsSpent C.core station.new → ⊥) }
     ensures broken { OnErr result (ActsForJob C.core station.old station.new) }
     ensures fails { (first : J) (from : Post (MemberState C) (Parcel C.Msg))
-        → Reaches J.asks_for J.makes J.holds C.core
+        → Reaches J.terms C.core
         stance.old.pending first from job.old station.old
-        → IfErr result (λ why. Fails J.asks_for J.makes J.holds C.core
+        → IfErr result (λ why. Fails J.terms C.core
         why first from job.new station.new) }
 {
     if stance.pending {
@@ -209,16 +205,19 @@ fn go_on<C: Exclusion, J: Job>(
     requires ready { J.ready job.old }
     requires left { stance.old.pending ≡ false }
     ensures ready { J.ready job.new }
-    ensures reaches { OnOk result (Reaches J.asks_for J.makes J.holds C.core
+    ensures reaches { OnOk result (Reaches J.terms C.core
         stance.new.pending job.old station.old job.new station.new) }
     ensures finished { IfOk result (λ idle. idle ≡ true
-        → (stance.new.pending ≡ false) × J.finished job.new) }
+        → (stance.new.pending ≡ false) × J.terms.finished job.new) }
     ensures serves { OnOk result (Serves C.core station.old station.new) }
     ensures able { IfOk result (λ idle. idle ≡ false → IsSpent C.core station.new → ⊥) }
     ensures broken { OnErr result (ActsForJob C.core station.old station.new) }
     ensures fails { IfErr result (λ why. Rests C.core station.old station.new
-        × CannotGoOn J.asks_for J.makes J.holds C.core why job.old job.new station.new) }
+        × CannotGoOn J.terms C.core why job.old job.new station.new) }
 {
+    if !is_due(station) {
+        return Ok(false);
+    }
     let asked = job.asks();
     match &asked {
         Some(registers) => {
@@ -229,6 +228,18 @@ fn go_on<C: Exclusion, J: Job>(
     }
 }
 
+/// Returns whether the node can ask or enter, or is inside. A node that is inside first takes the
+/// parcels that are there, since they may bring the records that its section lacks.
+fn is_due<C: Exclusion>(station: &Station<C>) -> bool
+    ensures { result ≡ false → IsSpent C.core station.now → ⊥ }
+{
+    match station.phase() {
+        Phase::Idle => true,
+        Phase::Waiting => station.can_enter(),
+        Phase::Inside(_) => !station.has_mail(),
+    }
+}
+
 fn next_section<C: Exclusion, J: Job>(
     station: &mut Station<C>,
     job: &mut J,
@@ -236,17 +247,17 @@ fn next_section<C: Exclusion, J: Job>(
     stance: &mut WorkerState,
 ) -> Result<(), JobFault>
     requires few { length registers.now ≤ 8 }
-    requires asked { J.asks_for job.old registers.now }
+    requires asked { J.terms.asks_for job.old registers.now }
     requires ready { J.ready job.old }
     requires left { stance.old.pending ≡ false }
     ensures ready { J.ready job.new }
-    ensures reaches { OnOk result (Reaches J.asks_for J.makes J.holds C.core
+    ensures reaches { OnOk result (Reaches J.terms C.core
         stance.new.pending job.old station.old job.new station.new) }
     ensures serves { OnOk result (Serves C.core station.old station.new) }
     ensures able { OnOk result (IsSpent C.core station.new → ⊥) }
     ensures broken { OnErr result (ActsForJob C.core station.old station.new) }
     ensures fails { IfErr result (λ why. Rests C.core station.old station.new
-        × CannotGoOn J.asks_for J.makes J.holds C.core why job.old job.new station.new) }
+        × CannotGoOn J.terms C.core why job.old job.new station.new) }
 {
     let _ = station.ask();
     if is_spent(station.enter()) {
@@ -272,20 +283,7 @@ fn want_next<C: Exclusion>(station: &mut Station<C>, stance: &mut WorkerState)
     ensures phase { station.new.me.member.core ≡ station.old.me.member.core }
     ensures same { stance.new.pending ≡ stance.old.pending }
 {
-    let next = node_after(stance.wanted, station.node(), station.nodes());
-    station.want(next);
-    stance.wanted = next;
-}
-
-fn node_after(node: NodeId, other: NodeId, nodes: u8) -> NodeId
-    requires { other < nodes }
-    ensures { result < nodes }
-{
-    match NodeId::of(node.get() + 1) {
-        Some(next) if next.get() < nodes => next,
-        _ => match NodeId::of(0) {
-            Some(first) if 0 < nodes => first,
-            _ => other,
-        },
+    if let Some(next) = stance.search.next(station) {
+        station.want(next);
     }
 }

@@ -40,15 +40,6 @@ module _ {A B : Type 0} (R : A → B → Type 0) where
   zip_at (x ∷ xs) (z ∷ ys) all zero y is = (x, refl, subst (R x) (some-injective z y is) all.0)
   zip_at (x ∷ xs) (z ∷ ys) all (suc k) y is = zip_at xs ys all.1 k y is
 
-module _ {W X : Type 0} (f : W → X) where
-  -- one more at the end
-  pub pushed : (old new : List W) (w : W) (x : X) → new ≡ old ++ w ∷ [] → f w ≡ x → map f new ≡ map f old ++ x ∷ []
-  pushed old new w x grown is = ap (λ (l : List W). map f l) grown ∙ map-append f old (w ∷ []) ∙ ap (λ (y : X). map f old ++ y ∷ []) is
-
-  -- before the first
-  pub from_none : (old : List W) (new all : List X) → old ≡ [] → new ≡ map f old ++ all → new ≡ all
-  from_none old new all none is = is ∙ ap (λ (l : List W). map f l ++ all) none
-
 module _ {Y X : Type 0} (g : Y → X) where
   -- what is done and what is left is all: before the first, from one to the next, and after the last
   pub begun : (old : List X) (rest ys : List Y) → rest ≡ ys → old ++ map g rest ≡ old ++ map g ys

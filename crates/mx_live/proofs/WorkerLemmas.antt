@@ -6,6 +6,7 @@ use mathlib.Core.Option.{some}
 use lib.ListN.{get_elem?}
 use Rattle.std.specs.Prelude.{Vec}
 use Rattle.std.specs.declared.alloc.Global.{Global}
+use Rattle.mx_explorer.specs.Weather.{Climate}
 use Rattle.mx_nodelaws.specs.Core.{Core, KeepsPhases}
 use Rattle.mx_member.specs.declared.parcel.Parcel.{Parcel}
 use Rattle.mx_member.specs.Member.{MemberState}
@@ -22,27 +23,23 @@ use Rattle.mx_stations.specs.Works.{IsWithin}
 use Rattle.mx_stations.proofs.Rounding.{rounds_kept, rounds_node, rounds_some}
 use Rattle.mx_live.specs.declared.threads.WorkerConfig.{WorkerConfig}
 use Rattle.mx_live.specs.Stations.{AreAtRest}
-use Rattle.mx_live.specs.declared.threads.WorkAt.{WorkAt}
-use Rattle.mx_live.specs.Workers.{AreDone, AreLeft, HaveRun, IsLeft, ordered, stations_of, told}
+use Rattle.mx_live.specs.declared.threads.Worker.{Worker}
+use Rattle.mx_live.specs.Workers.{AreDone, AreLeft, HaveRun, IsLeft, stations_of, worker_of}
 use Rattle.mx_live.proofs.StationLemmas.{first_and_more, nil_is_no_more, there, unmapped, zip_at, zip_many}
 
--- what a thread was told
-pub told_as : {X : Type 0} (x x' : X) (orders orders' : WorkerConfig) → x ≡ x' → orders ≡ orders' → ordered x orders ≡ ordered x' orders'
-told_as x x' orders orders' one other = ap (λ z. ordered z orders) one ∙ ap (λ o. ordered x' o) other
-
 module _ {H S M : Type 0} (core : Core H S M) where
-  -- what workers with these orders left by their promises
-  pub left_by : (orders : WorkerConfig) (workers : List (WorkAt (Station core))) (stations : List (Station core)) (left : List (Station core × Worked)) → map told workers ≡ map (λ (s : Station core). ordered s orders) stations
-      → AllZip (λ (w : WorkAt (Station core)) ended. IsLeft core w.orders w.at.value ended) workers left → AreLeft core orders stations left
-  left_by orders [] [] [] same all = tt
+  -- what workers with these orders left
+  pub left_by : (orders : WorkerConfig) (works : List (Worker (Station core) Climate)) (stations : List (Station core)) (left : List (Station core × Worked)) → works ≡ map (worker_of orders) stations
+      → AllZip (λ (w : Worker (Station core) Climate) ended. IsLeft core w.orders w.station ended) works left → AreLeft core orders stations left
+  left_by orders works [] [] same all = tt
   left_by orders [] [] (e ∷ left) same all = absurd all
+  left_by orders (w ∷ works) [] (e ∷ left) same all = absurd (nil_is_no_more (sym same))
   left_by orders [] (s ∷ stations) left same all = absurd (nil_is_no_more same)
-  left_by orders (w ∷ workers) [] left same all = absurd (nil_is_no_more (sym same))
-  left_by orders (w ∷ workers) (s ∷ stations) [] same all = absurd all
-  left_by orders (w ∷ workers) (s ∷ stations) (e ∷ left) same all =
+  left_by orders (w ∷ works) (s ∷ stations) [] same all = absurd all
+  left_by orders (w ∷ works) (s ∷ stations) (e ∷ left) same all =
       let both = first_and_more same in (
-        subst (λ (x : Station core × WorkerConfig). IsLeft core x.1 x.0 e) both.0 all.0,
-        left_by orders workers stations left both.1 all.1,
+        subst (λ (x : Worker (Station core) Climate). IsLeft core x.orders x.station e) both.0 all.0,
+        left_by orders works stations left both.1 all.1,
       )
 
   -- what a worker left is of the station at its place

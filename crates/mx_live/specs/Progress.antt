@@ -1,4 +1,4 @@
-use Rattle.std.specs.Prelude.{◌≡◌, ℕ, Bool, false, List, [], ◌++◌, codes, decimal, map}
+use Rattle.std.specs.Prelude.{◌≡◌, ◌≤◌, ℕ, Bool, false, List, [], ◌∷◌, ◌++◌, codes, decimal, map}
 use Rattle.std.specs.Io.KnownBytes.{Appends}
 use Rattle.std.specs.List.{concat}
 use Rattle.mx_plan.specs.Text.{Text, line_feed}
@@ -11,11 +11,17 @@ progress_line count = codes "mx: " ++ decimal count ++ codes " sections stand" +
 abbrev pub progress_lines : List ℕ → Text
 progress_lines counts = concat (map progress_line counts)
 
--- the output got lines of progress, perhaps none, and nothing else
-abbrev pub Progresses : Held → Held → Type 0
-Progresses old new = (counts : List ℕ) × Appends old new (progress_lines counts)
+-- each of the counts, from `low` on, is at least the one before it, and `high` at least the last
+abbrev pub RiseTo : ℕ → List ℕ → ℕ → Type 0
+RiseTo low [] high = low ≤ high
+RiseTo low (count ∷ counts) high = (low ≤ count) × RiseTo count counts high
 
--- the same, and no line if progress was not requested
+-- the output got lines of progress, perhaps none, and nothing else; their counts rise to `shown`
+abbrev pub Progresses : ℕ → Held → Held → Type 0
+Progresses shown old new =
+    (counts : List ℕ) × RiseTo 0 counts shown × Appends old new (progress_lines counts)
+
+-- the output got lines of progress whose counts rise, and none if progress was not requested
 abbrev pub TellsProgress : Bool → Held → Held → Type 0
 TellsProgress asked old new =
-    (counts : List ℕ) × Appends old new (progress_lines counts) × (asked ≡ false → counts ≡ [])
+    (shown : ℕ) × ((told : Progresses shown old new) × (asked ≡ false → told.0 ≡ []))

@@ -2,7 +2,10 @@ use Rattle.std.specs.Prelude.{◌≡◌, ℕ, ◌+◌, ◌%◌, ◌^◌, ◌≤�
 use Rattle.std.specs.List.{All, AllZip}
 use Rattle.mx_explorer.specs.Weather.{Climate, generator_of}
 use Rattle.mx_nodelaws.specs.Core.{Core}
+use Rattle.mx_member.specs.declared.parcel.Parcel.{Parcel}
+use Rattle.mx_member.specs.Member.{MemberState}
 use Rattle.mx_member.specs.Steps.{start_of}
+use Rattle.mx_stations.specs.Posts.{Post}
 use Rattle.mx_plan.specs.Fields.{Fields}
 use Rattle.mx_cli.specs.Requests.{LiveRequest}
 use Rattle.mx_stations.specs.declared.worker.Worked.{Worked}
@@ -11,7 +14,7 @@ use Rattle.mx_stations.specs.Turns.{Station}
 use Rattle.mx_stations.specs.Running.{fresh}
 use Rattle.mx_stations.specs.Works.{WorksAtMost, WorksFor}
 use Rattle.mx_live.specs.declared.threads.WorkerConfig.{WorkerConfig}
-use Rattle.mx_live.specs.declared.threads.WorkAt.{WorkAt}
+use Rattle.mx_live.specs.declared.threads.Worker.{Worker}
 use Rattle.mx_live.specs.Stations.{AreAtRest}
 
 abbrev pub orders_in : LiveRequest → WorkerConfig
@@ -28,13 +31,15 @@ orders_in request =
 abbrev pub weather_of : ℕ → ℕ → Climate
 weather_of seed i = record { words = generator_of ((seed + i) % 2 ^ 64); lost = 16; doubled = 16 }
 
--- a station with the orders of its worker
-abbrev pub ordered : {X : Type 0} → X → WorkerConfig → X × WorkerConfig
-ordered x orders = (x, orders)
-
--- the station and the orders in the promise of a worker's thread
-abbrev pub told : {X : Type 0} → WorkAt X → X × WorkerConfig
-told promise = ordered promise.at.value promise.orders
+-- the worker of a station, with these orders and with the weather of its own links
+abbrev pub worker_of : {S M : Type 0} → WorkerConfig → Post (MemberState S) (Parcel M)
+    → Worker (Post (MemberState S) (Parcel M)) Climate
+worker_of orders station =
+    record {
+      station = station;
+      orders = orders;
+      fates = weather_of orders.seed station.me.node;
+    }
 
 module _ {H S M : Type 0} (core : Core H S M) where
   -- What a worker that started with the station `from` returned: its station, and how it ended. The

@@ -19,17 +19,16 @@ use crate::live_text::add_journal;
 use crate::node_runs::live_by_shape;
 use mx_cli::{LiveRequest, Request, fetch_plan, parse, refuse};
 use mx_io::{Output, Source};
+use mx_jobs::Host;
 use mx_plan::Plan;
 use mx_stations::Gathered;
 use std::alloc::Global;
-use std::rt::Clock;
-use std::thread::Threads;
 
 /// Runs a command line that asks for `live`, without the program's name, and returns the exit
 /// status. For all other requests, writes nothing and returns 2. Of the threads, the contract says
 /// only that workers may leave stations that lead to this status, not that threads left them. The
 /// stations of the threads are returned by `run_stations`.
-pub fn live<R: Threads + Clock, S: Source, O: Output, E: Output>(
+pub fn live<R: Host, S: Source, O: Output, E: Output>(
     rt: &R,
     alloc: Global,
     words: &[&str],
@@ -52,7 +51,7 @@ pub fn live<R: Threads + Clock, S: Source, O: Output, E: Output>(
     }
 }
 
-fn carry_out<R: Threads + Clock, S: Source, O: Output, E: Output>(
+fn carry_out<R: Host, S: Source, O: Output, E: Output>(
     rt: &R,
     alloc: Global,
     request: &Request<'_>,
@@ -70,7 +69,7 @@ fn carry_out<R: Threads + Clock, S: Source, O: Output, E: Output>(
     }
 }
 
-fn run_live<R: Threads + Clock, S: Source, O: Output, E: Output>(
+fn run_live<R: Host, S: Source, O: Output, E: Output>(
     rt: &R,
     alloc: Global,
     request: &LiveRequest<'_>,
@@ -88,7 +87,7 @@ fn run_live<R: Threads + Clock, S: Source, O: Output, E: Output>(
     }
 }
 
-fn live_and_show<R: Threads + Clock, S: Source, O: Output, E: Output>(
+fn live_and_show<R: Host, S: Source, O: Output, E: Output>(
     rt: &R,
     alloc: Global,
     request: &LiveRequest<'_>,
@@ -109,7 +108,7 @@ fn live_and_show<R: Threads + Clock, S: Source, O: Output, E: Output>(
     }
 }
 
-fn live_plan<R: Threads + Clock, O: Output, E: Output>(
+fn live_plan<R: Host, O: Output, E: Output>(
     rt: &R,
     alloc: Global,
     plan: &Plan,

@@ -15,6 +15,7 @@ use crate::progress::report_if_asked;
 use crate::threads::{Ended, WorkerConfig, join_all, start_all};
 use mx_cli::LiveRequest;
 use mx_io::Output;
+use mx_jobs::Host;
 use mx_maekawa::Maekawa;
 use mx_nodelaws::Exclusion;
 use mx_plan::{Plan, Shape};
@@ -22,10 +23,8 @@ use mx_raymond::Raymond;
 use mx_ricart::Ricart;
 use mx_stations::{Field, Gathered, Station, Watch, Worked, gather};
 use std::alloc::{AllocError, Global};
-use std::rt::Clock;
-use std::thread::Threads;
 
-pub(crate) fn live_by_shape<R: Threads + Clock, E: Output>(
+pub(crate) fn live_by_shape<R: Host, E: Output>(
     rt: &R,
     alloc: Global,
     plan: &Plan,
@@ -58,7 +57,7 @@ pub(crate) fn live_by_shape<R: Threads + Clock, E: Output>(
     }
 }
 
-fn live_at<C: Exclusion + Send + 'static, R: Threads + Clock, E: Output>(
+fn live_at<C: Exclusion + Send + 'static, R: Host, E: Output>(
     rt: &R,
     alloc: Global,
     plan: &Plan,
@@ -111,7 +110,7 @@ pub fn stations_in<C: Exclusion>(
 /// Runs each station in a thread, until all threads have ended. Returns the stations, in the same
 /// order, and how their workers ended. An `Err` means that memory ran out, or that a thread could
 /// not be started.
-pub fn run_stations<C: Exclusion + Send + 'static, R: Threads + Clock, E: Output>(
+pub fn run_stations<C: Exclusion + Send + 'static, R: Host, E: Output>(
     rt: &R,
     alloc: Global,
     plan: &Plan,

@@ -1,6 +1,6 @@
 //! Reports how far a live run has come.
 
-ghost use Rattle.std.specs.Prelude.{◌≡◌, Some};
+ghost use Rattle.std.specs.Prelude.{◌≡◌, ℕ, Some};
 ghost use Rattle.mx_live.specs.Progress.{Progresses, TellsProgress, progress_line};
 
 use crate::threads::Workers;
@@ -28,12 +28,12 @@ impl fmt::Display for ProgressLine {
     }
 }
 
-pub(crate) fn report_if_asked<C: Exclusion, K: Clock, E: Output>(
+pub(crate) fn report_if_asked<C: Exclusion, K: Clock, R, E: Output>(
     clock: &K,
     alloc: Global,
     asked: bool,
     watch: Option<Watch<C>>,
-    workers: &Workers<C>,
+    workers: &Workers<C, R>,
     err: &mut E,
 )
     ensures progress { TellsProgress asked (E.written err.old) (E.written err.new) }
@@ -49,26 +49,28 @@ pub(crate) fn report_if_asked<C: Exclusion, K: Clock, E: Output>(
 
 /// Prints the number of sections completed so far about once a second, until all workers have
 /// ended. A line that cannot be written is skipped.
-fn report_progress<C: Exclusion, K: Clock, E: Output>(
+fn report_progress<C: Exclusion, K: Clock, R, E: Output>(
     clock: &K,
     alloc: Global,
     watch: &Watch<C>,
-    workers: &Workers<C>,
+    workers: &Workers<C, R>,
     err: &mut E,
 )
-    ensures progress { Progresses (E.written err.old) (E.written err.new) }
+    ensures progress { (shown : ℕ) × Progresses shown (E.written err.old) (E.written err.new) }
     ensures stays { E.takes_all err.new ≡ E.takes_all err.old }
 {
+    let mut shown = 0;
     for _second in 0..u64::MAX {
         if is_over(clock, workers) {
             return;
         }
-        let _ = write_line(alloc, err, ProgressLine(watch.sections()));
+        shown = watch.sections().max(shown);
+        let _ = write_line(alloc, err, ProgressLine(shown));
     }
 }
 
 /// Waits for a second, or until all workers have ended. Returns whether they have.
-fn is_over<C: Exclusion, K: Clock>(clock: &K, workers: &Workers<C>) -> bool {
+fn is_over<C: Exclusion, K: Clock, R>(clock: &K, workers: &Workers<C, R>) -> bool {
     for _look in 0..LOOKS_A_SECOND {
         if workers.has_ended() {
             return true;

@@ -1,17 +1,18 @@
 //! The threads of a live run, one for each station.
 
-ghost use Rattle.std.specs.Prelude.{◌≡◌, ◌<◌, ◌++◌, [], ◌∷◌, IfOk, OnOk, map};
+ghost use Rattle.std.specs.Prelude.{◌≡◌, ◌<◌, IfOk, map};
 ghost use Rattle.std.specs.List.{AllZip};
-ghost use Rattle.mx_live.specs.Workers.{IsLeft, ordered, told, weather_of};
+ghost use Rattle.mx_live.specs.Workers.{IsLeft, weather_of, worker_of};
 
 use mx_explorer::Weather;
-use mx_jobs::{StartGate, ThreadGroup};
+use mx_jobs::{Host, StartGate, ThreadGroup, Work};
+use mx_letters::Fates;
 use mx_nodelaws::Exclusion;
 use mx_stamps::NodeId;
 use mx_stations::{Script, Station, Worked, work_settling};
 use std::alloc::{AllocError, Global};
-use std::snapshot::Snapshot;
-use std::thread::{Promise, Threads};
+use std::rt::Clock;
+use std::sync::Wait;
 
 /// How many of 256 parcels a link loses, on average.
 const LOST: u16 = 16;
@@ -32,32 +33,37 @@ pub(crate) struct WorkerConfig {
 /// What a worker leaves: its station, and how it ended.
 pub type Ended<C> = (Station<C>, Worked);
 
-/// The promise of a worker's thread: with these orders, its work leads from this station to the one
-/// that it leaves.
+/// A station and its orders, with the fates of the parcels to its node.
 #[derive(Drop)]
-pub(crate) struct WorkAt<S> {
-    at: Snapshot<S>,
+pub(crate) struct Worker<S, F> {
+    station: S,
     orders: WorkerConfig,
+    fates: F,
 }
 
-impl<C: Exclusion> Promise<Ended<C>> for WorkAt<Station<C>> {
+impl<C: Exclusion, F: Fates + Drop> Work<Ended<C>> for Worker<Station<C>, F> {
     ghost use Rattle.mx_live.specs.Workers.{IsLeft};
 
-    ghost kept_by = { λ p ended. IsLeft C.core p.orders p.at.value ended };
+    ghost leads = { λ worker ended. IsLeft C.core worker.orders worker.station ended };
+
+    fn run<R: Wait + Clock>(self, gate: &StartGate<R>) -> Ended<C> {
+        let Worker {
+            station,
+            orders,
+            fates,
+        } = self;
+        let script = Script {
+            register: 0,
+            sections: orders.sections,
+        };
+        let node = station.node();
+        let ended = work_settling(station, script, orders.settle, gate, fates, orders.turns);
+        gate.leave(node);
+        ended
+    }
 }
 
-pub(crate) type Workers<C> = ThreadGroup<Ended<C>, WorkAt<Station<C>>>;
-
-fn work_at<C: Exclusion>(station: Station<C>, gate: &StartGate, orders: WorkerConfig) -> Ended<C>
-    ensures { IsLeft C.core orders station result }
-{
-    let script = Script {
-        register: 0,
-        sections: orders.sections,
-    };
-    let weather = weather_at(orders.seed, station.node());
-    work_settling(station, script, orders.settle, gate, weather, orders.turns)
-}
+pub(crate) type Workers<C, R> = ThreadGroup<Ended<C>, Worker<Station<C>, Weather>, R>;
 
 fn weather_at(seed: u64, node: NodeId) -> Weather
     ensures { result ≡ weather_of seed node }
@@ -66,81 +72,47 @@ fn weather_at(seed: u64, node: NodeId) -> Weather
     Weather::of(own, LOST, DOUBLED)
 }
 
-fn start_one<C: Exclusion + Send + 'static, R: Threads>(
-    rt: &R,
-    workers: &mut Workers<C>,
-    station: Station<C>,
-    orders: WorkerConfig,
-) -> Result<(), AllocError>
-where
-    C::Msg: Send + 'static,
-    C::Shape: Send + 'static,
-    ensures { OnOk result (map told workers.new ≡ map told workers.old ++ ordered station orders ∷ []) }
-{
-    let promise = WorkAt {
-        at: Snapshot::of(&station),
-        orders,
-    };
-    workers.start_or_drop(
-        rt,
-        promise,
-        move |gate: &StartGate| -> Ended<C>
-            ensures { IsLeft C.core orders station result }
-        { work_at(station, gate, orders) },
-    )?;
-    Ok(())
-}
-
-fn start_each<C: Exclusion + Send + 'static, R: Threads>(
-    rt: &R,
-    workers: &mut Workers<C>,
-    stations: Vec<Station<C>>,
-    orders: WorkerConfig,
-) -> Result<(), AllocError>
-where
-    C::Msg: Send + 'static,
-    C::Shape: Send + 'static,
-    ensures { OnOk result (map told workers.new
-        ≡ map told workers.old ++ map (λ station. ordered station orders) stations.items) }
-{
-    for station in stations {
-        start_one(rt, workers, station, orders)?;
-    }
-    Ok(())
-}
-
-/// If a thread cannot be started, those before it are joined.
-pub(crate) fn start_all<C: Exclusion + Send + 'static, R: Threads>(
+/// Begins the work of each station, with its own weather.
+pub(crate) fn start_all<C: Exclusion + Send + 'static, R: Host>(
     rt: &R,
     alloc: Global,
     nodes: u8,
     stations: Vec<Station<C>>,
     orders: WorkerConfig,
-) -> Result<Workers<C>, AllocError>
+) -> Result<Workers<C, R>, AllocError>
 where
     C::Msg: Send + 'static,
     C::Shape: Send + 'static,
     requires { nodes < 22 }
-    ensures { IfOk result (λ workers.
-        map told workers ≡ map (λ station. ordered station orders) stations.items) }
+    ensures { IfOk result (λ group. group.works ≡ map (worker_of orders) stations.items) }
 {
-    let mut workers = ThreadGroup::new(alloc, nodes)?;
-    match start_each(rt, &mut workers, stations, orders) {
-        Ok(()) => Ok(workers),
-        Err(AllocError) => {
-            workers.give_up(rt);
-            Err(AllocError)
-        }
+    let mut group = ThreadGroup::new(rt, alloc, nodes, stations.len())?;
+    for station in stations {
+        let fates = weather_at(orders.seed, station.node());
+        let worker = Worker {
+            station,
+            orders,
+            fates,
+        };
+        group.start(rt, worker);
     }
+    Ok(group)
 }
 
-/// If memory runs out, what the threads left is dropped. (In its caller, the goals of `join_all` stay open.)
-pub(crate) fn join_all<C: Exclusion, R: Threads>(
+/// Waits until all workers have ended. If one got no thread, what they left is dropped.
+pub(crate) fn join_all<C: Exclusion + Send + 'static, R: Host>(
     rt: &R,
-    workers: Workers<C>,
+    workers: Workers<C, R>,
 ) -> Result<Vec<Ended<C>>, AllocError>
+where
+    C::Msg: Send + 'static,
+    C::Shape: Send + 'static,
     ensures { IfOk result (λ all. AllZip
-        (λ worker ended. IsLeft C.core worker.orders worker.at.value ended) workers all.items) }
+        (λ worker ended. IsLeft C.core worker.orders worker.station ended)
+        workers.works all.items) }
 {
-    workers.join_all(rt)
+    match workers.join(rt) {
+        (all, None) => Ok(all),
+        (_, Some(_)) => Err(AllocError),
+    }
 }

@@ -11,6 +11,7 @@ use crate::table::{Call, HISTORY, PLAN, Row};
 use crate::{jobs, values};
 use anyhow::{Result, bail};
 use mx_format::add_member_line;
+use mx_jobs::Host;
 use mx_journal::{Journal, Record};
 use mx_member::Member;
 use mx_network::{Cluster, Event};
@@ -18,7 +19,6 @@ use mx_plan::{Plan, PlanFault, read_events, read_plan};
 use mx_ricart::{Count, Ricart};
 use mx_stamps::NodeId;
 use std::alloc::{AllocError, Global};
-use std::thread::Threads;
 
 #[derive(Drop)]
 pub(crate) struct Bench {
@@ -150,7 +150,7 @@ fn prepare(bench: &mut Bench, row: Row) -> Result<()> {
     Ok(())
 }
 
-pub(crate) fn make<R: Threads>(
+pub(crate) fn make<R: Host>(
     threads: &R,
     bench: &mut Bench,
     new: NewRun,

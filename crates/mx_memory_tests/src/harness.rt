@@ -6,7 +6,7 @@ use crate::bench::{Bench, make, set_up, state_of};
 use crate::jobs::new_run;
 use crate::table::{Call, Row};
 use anyhow::{Result, bail};
-use std::thread::Threads;
+use mx_jobs::Host;
 
 #[derive(Clone, Copy, PartialEq, Eq)]
 pub(crate) enum Outcome {
@@ -44,7 +44,7 @@ pub(crate) fn expect(name: &str, holds: bool) -> Result<()> {
 }
 
 /// Does what a row says with the call of this name.
-pub(crate) fn step<R: Threads>(
+pub(crate) fn step<R: Host>(
     rt: &HostRuntime,
     threads: &R,
     bench: &mut Bench,

@@ -9,14 +9,13 @@ use crate::table::Call;
 use anyhow::Result;
 use arrayvec::ArrayVec;
 use mx_jobs::{
-    Job, RunFault, RunOptions, Settings, Unfinished, fair_links, run, run_stations, stations,
+    Host, Job, RunFault, RunOptions, Settings, Unfinished, fair_links, run, run_stations, stations,
 };
 use mx_journal::Write;
 use mx_letters::Fair;
 use mx_ricart::{Count, Ricart};
 use mx_stations::Station;
 use std::alloc::{AllocError, Global};
-use std::thread::Threads;
 
 pub(crate) const SETTINGS: Settings = Settings {
     origin: 0,
@@ -84,7 +83,7 @@ fn outcome_of(left: &Unfinished<Ricart, Numberer>) -> Outcome {
 
 /// Runs new stations, and gathers them or not. While memory is refused to every turn no section is
 /// entered, and the run has to end soon; the second time it may take long.
-pub(crate) fn make<R: Threads>(
+pub(crate) fn make<R: Host>(
     threads: &R,
     alloc: Global,
     new: NewRun,

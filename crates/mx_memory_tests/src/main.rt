@@ -17,10 +17,10 @@ use crate::bench::{Bench, new_bench, set_up};
 use crate::harness::step;
 use crate::table::{Call, Row, TABLE};
 use anyhow::Result;
-use std::thread::Threads;
+use mx_jobs::Host;
 
 /// Makes a call as a row says: once, or on a new bench for each list of numbers in turn.
-fn make_row<R: Threads>(
+fn make_row<R: Host>(
     rt: &HostRuntime,
     threads: &R,
     bench: &mut Bench,
@@ -38,7 +38,7 @@ fn make_row<R: Threads>(
     Ok(())
 }
 
-fn make_all<R: Threads>(rt: &HostRuntime, threads: &R, bench: &mut Bench) -> Result<()> {
+fn make_all<R: Host>(rt: &HostRuntime, threads: &R, bench: &mut Bench) -> Result<()> {
     for (name, call, rows) in &TABLE {
         for row in *rows {
             make_row(rt, threads, bench, *name, *call, *row)?;

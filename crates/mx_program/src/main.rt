@@ -8,6 +8,7 @@ mod hints;
 use crate::hints::tell_hint;
 use mx_dispatch::command;
 use mx_io::{Output, Stream, Streams, as_slices, given_words, status_of};
+use mx_jobs::Host;
 use mx_live::live;
 use mx_play::{Typed, play};
 use std::alloc::AllocError;
@@ -15,9 +16,8 @@ use std::io;
 use std::io::{BufWriter, IsTerminal, Write};
 use std::process::ExitCode;
 use std::rt::{Clock, Env, Files};
-use std::thread::Threads;
 
-fn carry_out<R: Files + Clock + Input + AllocGlobal + Threads, O: Output, E: Output>(
+fn carry_out<R: Files + Input + AllocGlobal + Host, O: Output, E: Output>(
     rt: &R,
     words: &[&str],
     out: &mut O,
@@ -47,7 +47,7 @@ where
 /// Runs the command line of the process. If its files have a fault, a hint on standard error names
 /// the command that explains it, for a reader at a terminal.
 fn run_words<
-    R: Files + Env + Clock + Input + AllocGlobal + Threads,
+    R: Files + Env + Input + AllocGlobal + Host,
     O: Write + Drop,
     E: Write + IsTerminal + Drop,
 >(rt: &R, out: O, err: E) -> io::Result<u8>

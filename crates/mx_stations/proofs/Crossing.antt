@@ -19,7 +19,7 @@ use Rattle.mx_stations.specs.Turns.{IsFated, fated_hand}
 use Rattle.mx_stations.proofs.Places.{only_one}
 use Rattle.mx_stations.proofs.Posts.{settled}
 use Rattle.mx_stations.proofs.Slides.{some_is}
-use Rattle.mx_stations.proofs.Waits.{waits_less, waits_turned}
+use Rattle.mx_stations.proofs.Waits.{waits_still}
 
 module _ {T P : Type 0} where
   module _ (i : ℕ) (x : T) (held : Option (ℕ × P)) (r : List Receipt) (m : Me (Option P) (List (Entry T P))) (is : m ≡ (shown i x held r m.0 ∷ [], [])) where
@@ -44,9 +44,9 @@ module _ {T P : Type 0} where
     pub placed_seat : (k : ℕ) (p : P) (m1 m2 : Me (Option P) (List (Entry T P))) → Claims k m m1 → m2 ≡ (placed_view k p m1.0, []) → m2 ≡ (shown i x held r m2.0 ∷ [], [])
     placed_seat k p m1 m2 claims view = (settled i x held r m2 (placing k p me) (after_place k p m1 m2 claims view) refl).0
 
-    pub placed_waits : (k : ℕ) (to : ℕ × P) (m1 m2 : Me (Option P) (List (Entry T P))) (n : ℕ) (w w' : List (ℕ × P)) → Claims k m m1 → m2 ≡ (placed_view k to.1 m1.0, []) → Waits n (sent_in m.0) w → w ≡ to ∷ w' → Waits n (sent_in m2.0) w'
-    placed_waits k to m1 m2 n w w' claims view waits first =
-        waits_less n (sent_in m.0) (sent_in m2.0) w w' to waits (ap (λ (z : Me (Option P) (List (Entry T P))). sent_in z.0) (after_place k to.1 m1 m2 claims view)) first
+    pub placed_waits : (k : ℕ) (p : P) (m1 m2 : Me (Option P) (List (Entry T P))) (n : ℕ) (w w' : List (ℕ × P)) → Claims k m m1 → m2 ≡ (placed_view k p m1.0, []) → Waits n (sent_in m.0) w → ((x : ℕ × P) → IsIn x w' → IsIn x w) → Waits n (sent_in m2.0) w'
+    placed_waits k p m1 m2 n w w' claims view waits among =
+        waits_still n (sent_in m.0) (sent_in m2.0) w w' waits (ap (λ (z : Me (Option P) (List (Entry T P))). sent_in z.0) (after_place k p m1 m2 claims view)) among
 
     pub put_sent : (k to u : ℕ) (p : P) (m1 m2 : Me (Option P) (List (Entry T P))) (table table' : TableId) (n : ℕ) (w w' : List (ℕ × P)) (s : Post T P) → post table n me w ≡ s → table' ≡ table
         → k ≡ slot_at n i to u → u < 4 → Claims k m m1 → m2 ≡ (placed_view k p m1.0, []) → w ≡ (to, p) ∷ w' → PutsOut s Sent (post table' n (shown i x held r m2.0) w')
@@ -74,8 +74,8 @@ module _ {T P : Type 0} where
           (λ u un. let c = used u un in subst (λ (z : ℕ × Entry T P). of z.0 z.1.placed ≢ []) (λ j. (k_is u j, only_me c.0 c.1 j)) c.2),
         )
 
-    pub turned_waits : (m1 : Me (Option P) (List (Entry T P))) (n : ℕ) (to : ℕ × P) (w w' w2 : List (ℕ × P)) → m1 ≡ m → Waits n (sent_in m.0) w → w ≡ to ∷ w' → w2 ≡ w' ++ to ∷ [] → Waits n (sent_in m1.0) w2
-    turned_waits m1 n to w w' w2 same waits first turned = waits_turned n (sent_in m.0) (sent_in m1.0) w w' w2 to waits (ap (λ (z : Me (Option P) (List (Entry T P))). sent_in z.0) same) first turned
+    pub turned_waits : (m1 : Me (Option P) (List (Entry T P))) (n : ℕ) (w w' : List (ℕ × P)) → m1 ≡ m → Waits n (sent_in m.0) w → ((x : ℕ × P) → IsIn x w' → IsIn x w) → Waits n (sent_in m1.0) w'
+    turned_waits m1 n w w' same waits among = waits_still n (sent_in m.0) (sent_in m1.0) w w' waits (ap (λ (z : Me (Option P) (List (Entry T P))). sent_in z.0) same) among
 
     -- the seat has the slot, in which the parcel that it took still lies
     pub has_taken : (k from : ℕ) (m1 : Me (Option P) (List (Entry T P))) (took : Takes k from m m1) → HasTaken k from me took.2.0 m1

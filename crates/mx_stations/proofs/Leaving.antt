@@ -1,5 +1,5 @@
 -- A worker's turn: acts by which no section is left, and then one by which one may be.
-use Rattle.std.proofs.Common.{◌≡◌, ◌≢◌, inl, inr, ℕ, List, [], ◌∷◌, ◌++◌, length, Result, Ok, Err, IfOk, OnOk, OnErr, None, ap, refl, subst, ◌∙◌}
+use Rattle.std.proofs.Common.{◌≡◌, inl, inr, ℕ, List, [], ◌∷◌, ◌++◌, length, Result, Ok, Err, IfOk, OnOk, OnErr, ap, refl, subst, ◌∙◌}
 use Rattle.std.proofs.lemmas.List.{append-nil}
 use Rattle.mx_journal.specs.declared.receipts.Receipt.{Receipt}
 use Rattle.mx_nodelaws.specs.Core.{Core}
@@ -9,7 +9,7 @@ use Rattle.mx_member.specs.Acts.{act_of}
 use Rattle.mx_member.specs.Receipts.{closed_by}
 use Rattle.mx_stations.specs.declared.answers.TurnReport.{TurnReport}
 use Rattle.mx_stations.specs.Posts.{does}
-use Rattle.mx_stations.specs.Turns.{Goes, Station, Turns}
+use Rattle.mx_stations.specs.Turns.{Goes, HoldsUnknown, Station, Turns}
 use Rattle.mx_stations.specs.Works.{Acts, ActsIn, HasTurned, IsWorkers, LeavesNone, MayLeave, TakesTurn, Works}
 use Rattle.mx_stations.proofs.Toils.{rests, works_acting, works_on, works_turning}
 
@@ -76,6 +76,6 @@ module _ {H S M : Type 0} (core : Core H S M) where
   leave_trying (Err e) s t did same = inl same
 
   -- a turn that tells of itself, or in which memory was refused
-  pub has_turned : {F : Type 0} (r : Result TurnReport F) (s t : Station core) → IfOk r (λ report. Turns core s report t) → Goes core s t → OnErr r (t.me.hand ≢ None) → HasTurned core s t
+  pub has_turned : {F : Type 0} (r : Result TurnReport F) (s t : Station core) → IfOk r (λ report. Turns core s report t) → Goes core s t → OnErr r (HoldsUnknown core t) → HasTurned core s t
   has_turned (Ok report) s t told goes kept = (goes, inl (report, told))
   has_turned (Err e) s t told goes kept = (goes, inr kept)

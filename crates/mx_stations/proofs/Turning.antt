@@ -7,7 +7,7 @@ use Rattle.mx_stations.specs.declared.answers.PutOut.{PutOut}
 use Rattle.mx_stations.specs.declared.answers.PutOut.TheVariants.{Sent, Full, Nothing}
 use Rattle.mx_stations.specs.declared.answers.TurnReport.{TurnReport}
 use Rattle.mx_stations.specs.Posts.{Delivers, Fetches, PutsOut}
-use Rattle.mx_stations.specs.Turns.{Deals, DeliversFirst, DeliversMore, IsFated, PutsEach, Station, TakesEach, TakesFated, Throws, begun, noted, noted_all, noted_put, noted_puts}
+use Rattle.mx_stations.specs.Turns.{Deals, DeliversFirst, DeliversMore, IsFated, PutsEach, Station, TakesEach, TakesFated, Throws, Turns, begun, noted, noted_all, noted_put, noted_puts}
 use Rattle.mx_stations.proofs.Posts.{no_none}
 
 -- a report after n notes of tries to take: no count grew by more
@@ -70,6 +70,9 @@ module _ {H S M : Type 0} (core : Core H S M) where
   puts_more : (xs : List PutOut) (s t u : Station core) (x : PutOut) → PutsEach core xs s t → PutsOut t x u → PutsEach core (xs ++ x ∷ []) s u
   puts_more [] s t u x same did = (u, subst (λ (z : Station core). PutsOut z x u) same did, refl)
   puts_more (y ∷ xs) s t u x ran did = (ran.0, ran.1, puts_more xs ran.0 t u x ran.2 did)
+
+  pub turns_from : (s s1 : Station core) (report : TurnReport) (t : Station core) → s1 ≡ s → Turns core s1 report t → Turns core s report t
+  turns_from s s1 report t same did = subst (λ (z : Station core). Turns core z report t) same did
 
   -- the tries so far, of which j were made
   abbrev pub TookSoFar : ℕ → TurnReport → TurnReport → Station core → Station core → Type 0

@@ -1,4 +1,4 @@
-use Rattle.std.specs.Prelude.{◌≡◌, ◌≢◌, ◌⊎◌, ℕ, ◌<◌, Bool, true, false, List, [], ◌∷◌, ◌++◌, Option, Some, None, OnErr, OnOk, take}
+use Rattle.std.specs.Prelude.{◌≡◌, ◌≢◌, ◌⊎◌, ℕ, ◌<◌, Bool, true, false, List, [], ◌∷◌, ◌++◌, Option, Some, None, OnErr, OnOk, drop, take}
 use Rattle.atomic_table.specs.Seated.{TableId}
 use Rattle.mx_stamps.specs.Lists.{IsIn}
 use Rattle.mx_journal.specs.declared.receipts.Receipt.{Receipt}
@@ -163,6 +163,11 @@ module _ {T P : Type 0} where
       × (t ≡ post s.table s.nodes s.me (rest ++ (to, p) ∷ []))
       × ((index : ℕ) → index < SLOTS → of (slot_to s to index) s.me.placed ≢ [])
   PutsOut s Nothing t = (s.waiting ≡ []) × (t ≡ s)
+
+-- the station once its first `index` waiting parcels were tried: the first `kept` found no empty
+-- slot, and wait again at the end
+abbrev pub turned : {T P : Type 0} → ℕ → ℕ → Post T P → Post T P
+turned index kept s = post s.table s.nodes s.me (drop index s.waiting ++ take kept s.waiting)
 
 module _ {H S M : Type 0} (core : Core H S M) where
   -- `Got`: the parcel in hand was delivered, or one was taken from the link and delivered. `Empty`:

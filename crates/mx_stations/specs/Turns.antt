@@ -4,7 +4,7 @@ use Rattle.mx_letters.specs.declared.fates.Fate.TheVariants.{Pass, Drop, Twice}
 use Rattle.mx_nodelaws.specs.Core.{Core}
 use Rattle.mx_member.specs.declared.acts.Act.TheVariants.{Deliver, Tick}
 use Rattle.mx_member.specs.declared.parcel.Parcel.{Parcel}
-use Rattle.mx_member.specs.Member.{MemberState}
+use Rattle.mx_member.specs.Member.{BringsUnknown, MemberState}
 use Rattle.mx_stations.specs.declared.answers.PutOut.{PutOut}
 use Rattle.mx_stations.specs.declared.answers.PutOut.TheVariants.{Sent, Full, Nothing}
 use Rattle.mx_stations.specs.declared.answers.TurnReport.{TurnReport}
@@ -34,6 +34,13 @@ module _ {T P : Type 0} where
 module _ {H S M : Type 0} (core : Core H S M) where
   abbrev pub Station : Type 0
   Station = Post (MemberState S) (Parcel M)
+
+  -- the parcel in hand brings a record that the journal lacks; only then can its delivery run out
+  -- of memory
+  abbrev pub HoldsUnknown : Station → Type 0
+  HoldsUnknown s =
+      (from : ℕ) × (p : Parcel M) × (s.me.hand ≡ Some (from, p))
+      × BringsUnknown p s.me.member.journal
 
   -- the parcel in hand is delivered by one act, and remains there to be delivered again
   abbrev pub DeliversFirst : Station → Station → Type 0

@@ -1,4 +1,4 @@
-use Rattle.std.specs.Prelude.{◌≡◌, ◌≢◌, ◌⊎◌, ℕ, ◌-◌, ◌%◌, ◌<◌, ◌≤◌, List, [], ◌∷◌, length, None}
+use Rattle.std.specs.Prelude.{◌≡◌, ◌≢◌, ◌⊎◌, ℕ, ◌-◌, ◌%◌, ◌<◌, ◌≤◌, List, [], ◌∷◌, length}
 use Rattle.mx_nodelaws.specs.Core.{Core}
 use Rattle.mx_nodelaws.specs.declared.phase.Phase.TheVariants.{Idle}
 use Rattle.mx_member.specs.Member.{first_gap}
@@ -6,7 +6,7 @@ use Rattle.mx_member.specs.declared.acts.Act.{Act}
 use Rattle.mx_member.specs.declared.acts.Act.TheVariants as act
 use Rattle.mx_stations.specs.declared.answers.TurnReport.{TurnReport}
 use Rattle.mx_stations.specs.Posts.{does}
-use Rattle.mx_stations.specs.Turns.{Goes, Moves, Station, Turns}
+use Rattle.mx_stations.specs.Turns.{Goes, HoldsUnknown, Moves, Station, Turns}
 
 -- an act of a worker of n nodes: it asks, enters, leaves, reads or writes its register, or asks a
 -- node for records
@@ -63,10 +63,10 @@ module _ {H S M : Type 0} (core : Core H S M) where
   MayLeave s t = (t ≡ s) ⊎ (t ≡ does core act.Leave s)
 
   -- the station has taken a turn, with some report; or memory ran out in the turn, after some of
-  -- its acts and moves, and a parcel is in hand
+  -- its acts and moves, for a record of the parcel in hand
   abbrev pub HasTurned : Station core → Station core → Type 0
   HasTurned s t =
-      Goes core s t × (((report : TurnReport) × Turns core s report t) ⊎ (t.me.hand ≢ None))
+      Goes core s t × (((report : TurnReport) × Turns core s report t) ⊎ HoldsUnknown core t)
 
 module _ {H S M : Type 0} (core : Core H S M) (register : ℕ) where
   -- a worker's turn: acts by which it leaves no section, then it may leave one, and then its

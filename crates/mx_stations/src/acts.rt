@@ -11,6 +11,7 @@ ghost use Rattle.mx_member.specs.declared.parcel.Parcel.{Parcel as OneParcel};
 ghost use Rattle.mx_member.specs.Member.{BringsUnknown};
 ghost use Rattle.mx_stations.specs.Posts.{DeliversAs, OnDone, OnRefusal, does, left_in};
 ghost use Rattle.mx_stations.specs.Running.{IsPlain};
+ghost use Rattle.mx_stations.specs.Turns.{HoldsUnknown};
 
 use crate::answers::TakeFault;
 use crate::field::act;
@@ -210,6 +211,7 @@ impl<C: Exclusion> Station<C> {
         requires { (from : ℕ) × (p : OneParcel C.Msg) × (self.old.me.hand ≡ Some (from, p))
             × IsTakeable from p self.old.me.member }
         ensures delivered { OnOk result (DeliversAs C.core again self.old self.new) }
+        ensures held { OnErr result (HoldsUnknown C.core self.old) }
         ensures memory { OnErr result (self.new ≡ self.old) }
     {
         let Some(held) = &self.hand else {

@@ -7,6 +7,7 @@ ghost use Rattle.mx_stations.specs.Opened.{AreFresh, starts_of};
 ghost use Rattle.mx_stations.specs.Running.{all_of, fresh};
 
 use crate::field::{Field, SeatOf};
+use crate::node_set::NodeSet;
 use crate::rule::{HandOn, Setup};
 use crate::slots::SLOTS;
 use crate::station::Station;
@@ -125,6 +126,8 @@ fn seat_all<C: Exclusion>(
             receipts: Vec::new(alloc),
             out: Outbox::new(),
             waiting: ArrayVec::new(),
+            put_to: NodeSet::default(),
+            took_from: NodeSet::default(),
         });
     }
     Ok((all, members))

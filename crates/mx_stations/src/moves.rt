@@ -2,13 +2,14 @@
 //! call tries once. A parcel that was taken from a slot is in the station's hand until it is
 //! delivered.
 
-ghost use Rattle.std.specs.Prelude.{◌≡◌, ◌≢◌, ◌<◌, IfOk, MatchBool, None, OnErr};
+ghost use Rattle.std.specs.Prelude.{◌≡◌, ◌≢◌, ◌<◌, ◌≤◌, ◌+◌, IfOk, MatchBool, None, OnErr, length};
 ghost use Rattle.mx_letters.specs.declared.fates.Fate.TheVariants.{Pass};
-ghost use Rattle.mx_stations.specs.Posts.{Delivers, DeliversAs, Fetches, FindsNone, KeepsInHand, PutsOut, TakesIn};
+ghost use Rattle.mx_stations.specs.Posts.{Delivers, DeliversAs, Fetches, FindsNone, KeepsInHand, PutsOut, TakesIn, turned};
+ghost use Rattle.mx_stations.specs.Turns.{HoldsUnknown};
 
 use crate::answers::{PutOut, TakeFault, Taken};
 use crate::field::look;
-use crate::queue::take_first;
+use crate::queue::{bring_forward, turn};
 use crate::slots::{Link, claim_empty, place};
 use crate::station::Station;
 use mx_letters::Fate;
@@ -20,7 +21,7 @@ impl<C: Exclusion> Station<C> {
         ensures delivered { IfOk result (λ had.
             MatchBool had (DeliversAs C.core again self.old self.new)
             ((self.old.me.hand ≡ None) × (self.new ≡ self.old))) }
-        ensures held { OnErr result (self.old.me.hand ≢ None) }
+        ensures held { OnErr result (HoldsUnknown C.core self.old) }
         ensures memory { OnErr result (self.new ≡ self.old) }
     {
         let Some(_held) = &self.hand else {
@@ -34,7 +35,7 @@ impl<C: Exclusion> Station<C> {
     pub(crate) fn deliver(&mut self) -> Result<bool, TakeFault>
         ensures delivered { IfOk result (λ had. MatchBool had (Delivers C.core self.old self.new)
             ((self.old.me.hand ≡ None) × (self.new ≡ self.old))) }
-        ensures held { OnErr result (self.old.me.hand ≢ None) }
+        ensures held { OnErr result (HoldsUnknown C.core self.old) }
         ensures memory { OnErr result (self.new ≡ self.old) }
     {
         self.deliver_as(false)
@@ -78,19 +79,40 @@ impl<C: Exclusion> Station<C> {
     pub fn put_out(&mut self) -> PutOut
         ensures { PutsOut self.old result self.new }
     {
-        let Some(first) = take_first(&mut self.waiting) else {
+        if self.waiting.len() == 0 {
             return PutOut::Nothing;
+        }
+        let mut kept = 0;
+        let answer = self.put_next(0, &mut kept);
+        turn(&mut self.waiting, kept);
+        answer
+    }
+
+    /// Tries once to put out the parcel at `index` of the waiting ones. It stays among them; if no
+    /// slot of its link is empty, it moves to the place `kept`, which grows by 1.
+    pub(crate) fn put_next(&mut self, index: usize, kept: &mut usize) -> PutOut
+        requires within { index < length self.old.waiting }
+        requires low { kept.old ≤ index }
+        ensures put { PutsOut (turned index kept.old self.old) result
+            (turned (index + 1) kept.new self.new) }
+        ensures kept { kept.new ≤ index + 1 }
+        ensures many { length self.new.waiting ≡ length self.old.waiting }
+    {
+        let Some(next) = self.waiting.as_slice().get(index) else {
+            unreachable!();
         };
         let link = Link {
             from: self.node,
-            to: first.0,
+            to: next.0,
         };
         let field = &*self.field;
-        let Some(index) = claim_empty(field, &mut self.seat, &link) else {
-            self.waiting.push(first);
+        let Some(slot) = claim_empty(field, &mut self.seat, &link) else {
+            bring_forward(&mut self.waiting, index, *kept);
+            *kept += 1;
             return PutOut::Full;
         };
-        place(field, &mut self.seat, &link, index, first.1);
+        place(field, &mut self.seat, &link, slot, next.1.copy());
+        self.put_to.add(link.to);
         PutOut::Sent
     }
 }

@@ -1,7 +1,8 @@
 //! The queue of a station's parcels that wait to be put out into slots.
 
-ghost use Rattle.std.specs.Prelude.{◌≡◌, ◌++◌, ◌<◌, [], ◌∷◌, IfNone, IfSome, OnSome};
-ghost use Rattle.arrayvec.specs.ArrayVec.{array_vec_len};
+ghost use Rattle.std.specs.Prelude.{◌≡◌, ◌+◌, ◌++◌, ◌<◌, ◌≤◌, ℕ, [], ◌∷◌, Some, drop, length, slice_get, take};
+ghost use Rattle.mx_stamps.specs.Lists.{IsIn};
+ghost use Rattle.mx_member.specs.declared.parcel.Parcel.{Parcel as OneParcel};
 ghost use Rattle.mx_stations.specs.Posts.{waiting_after};
 
 use arrayvec::ArrayVec;
@@ -27,13 +28,31 @@ pub(crate) fn store_up<M: Copy + Default>(waiting: &mut Waiting<M>, out: &Outbox
     }
 }
 
-pub(crate) fn take_first<M: Copy + Default>(waiting: &mut Waiting<M>) -> Option<(NodeId, Parcel<M>)>
-    ensures first { IfSome result (λ x. waiting.old.items ≡ x ∷ waiting.new.items) }
-    ensures room { OnSome result (array_vec_len waiting.new < WAITING_ROOM) }
-    ensures none { IfNone result ((waiting.old.items ≡ []) × (waiting.new ≡ waiting.old)) }
+/// Exchanges the parcel at `index` with the one at `kept`, which is none of those behind it.
+pub(crate) fn bring_forward<M: Copy + Default>(waiting: &mut Waiting<M>, index: usize, kept: usize)
+    requires within { index < length waiting.old.items }
+    requires low { kept ≤ index }
+    ensures front { (x : ℕ × OneParcel M) → slice_get waiting.old.items index ≡ Some x
+        → take (kept + 1) waiting.new.items ≡ take kept waiting.old.items ++ x ∷ [] }
+    ensures back { drop (index + 1) waiting.new.items ≡ drop (index + 1) waiting.old.items }
+    ensures among { (x : ℕ × OneParcel M) → IsIn x waiting.new.items → IsIn x waiting.old.items }
+    ensures many { length waiting.new.items ≡ length waiting.old.items }
 {
-    if waiting.len() == 0 {
-        return None;
+    if kept < index {
+        waiting.as_mut_slice().swap(kept, index);
     }
-    Some(waiting.remove(0))
+}
+
+/// Moves the first parcel to the end, or removes it if `kept` is 0.
+pub(crate) fn turn<M: Copy + Default>(waiting: &mut Waiting<M>, kept: usize)
+    requires some { 0 < length waiting.old.items }
+    requires few { kept ≤ 1 }
+    ensures { waiting.new.items ≡ drop 1 waiting.old.items ++ take kept waiting.old.items }
+{
+    // for the prover, as in `store_up`
+    let _count = waiting.len();
+    let first = waiting.remove(0);
+    if kept > 0 {
+        waiting.push(first);
+    }
 }

@@ -6,9 +6,10 @@ ghost use Rattle.mx_nodelaws.specs.Core.{IsInside};
 ghost use Rattle.mx_stations.specs.Gathered.{KeepsTable};
 ghost use Rattle.mx_stations.specs.Works.{IsDue, IsWithin, SettlesIfDue, Works, WorksAtMost, WorksFor, WorksSettling};
 
+use crate::gate::Gate;
 use crate::patience::Patience;
 use crate::station::Station;
-use crate::worker::{Gate, Script, Worked, WorkerState, is_finished, take_turn};
+use crate::worker::{Script, Worked, WorkerState, is_finished, is_to_ask, take_turn};
 use mx_letters::Fates;
 use mx_nodelaws::Exclusion;
 
@@ -69,11 +70,13 @@ fn settle_on<C: Exclusion, G: Gate, F: Fates>(
     };
     for _turn in 0..turns {
         let before = station.receipts().len();
-        take_turn(station, script, &mut stance, fates);
+        take_turn(station, script, &mut stance, gate, fates);
         settle_if_due(station, before, every);
         if is_finished(station, script.sections) && gate.done(node) {
             return Worked::Done;
         }
+        let asks = is_to_ask(station, script.sections);
+        stance.patience.wait(station, gate, asks);
     }
     Worked::NotYet(turns)
 }

@@ -6,6 +6,7 @@ ghost use Rattle.mx_registers.specs.Based.{registers_in};
 ghost use Rattle.mx_registers.specs.Registers.{value_in};
 
 use crate::field::{Field, SeatOf};
+use crate::node_set::NodeSet;
 use crate::queue::{WAITING_ROOM, Waiting};
 use mx_journal::{Journal, Receipt};
 use mx_letters::Outbox;
@@ -30,6 +31,10 @@ pub struct Station<C: Exclusion> {
     /// The parcels of one act before they join the waiting ones.
     pub(crate) out: Outbox<Parcel<C::Msg>>,
     pub(crate) waiting: Waiting<C::Msg>,
+    /// The nodes for which parcels were put out since the last turn began.
+    pub(crate) put_to: NodeSet,
+    /// The nodes of which parcels were taken since the last turn began.
+    pub(crate) took_from: NodeSet,
 }
 
 impl<C: Exclusion> Model for Station<C> {

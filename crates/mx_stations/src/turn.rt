@@ -11,10 +11,11 @@ ghost use Rattle.mx_stations.specs.Entries.{Node};
 ghost use Rattle.mx_stations.specs.Links.{IsLinkAt, slot_in};
 ghost use Rattle.mx_stations.specs.Posts.{FindsNone, does};
 ghost use Rattle.mx_stations.specs.Slides.{HasTaken, releasing, taking};
-ghost use Rattle.mx_stations.specs.Turns.{DeliversFirst, DeliversMore, Goes, IsFated, PutsEach, TakesEach, TakesFated, Turns, fated_hand, noted_all, noted_puts};
+ghost use Rattle.mx_stations.specs.Turns.{DeliversFirst, DeliversMore, Goes, HoldsUnknown, IsFated, PutsEach, TakesEach, TakesFated, Turns, fated_hand, noted_all, noted_puts};
 
 use crate::answers::{TakeFault, TurnReport};
 use crate::field::{Field, SeatOf};
+use crate::node_set::NodeSet;
 use crate::slots::{Link, SLOTS, grab_filled, lift, release};
 use crate::station::Station;
 use mx_letters::{Fate, Fates};
@@ -73,7 +74,7 @@ impl<C: Exclusion> Station<C> {
         ensures delivered { IfOk result (λ had.
             MatchBool had (DeliversFirst C.core self.old self.new)
             ((self.old.me.hand ≡ None) × (self.new ≡ self.old))) }
-        ensures held { OnErr result (self.old.me.hand ≢ None) }
+        ensures held { OnErr result (HoldsUnknown C.core self.old) }
         ensures memory { OnErr result (self.new ≡ self.old) }
     {
         self.deliver_as(true)
@@ -94,6 +95,7 @@ impl<C: Exclusion> Station<C> {
         };
         let field = &*self.field;
         let index = grab_filled(field, &mut self.seat, &link)?;
+        self.took_from.add(from);
         let fate = lift_fated(field, &mut self.seat, &mut self.hand, &link, index, ask);
         Some(fate)
     }
@@ -108,7 +110,7 @@ impl<C: Exclusion> Station<C> {
         ensures taken { IfOk result (λ took. TakesFated C.core from took self.old self.new) }
         ensures goes { Goes C.core self.old self.new }
         ensures empty { OnOk result (self.new.me.hand ≡ None) }
-        ensures kept { OnErr result (self.new.me.hand ≢ None) }
+        ensures kept { OnErr result (HoldsUnknown C.core self.new) }
     {
         let Some(fate) = self.fetch_fated(from, || fates.fate()) else {
             return Ok(None);
@@ -122,7 +124,7 @@ impl<C: Exclusion> Station<C> {
         ensures more { OnOk result ((fate ≡ Twice → self.old.me.hand ≢ None)
             → DeliversMore C.core fate self.old self.new) }
         ensures goes { Goes C.core self.old self.new }
-        ensures kept { OnErr result (self.new.me.hand ≢ None) }
+        ensures kept { OnErr result (HoldsUnknown C.core self.new) }
     {
         let Fate::Twice = fate else {
             return Ok(());
@@ -142,7 +144,7 @@ impl<C: Exclusion> Station<C> {
             × TakesEach C.core 0 takes self.old self.new × (length takes ≡ self.old.nodes)
             × (report.new ≡ noted_all takes report.old)) }
         ensures goes { Goes C.core self.old self.new }
-        ensures kept { OnErr result (self.new.me.hand ≢ None) }
+        ensures kept { OnErr result (HoldsUnknown C.core self.new) }
     {
         for index in 0..self.nodes() {
             let Some(from) = NodeId::of(index) else {
@@ -160,10 +162,12 @@ impl<C: Exclusion> Station<C> {
             × (length puts ≡ length self.old.waiting) × (report.new ≡ noted_puts puts report.old) }
         ensures goes { Goes C.core self.old self.new }
     {
-        for _round in 0..self.waits() {
-            let answer = self.put_out();
+        let mut kept = 0;
+        for index in 0..self.waits() {
+            let answer = self.put_next(index, &mut kept);
             report.note_put(answer);
         }
+        self.waiting.truncate(kept);
     }
 
     /// Takes a turn: delivers the parcel in hand, takes at most one parcel from each node, and
@@ -177,14 +181,23 @@ impl<C: Exclusion> Station<C> {
     pub fn turn<F: Fates>(&mut self, fates: &mut F) -> Result<TurnReport, TakeFault>
         ensures turns { IfOk result (λ report. Turns C.core self.old report self.new) }
         ensures goes { Goes C.core self.old self.new }
-        ensures kept { OnErr result (self.new.me.hand ≢ None) }
+        ensures kept { OnErr result (HoldsUnknown C.core self.new) }
     {
+        self.forget_moves();
         let had = self.deliver()?;
         let mut report = TurnReport::begin(had);
         self.take_each(fates, &mut report)?;
         self.put_each(&mut report);
         report.ticked = self.tick_if_idle(report.taken);
         Ok(report)
+    }
+
+    /// Forgets for which nodes parcels were put out, and of which they were taken.
+    fn forget_moves(&mut self)
+        ensures { self.new ≡ self.old }
+    {
+        self.put_to = NodeSet::default();
+        self.took_from = NodeSet::default();
     }
 
     fn tick_if_idle(&mut self, taken: u32) -> bool

@@ -6,6 +6,7 @@ ghost use Rattle.mx_stations.specs.Gathered.{KeepsTable};
 ghost use Rattle.mx_stations.specs.Works.{IsWithin, LeavesNone, MayLeave, TakesTurn, Works, WorksAtMost, WorksFor};
 
 use crate::collection::is_inside;
+use crate::gate::Gate;
 use crate::patience::Patience;
 use crate::settlement::work_settling;
 use crate::station::Station;
@@ -13,16 +14,6 @@ use mx_letters::Fates;
 use mx_member::ReadFault;
 use mx_nodelaws::{Exclusion, Phase};
 use mx_stamps::NodeId;
-
-/// Decides when workers may start, and when they may stop. Both calls may wait for other workers.
-pub trait Gate {
-    /// Returns whether the worker of this node may start. Called once, before the first act.
-    fn arrive(&self, node: NodeId) -> bool;
-
-    /// Returns whether the worker of this node may stop. Called at the end of each turn, once the
-    /// node has left all its sections.
-    fn done(&self, node: NodeId) -> bool;
-}
 
 /// The task of a worker: to add 1 to this register, in a given number of sections.
 #[derive(Clone, Copy, Debug, PartialEq, Eq)]
@@ -103,12 +94,12 @@ fn has_sections<C: Exclusion>(station: &Station<C>, sections: u64) -> bool
     station.receipts().len() as u64 >= sections
 }
 
-/// An act that is tried before it is due is refused, which changes nothing. A turn in which memory
-/// runs out counts too.
-pub(crate) fn take_turn<C: Exclusion, F: Fates>(
+/// A turn in which memory runs out counts too.
+pub(crate) fn take_turn<C: Exclusion, G: Gate, F: Fates>(
     station: &mut Station<C>,
     script: &Script,
     stance: &mut WorkerState,
+    gate: &G,
     fates: &mut F,
 )
     ensures turn { TakesTurn C.core script.now.register station.old station.new }
@@ -116,24 +107,39 @@ pub(crate) fn take_turn<C: Exclusion, F: Fates>(
         → IsWithin C.core script.now.sections station.new }
 {
     ask_if_due(station, script.sections);
-    let _ = station.enter();
+    enter_if_due(station);
     add_if_due(station, script.register, stance);
     leave_if_due(station, stance);
+    stance.patience.before_turn(station, gate);
     let report = station.turn(fates);
-    let asks = is_to_ask(station, script.sections);
-    stance.patience.wait(station, &report, asks);
+    stance.patience.after_turn(station, gate, &report);
 }
 
-fn is_to_ask<C: Exclusion>(station: &Station<C>, sections: u64) -> bool {
-    matches!(station.phase(), Phase::Idle) && !has_sections(station, sections)
+pub(crate) fn is_to_ask<C: Exclusion>(station: &Station<C>, sections: u64) -> bool
+    ensures { IsTrue result → length station.now.me.receipts < sections }
+{
+    if has_sections(station, sections) {
+        return false;
+    }
+    matches!(station.phase(), Phase::Idle)
 }
 
 fn ask_if_due<C: Exclusion>(station: &mut Station<C>, sections: u64)
     ensures none { (register : ℕ) → LeavesNone C.core register station.old station.new }
     ensures within { IsWithin C.core sections station.old → IsWithin C.core sections station.new }
 {
-    if !has_sections(station, sections) {
+    if is_to_ask(station, sections) {
         let _ = station.ask();
+    }
+}
+
+fn enter_if_due<C: Exclusion>(station: &mut Station<C>)
+    ensures none { (register : ℕ) → LeavesNone C.core register station.old station.new }
+    ensures within { (most : ℕ) → IsWithin C.core most station.old
+        → IsWithin C.core most station.new }
+{
+    if station.can_enter() {
+        let _ = station.enter();
     }
 }
 
@@ -142,7 +148,7 @@ fn add_if_due<C: Exclusion>(station: &mut Station<C>, register: u8, stance: &mut
     ensures within { (most : ℕ) → IsWithin C.core most station.old
         → IsWithin C.core most station.new }
 {
-    if stance.written {
+    if stance.written || !is_inside(station) {
         return;
     }
     match station.read(register) {

@@ -6,4 +6,4 @@ gather-requires g c = (search (c.requires-raw), c.requires)
 
 pub returns-in-Ok-clause-ok : goal.returns-in-Ok-clause-ok
 returns-in-Ok-clause-ok g c = λ o options posts all rests done.
-    have_run g.J.Job.asks_for g.J.Job.makes g.J.Job.holds g.J.Job.finished g.C.Exclusion.core options posts all o _ _ rests done _ _ c.in-Ok.ensures.ok
+    have_run g.J.Job.terms g.C.Exclusion.core options posts all o _ _ rests done _ _ c.in-Ok.ensures.ok

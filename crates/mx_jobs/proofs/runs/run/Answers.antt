@@ -14,21 +14,21 @@ finish-requires g c =
     let new = c.requires.new in
     let core = g.C.Exclusion.core in
     let rests = new_rests core new.shape new.origin new.limit new.registers c.args.stations.items new.fresh_ones in
-    (search (c.requires-raw.1.1.1.1.1.1.1.1.1.1.1.1.1.1.1.1, c.requires-raw.1.1.1.1.1.1.1.1.1.1.1.1.1.1.1.1.0), of_one_table g.J.Job.asks_for g.J.Job.makes g.J.Job.holds g.J.Job.finished core c.args.options c.args.stations.items c.args.jobs.items _ _ _ rests c.in-Ok.ensures.done)
+    (search (c.requires-raw.1.1.1.1.1.1.1.1.1.1.1.1.1.1.1.1, c.requires-raw.1.1.1.1.1.1.1.1.1.1.1.1.1.1.1.1.0), of_one_table g.J.Job.terms core c.args.options c.args.stations.items c.args.jobs.items _ _ _ rests c.in-Ok.ensures.done)
 
 pub returns-in-Ok-clause-ran : goal.returns-in-Ok-clause-ran
 returns-in-Ok-clause-ran g c =
     let new = c.requires.new in
     let core = g.C.Exclusion.core in
     let rests = new_rests core new.shape new.origin new.limit new.registers c.args.stations.items new.fresh_ones in
-    subst (λ (n : ℕ). IfOk c.finish.result (λ out. HaveRun g.J.Job.asks_for g.J.Job.makes g.J.Job.holds g.J.Job.finished n c.args.jobs.items out.gathered.receipts.items out.gathered.journal out.jobs.items)) new.have
+    subst (λ (n : ℕ). IfOk c.finish.result (λ out. HaveRun g.J.Job.terms n c.args.jobs.items out.gathered.receipts.items out.gathered.journal out.jobs.items)) new.have
     (c.finish.ensures.ok _ c.args.options c.args.stations.items c.args.jobs.items rests c.in-Ok.ensures.done)
 
 pub returns-in-Ok-clause-law : goal.returns-in-Ok-clause-law
 returns-in-Ok-clause-law g c =
     let new = c.requires.new in
     let few = subst (λ (n : ℕ). n ≤ MAX_REGISTERS) new.have new.few in
-    IfOk-weaker c.finish.result _ _ (λ out ran. law_holds g.J.Job.asks_for g.J.Job.makes g.J.Job.holds g.J.Job.finished _ c.args.jobs.items _ _ _ ran c.requires.begins few) (returns-in-Ok-clause-ran g c)
+    IfOk-weaker c.finish.result _ _ (λ out ran. law_holds g.J.Job.terms _ c.args.jobs.items _ _ _ ran c.requires.begins few) (returns-in-Ok-clause-ran g c)
 
 pub returns-in-Ok-clause-told : goal.returns-in-Ok-clause-told
 returns-in-Ok-clause-told g c = IfErr-weaker c.finish.result _ _ (λ back so. memory_told back.fault _ so.0) c.finish.ensures.err
@@ -42,8 +42,8 @@ returns-in-Ok-clause-back g c = λ each.
     IfErr-weaker c.finish.result _ _
     (λ back so. (
       ends,
-      subst (λ ss. AreBack g.J.Job.asks_for g.J.Job.makes g.J.Job.holds g.J.Job.finished g.C.Exclusion.core c.args.options posts all ends ss back.jobs.items) (sym so.1)
-          (subst (λ js. AreBack g.J.Job.asks_for g.J.Job.makes g.J.Job.holds g.J.Job.finished g.C.Exclusion.core c.args.options posts all ends ran.stations.items js.items) (sym so.2) (done_back g.J.Job.asks_for g.J.Job.makes g.J.Job.holds g.J.Job.finished g.C.Exclusion.core c.args.options posts all _ _ c.in-Ok.ensures.done)),
+      subst (λ ss. AreBack g.J.Job.terms g.C.Exclusion.core c.args.options posts all ends ss back.jobs.items) (sym so.1)
+          (subst (λ js. AreBack g.J.Job.terms g.C.Exclusion.core c.args.options posts all ends ran.stations.items js.items) (sym so.2) (done_back g.J.Job.terms g.C.Exclusion.core c.args.options posts all _ _ c.in-Ok.ensures.done)),
     ))
     c.finish.ensures.err
 
@@ -64,3 +64,9 @@ run_stations-requires-send-C-Shape g c κs within = c.type_bounds.send-C-Shape
 
 pub run_stations-requires-after_bounds : goal.run_stations-requires-after_bounds
 run_stations-requires-after_bounds g c κs within = (search (c.requires-raw.1.1.1.1.1.1.1.1.1.1.1.1.1.1.1.1, c.requires-raw.1.1.1.1.1.1.1.1.1.1.1.1.1.1.1.1.0), c.requires.ready)
+
+pub run_stations-requires-send-R : goal.run_stations-requires-send-R
+run_stations-requires-send-R g c κs within = c.type_bounds.send-R
+
+pub run_stations-requires-sync-R : goal.run_stations-requires-sync-R
+run_stations-requires-sync-R g c κs within = c.type_bounds.sync-R

@@ -1,86 +1,152 @@
-use Rattle.std.proofs.Common.{IfErr, refl, subst}
-use Rattle.mx_jobs.specs.Faults.{IfOfEnds, Tells}
-use Rattle.mx_jobs.specs.Runs.{AreNotDone}
-use Rattle.mx_jobs.proofs.Promised.{all_back, all_done, none_ended, none_under_way}
+use Rattle.std.proofs.Common.{◌≡◌, ◌≤◌, Option, List, ap, arith, length, map, subst}
+use Rattle.std.specs.List.{AllZip}
+use Rattle.mx_stations.specs.Turns.{Station}
+use Rattle.mx_jobs.specs.declared.faults.RunFault.{RunFault}
+use Rattle.mx_jobs.specs.declared.threads.Worker.{Worker}
+use Rattle.mx_jobs.specs.declared.worker.Ended.{Ended}
+use Rattle.mx_jobs.specs.declared.worker.Ended.TheVariants.{GateShut}
+use Rattle.mx_jobs.specs.Faults.{Tells}
+use Rattle.mx_jobs.specs.Runs.{IsLeft}
+use Rattle.mx_jobs.proofs.Promised.{back_as, done_as, many_workers, none_begun, zip_many}
 use Rattle.mx_jobs.proofs.Telling.{before_ends, told_of}
 use Rattle.mx_jobs.proofs.runs.run_all.Goals as goal
 
+pub returns-then-len-clause-back : goal.returns-then-len-clause-back
+returns-then-len-clause-back g c = (
+  map (λ (s : Station g.C.Exclusion.core). GateShut) c.args.stations.now.items,
+  none_begun g.J.Job.terms g.C.Exclusion.core c.args.options c.args.stations.now.items c.args.jobs.now.items c.requires.each,
+)
+
 pub returns-in_default-clause-back : goal.returns-in_default-clause-back
-returns-in_default-clause-back g c =
-    let posts = c.args.stations.now.items in
-    let all = c.args.jobs.now.items in
-    let now = none_under_way g.J.Job.asks_for g.J.Job.makes g.J.Job.holds g.J.Job.finished g.C.Exclusion.core c.args.options posts all posts all c.requires.each refl refl in
-    (now.ends, all_back g.J.Job.asks_for g.J.Job.makes g.J.Job.holds g.J.Job.finished g.C.Exclusion.core c.args.options posts all posts all c.requires.each now)
+returns-in_default-clause-back g c = (
+  map (λ (s : Station g.C.Exclusion.core). GateShut) c.args.stations.now.items,
+  none_begun g.J.Job.terms g.C.Exclusion.core c.args.options c.args.stations.now.items c.args.jobs.now.items c.requires.each,
+)
 
-pub returns-in-Err-clause-err : goal.returns-in-Err-clause-err
-returns-in-Err-clause-err g c = before_ends _ _ (subst (λ r. IfErr r (λ f. IfOfEnds f ⊥)) c.in-Err.is c.start_each-started.ensures.err)
+pub count_of-nodes-requires : goal.count_of-nodes-requires
+count_of-nodes-requires g c = search (c.requires-raw.1.1.1.1.1.1.1.1.1.1.1.1.1.1.1.1, c.requires-raw.1.1.1.1.1.1.1.1.1.1.1.1.1.1.1.1.0)
 
-pub returns-in-Err-clause-back : goal.returns-in-Err-clause-back
-returns-in-Err-clause-back g c =
-    let so = c.join_all-ended.ensures c.args.options c.args.stations.now.items c.args.jobs.now.items c.start_each-started.ensures.started in
-    (so.0.ends, all_back g.J.Job.asks_for g.J.Job.makes g.J.Job.holds g.J.Job.finished g.C.Exclusion.core c.args.options c.args.stations.now.items c.args.jobs.now.items _ _ c.requires.each so.0)
-
-pub returns-in-None-clause-ok : goal.returns-in-None-clause-ok
-returns-in-None-clause-ok g c =
-    let posts = c.args.stations.now.items in
-    let all = c.args.jobs.now.items in
-    let was = c.start_each-started.ensures.started in
-    let so = c.join_all-ended.ensures c.args.options posts all was in
-    all_done g.J.Job.asks_for g.J.Job.makes g.J.Job.holds g.J.Job.finished g.C.Exclusion.core c.args.options posts all _ _ c.requires.each so.0
-    (subst (λ f. Tells f so.0.ends) c.in-None.is (so.1 (none_ended g.J.Job.asks_for g.J.Job.makes g.J.Job.holds g.J.Job.finished g.C.Exclusion.core c.args.options posts all _ _ _ was c.in-Ok-started.ensures.ok)))
-
-pub returns-in-None-clause-back : goal.returns-in-None-clause-back
-returns-in-None-clause-back g c =
-    let so = c.join_all-ended.ensures c.args.options c.args.stations.now.items c.args.jobs.now.items c.start_each-started.ensures.started in
-    (so.0.ends, all_back g.J.Job.asks_for g.J.Job.makes g.J.Job.holds g.J.Job.finished g.C.Exclusion.core c.args.options c.args.stations.now.items c.args.jobs.now.items _ _ c.requires.each so.0)
-
-pub returns-clause-err : goal.returns-clause-err
-returns-clause-err g c =
-    let posts = c.args.stations.now.items in
-    let all = c.args.jobs.now.items in
-    let was = c.start_each-started.ensures.started in
-    let so = c.join_all-ended.ensures c.args.options posts all was in
-    let back : AreNotDone g.J.Job.asks_for g.J.Job.makes g.J.Job.holds g.J.Job.finished g.C.Exclusion.core c.args.options posts all c.in-Some.fault c.join_all-ended.new.stations.items c.join_all-ended.new.jobs.items = record {
-      ends = so.0.ends;
-      told = subst (λ f. Tells f so.0.ends) c.in-Some.is (so.1 (none_ended g.J.Job.asks_for g.J.Job.makes g.J.Job.holds g.J.Job.finished g.C.Exclusion.core c.args.options posts all _ _ _ was c.in-Ok-started.ensures.ok));
-      back = all_back g.J.Job.asks_for g.J.Job.makes g.J.Job.holds g.J.Job.finished g.C.Exclusion.core c.args.options posts all _ _ c.requires.each so.0;
-    } in
-    told_of c.in-Some.fault _ back
-
-pub returns-clause-back : goal.returns-clause-back
-returns-clause-back g c =
-    let so = c.join_all-ended.ensures c.args.options c.args.stations.now.items c.args.jobs.now.items c.start_each-started.ensures.started in
-    (so.0.ends, all_back g.J.Job.asks_for g.J.Job.makes g.J.Job.holds g.J.Job.finished g.C.Exclusion.core c.args.options c.args.stations.now.items c.args.jobs.now.items _ _ c.requires.each so.0)
-
-pub new-requires-room-P-Promise : goal.new-requires-room-P-Promise
-new-requires-room-P-Promise g c κs within = search (c.requires-raw.1.1.1.1.1.1.1.1.1.1.1.1.1.1.1.1, c.requires-raw.1.1.1.1.1.1.1.1.1.1.1.1.1.1.1.1.0)
+pub new-requires-room-W-Work : goal.new-requires-room-W-Work
+new-requires-room-W-Work g c κs within = search (c.requires-raw.1.1.1.1.1.1.1.1.1.1.1.1.1.1.1.1, c.requires-raw.1.1.1.1.1.1.1.1.1.1.1.1.1.1.1.1.0)
 
 pub new-requires-room-T-Destruct : goal.new-requires-room-T-Destruct
 new-requires-room-T-Destruct g c κs within = search (c.requires-raw.1.1.1.1.1.1.1.1.1.1.1.1.1.1.1.1, c.requires-raw.1.1.1.1.1.1.1.1.1.1.1.1.1.1.1.1.0)
 
-pub new-requires-room-P-Destruct : goal.new-requires-room-P-Destruct
-new-requires-room-P-Destruct g c κs within = search (c.requires-raw.1.1.1.1.1.1.1.1.1.1.1.1.1.1.1.1, c.requires-raw.1.1.1.1.1.1.1.1.1.1.1.1.1.1.1.1.0)
+pub new-requires-room-W-Destruct : goal.new-requires-room-W-Destruct
+new-requires-room-W-Destruct g c κs within = search (c.requires-raw.1.1.1.1.1.1.1.1.1.1.1.1.1.1.1.1, c.requires-raw.1.1.1.1.1.1.1.1.1.1.1.1.1.1.1.1.0)
 
-pub start_each-started-requires-send-C : goal.start_each-started-requires-send-C
-start_each-started-requires-send-C g c κs within = c.type_bounds.send-C
+pub new-requires-after_bounds : goal.new-requires-after_bounds
+new-requires-after_bounds g c κs within = omega (arith, c.count_of-nodes.ensures)
 
-pub start_each-started-requires-send-J : goal.start_each-started-requires-send-J
-start_each-started-requires-send-J g c κs within = c.type_bounds.send-J
+pub start_each-requires-after_bounds : goal.start_each-requires-after_bounds
+start_each-requires-after_bounds g c κs within =
+    let room = ap (λ group. group.room) c.in-Ok.ensures in (
+      search (c.requires-raw.1.1.1.1.1.1.1.1.1.1.1.1.1.1.1.1, c.requires-raw.1.1.1.1.1.1.1.1.1.1.1.1.1.1.1.1.0),
+      (
+        c.requires.ready,
+        (
+          ap (λ group. group.works) c.in-Ok.ensures,
+          (
+            omega (arith, room, c.len-3.ensures, c.args.stations.now.ok),
+            (c.requires.each, omega (arith, c.if-len.false, c.len.ensures, c.len-2.ensures, c.args.stations.now.ok, c.args.fates.ok)),
+          ),
+        ),
+      ),
+    )
 
-pub start_each-started-requires-send-F : goal.start_each-started-requires-send-F
-start_each-started-requires-send-F g c κs within = c.type_bounds.send-F
+pub start_each-requires-send-C : goal.start_each-requires-send-C
+start_each-requires-send-C g c κs within = c.type_bounds.send-C
 
-pub start_each-started-requires-send-C-Msg : goal.start_each-started-requires-send-C-Msg
-start_each-started-requires-send-C-Msg g c κs within = c.type_bounds.send-C-Msg
+pub start_each-requires-send-J : goal.start_each-requires-send-J
+start_each-requires-send-J g c κs within = c.type_bounds.send-J
 
-pub start_each-started-requires-send-C-Shape : goal.start_each-started-requires-send-C-Shape
-start_each-started-requires-send-C-Shape g c κs within = c.type_bounds.send-C-Shape
+pub start_each-requires-send-F : goal.start_each-requires-send-F
+start_each-requires-send-F g c κs within = c.type_bounds.send-F
 
-pub start_each-started-requires-after_bounds : goal.start_each-started-requires-after_bounds
-start_each-started-requires-after_bounds g c κs within = (search (c.requires-raw.1.1.1.1.1.1.1.1.1.1.1.1.1.1.1.1, c.requires-raw.1.1.1.1.1.1.1.1.1.1.1.1.1.1.1.1.0), (c.requires.ready, (c.in-Ok.ensures, c.requires.each)))
+pub start_each-requires-send-R : goal.start_each-requires-send-R
+start_each-requires-send-R g c κs within = c.type_bounds.send-R
 
-pub count_of-requires : goal.count_of-requires
-count_of-requires g c = search (c.requires-raw.1.1.1.1.1.1.1.1.1.1.1.1.1.1.1.1, c.requires-raw.1.1.1.1.1.1.1.1.1.1.1.1.1.1.1.1.0)
+pub start_each-requires-send-C-Msg : goal.start_each-requires-send-C-Msg
+start_each-requires-send-C-Msg g c κs within = c.type_bounds.send-C-Msg
 
-pub join_all-ended-requires : goal.join_all-ended-requires
-join_all-ended-requires g c = (search (c.requires-raw.1.1.1.1.1.1.1.1.1.1.1.1.1.1.1.1, c.requires-raw.1.1.1.1.1.1.1.1.1.1.1.1.1.1.1.1.0), c.start_each-started.ensures.room)
+pub start_each-requires-send-C-Shape : goal.start_each-requires-send-C-Shape
+start_each-requires-send-C-Shape g c κs within = c.type_bounds.send-C-Shape
+
+pub start_each-requires-sync-R : goal.start_each-requires-sync-R
+start_each-requires-sync-R g c κs within = c.type_bounds.sync-R
+
+pub join-lefts-requires-room-W-Work : goal.join-lefts-requires-room-W-Work
+join-lefts-requires-room-W-Work g c κs within = search (c.requires-raw.1.1.1.1.1.1.1.1.1.1.1.1.1.1.1.1, c.requires-raw.1.1.1.1.1.1.1.1.1.1.1.1.1.1.1.1.0)
+
+pub join-lefts-requires-room-T-Destruct : goal.join-lefts-requires-room-T-Destruct
+join-lefts-requires-room-T-Destruct g c κs within = search (c.requires-raw.1.1.1.1.1.1.1.1.1.1.1.1.1.1.1.1, c.requires-raw.1.1.1.1.1.1.1.1.1.1.1.1.1.1.1.1.0)
+
+pub join-lefts-requires-room-W-Destruct : goal.join-lefts-requires-room-W-Destruct
+join-lefts-requires-room-W-Destruct g c κs within = search (c.requires-raw.1.1.1.1.1.1.1.1.1.1.1.1.1.1.1.1, c.requires-raw.1.1.1.1.1.1.1.1.1.1.1.1.1.1.1.1.0)
+
+pub put_back-ended-requires : goal.put_back-ended-requires
+put_back-ended-requires g c =
+    let posts = c.args.stations.now.items in
+    let all = c.args.jobs.now.items in
+    let lefts = c.join-lefts.result.0.items in
+    let linked : length posts ≤ length c.args.fates.items = omega (arith, c.if-len.false, c.len.ensures, c.len-2.ensures, c.args.stations.now.ok, c.args.fates.ok) in
+    let leads = subst (λ ws. AllZip (λ (w : Worker (Station g.C.Exclusion.core) g.row.J.Denot g.row.F.Denot) left. IsLeft g.J.Job.terms g.C.Exclusion.core w.options w.station w.job left) ws lefts) c.start_each.ensures.started c.join-lefts.ensures in
+    let many = zip_many _ _ lefts leads in
+    let each = many_workers c.args.options posts all c.args.fates.items c.requires.each linked in
+    let same = c.requires.each in
+    let room = c.start_each.ensures.room in (
+      search (c.requires-raw.1.1.1.1.1.1.1.1.1.1.1.1.1.1.1.1, c.requires-raw.1.1.1.1.1.1.1.1.1.1.1.1.1.1.1.1.0),
+      (c.start_each.ensures.stations, (c.start_each.ensures.jobs, (omega (arith, many, each, room.0, c.args.stations.now.ok), omega (arith, many, each, same, room.1, c.args.jobs.now.ok)))),
+    )
+
+pub returns-in-Some-default-clause-err : goal.returns-in-Some-default-clause-err
+returns-in-Some-default-clause-err g c = before_ends _ _ c.fault_of.ensures
+
+pub returns-in-Some-default-clause-back : goal.returns-in-Some-default-clause-back
+returns-in-Some-default-clause-back g c =
+    let posts = c.args.stations.now.items in
+    let all = c.args.jobs.now.items in
+    let lefts = c.join-lefts.result.0.items in
+    let linked : length posts ≤ length c.args.fates.items = omega (arith, c.if-len.false, c.len.ensures, c.len-2.ensures, c.args.stations.now.ok, c.args.fates.ok) in
+    let leads = subst (λ ws. AllZip (λ (w : Worker (Station g.C.Exclusion.core) g.row.J.Denot g.row.F.Denot) left. IsLeft g.J.Job.terms g.C.Exclusion.core w.options w.station w.job left) ws lefts) c.start_each.ensures.started c.join-lefts.ensures in
+    (map (λ (one : Station g.C.Exclusion.core × g.row.J.Denot × Ended). one.2) lefts, back_as g.J.Job.terms g.C.Exclusion.core c.args.options posts all c.args.fates.items lefts c.requires.each linked leads _ _ c.put_back-ended.ensures.stations c.put_back-ended.ensures.jobs)
+
+pub returns-in-None-Some-clause-back : goal.returns-in-None-Some-clause-back
+returns-in-None-Some-clause-back g c =
+    let posts = c.args.stations.now.items in
+    let all = c.args.jobs.now.items in
+    let lefts = c.join-lefts.result.0.items in
+    let linked : length posts ≤ length c.args.fates.items = omega (arith, c.if-len.false, c.len.ensures, c.len-2.ensures, c.args.stations.now.ok, c.args.fates.ok) in
+    let leads = subst (λ ws. AllZip (λ (w : Worker (Station g.C.Exclusion.core) g.row.J.Denot g.row.F.Denot) left. IsLeft g.J.Job.terms g.C.Exclusion.core w.options w.station w.job left) ws lefts) c.start_each.ensures.started c.join-lefts.ensures in
+    (map (λ (one : Station g.C.Exclusion.core × g.row.J.Denot × Ended). one.2) lefts, back_as g.J.Job.terms g.C.Exclusion.core c.args.options posts all c.args.fates.items lefts c.requires.each linked leads _ _ c.put_back-ended.ensures.stations c.put_back-ended.ensures.jobs)
+
+pub returns-clause-back : goal.returns-clause-back
+returns-clause-back g c =
+    let posts = c.args.stations.now.items in
+    let all = c.args.jobs.now.items in
+    let lefts = c.join-lefts.result.0.items in
+    let linked : length posts ≤ length c.args.fates.items = omega (arith, c.if-len.false, c.len.ensures, c.len-2.ensures, c.args.stations.now.ok, c.args.fates.ok) in
+    let leads = subst (λ ws. AllZip (λ (w : Worker (Station g.C.Exclusion.core) g.row.J.Denot g.row.F.Denot) left. IsLeft g.J.Job.terms g.C.Exclusion.core w.options w.station w.job left) ws lefts) c.start_each.ensures.started c.join-lefts.ensures in
+    (map (λ (one : Station g.C.Exclusion.core × g.row.J.Denot × Ended). one.2) lefts, back_as g.J.Job.terms g.C.Exclusion.core c.args.options posts all c.args.fates.items lefts c.requires.each linked leads _ _ c.put_back-ended.ensures.stations c.put_back-ended.ensures.jobs)
+
+pub returns-in-None-Some-clause-err : goal.returns-in-None-Some-clause-err
+returns-in-None-Some-clause-err g c =
+    let posts = c.args.stations.now.items in
+    let all = c.args.jobs.now.items in
+    let lefts = c.join-lefts.result.0.items in
+    let linked : length posts ≤ length c.args.fates.items = omega (arith, c.if-len.false, c.len.ensures, c.len-2.ensures, c.args.stations.now.ok, c.args.fates.ok) in
+    let leads = subst (λ ws. AllZip (λ (w : Worker (Station g.C.Exclusion.core) g.row.J.Denot g.row.F.Denot) left. IsLeft g.J.Job.terms g.C.Exclusion.core w.options w.station w.job left) ws lefts) c.start_each.ensures.started c.join-lefts.ensures in
+    told_of c.in-None-Some.fault _ (record {
+      ends = map (λ (one : Station g.C.Exclusion.core × g.row.J.Denot × Ended). one.2) lefts;
+      told = subst (λ (f : Option RunFault). Tells f (map (λ (one : Station g.C.Exclusion.core × g.row.J.Denot × Ended). one.2) lefts)) c.in-None-Some.is-1 c.put_back-ended.ensures.told;
+      back = back_as g.J.Job.terms g.C.Exclusion.core c.args.options posts all c.args.fates.items lefts c.requires.each linked leads _ _ c.put_back-ended.ensures.stations c.put_back-ended.ensures.jobs;
+    })
+
+pub returns-clause-ok : goal.returns-clause-ok
+returns-clause-ok g c =
+    let posts = c.args.stations.now.items in
+    let all = c.args.jobs.now.items in
+    let lefts = c.join-lefts.result.0.items in
+    let linked : length posts ≤ length c.args.fates.items = omega (arith, c.if-len.false, c.len.ensures, c.len-2.ensures, c.args.stations.now.ok, c.args.fates.ok) in
+    let leads = subst (λ ws. AllZip (λ (w : Worker (Station g.C.Exclusion.core) g.row.J.Denot g.row.F.Denot) left. IsLeft g.J.Job.terms g.C.Exclusion.core w.options w.station w.job left) ws lefts) c.start_each.ensures.started c.join-lefts.ensures in
+    done_as g.J.Job.terms g.C.Exclusion.core c.args.options posts all c.args.fates.items lefts c.requires.each linked leads _ _ c.put_back-ended.ensures.stations c.put_back-ended.ensures.jobs (subst (λ (f : Option RunFault). Tells f (map (λ (one : Station g.C.Exclusion.core × g.row.J.Denot × Ended). one.2) lefts)) c.in-None-None.is-1 c.put_back-ended.ensures.told)

@@ -26,3 +26,9 @@ returns-in-Ok-clause-done g c = c.in-Ok.ensures.ok
 
 pub returns-in-Err-clause-told : goal.returns-in-Err-clause-told
 returns-in-Err-clause-told g c = c.in-Err.ensures.err
+
+pub run_all-requires-send-R : goal.run_all-requires-send-R
+run_all-requires-send-R g c κs within = c.type_bounds.send-R
+
+pub run_all-requires-sync-R : goal.run_all-requires-sync-R
+run_all-requires-sync-R g c κs within = c.type_bounds.sync-R

@@ -1,86 +1,99 @@
-use Rattle.std.proofs.Common.{ℕ, ap, arith, length, subst, sym}
-use Rattle.mx_jobs.specs.Posted.{Fit}
-use Rattle.mx_jobs.specs.Runs.{IsUnderWay}
-use Rattle.mx_jobs.proofs.Each.{none_each, ready_on, when_none}
-use Rattle.mx_jobs.proofs.Promised.{all_fit, first_fit, one_more, posted_on, refused, under_way}
+use Rattle.std.proofs.Common.{◌≡◌, ◌∙◌, ◌++◌, ◌∷◌, [], List, ap, append-nil, append_assoc, arith, length, refl, sym}
+use Rattle.std.proofs.lemmas.List.{length_push, nil_from_length}
+use Rattle.mx_stations.specs.Turns.{Station}
+use Rattle.mx_jobs.specs.declared.threads.Worker.{Worker}
+use Rattle.mx_jobs.specs.Posted.{workers}
+use Rattle.mx_jobs.proofs.Each.{ready_on, when_none}
+use Rattle.mx_jobs.proofs.Promised.{next_worker}
 use Rattle.mx_jobs.proofs.threads.start_each.Goals as goal
 
 pub loop-station-init : goal.loop-station-init
 loop-station-init g c =
-    let posts = c.args.stations.now.items in
-    let all = c.args.jobs.now.items in
     let none = ap length c.requires.none in record {
-      many = omega (arith, none);
-      each = c.requires.each;
       ready = c.requires.ready;
-      posted = none_each 0 _ c.requires.none;
-      fit = subst (λ (k : ℕ). Fit posts all k posts all) (sym none) (all_fit posts all);
-      room = (omega (arith, none, c.args.stations.now.ok), omega (arith, none, c.args.jobs.now.ok));
+      each = c.requires.each;
+      linked = c.requires.linked;
+      fit = omega (arith, none, c.requires.fit);
+      all = ap (λ ws. ws ++ workers c.args.options c.args.stations.now.items c.args.jobs.now.items c.args.fates.now.items) c.requires.none;
+      stations_room = refl;
+      jobs_room = refl;
     }
 
-pub loop-station-preserved : goal.loop-station-preserved
-loop-station-preserved g c =
-    let posts = c.args.stations.now.items in
-    let all = c.args.jobs.now.items in
-    let i = c.loop-station.invariant in
-    let adds = c.in-Ok.ensures.ok in
-    let first = first_fit posts all _ _ _ _ _ _ _ c.in-Some.ensures.station c.in-Some.ensures.job i.fit in
-    let one = one_more c.args.options _ _ _ _ adds in
-    let many = i.many in
-    let each = i.each in
-    let room = i.room in
-    let s = ap length c.in-Some.ensures.station in
-    let j = ap length c.in-Some.ensures.job in
-    let kept = c.take_next.ensures.room in record {
-      many = omega (arith, many, one, s);
-      each = omega (arith, each, s, j);
-      ready = (ready_on g.J.Job.ready _ _ _ c.in-Some.ensures.job i.ready).1;
-      posted = posted_on posts all c.args.options _ _ _ _ first.0 first.1 adds i.posted;
-      fit = subst (λ (k : ℕ). Fit posts all k c.take_next.new.stations.items c.take_next.new.jobs.items) one first.2;
-      room = (omega (arith, room.0, kept.0, one, s), omega (arith, room.1, kept.1, one, j));
-    }
+pub take_next-requires-clause-each : goal.take_next-requires-clause-each
+take_next-requires-clause-each g c = c.loop-station.invariant.each
 
-pub returns-in-Err-clause-started : goal.returns-in-Err-clause-started
-returns-in-Err-clause-started g c =
-    let posts = c.args.stations.now.items in
-    let all = c.args.jobs.now.items in
-    let i = c.loop-station.invariant in
-    subst (λ ws. IsUnderWay g.J.Job.asks_for g.J.Job.makes g.J.Job.holds g.J.Job.finished g.C.Exclusion.core c.args.options posts all ws c.put_first.new.items.items c.put_first-in-Err.new.items.items) (sym c.in-Err.ensures.same)
-    (refused g.J.Job.asks_for g.J.Job.makes g.J.Job.holds g.J.Job.finished g.C.Exclusion.core c.args.options posts all c.loop-station.workers _ _ _ _ _ _ _ _ c.in-Err.back.left i.many i.each i.posted i.fit c.in-Some.ensures.station c.in-Some.ensures.job c.put_first.ensures.items c.put_first-in-Err.ensures.items c.in-Err.ensures.err)
-
-pub returns-clause-started : goal.returns-clause-started
-returns-clause-started g c =
-    let posts = c.args.stations.now.items in
-    let all = c.args.jobs.now.items in
-    let i = c.loop-station.invariant in
-    let ws = c.loop-station.workers in
-    let kept = when_none c.take_next.result c.in_default.not-Some c.take_next.ensures.none in
-    subst (λ ss. IsUnderWay g.J.Job.asks_for g.J.Job.makes g.J.Job.holds g.J.Job.finished g.C.Exclusion.core c.args.options posts all ws ss c.take_next.new.jobs.items) (sym kept.0)
-    (subst (λ js. IsUnderWay g.J.Job.asks_for g.J.Job.makes g.J.Job.holds g.J.Job.finished g.C.Exclusion.core c.args.options posts all ws c.loop-station.stations.items js) (sym kept.1) (under_way g.J.Job.asks_for g.J.Job.makes g.J.Job.holds g.J.Job.finished g.C.Exclusion.core c.args.options posts all ws _ _ i.many i.each i.posted i.fit))
+pub take_next-requires-clause-linked : goal.take_next-requires-clause-linked
+take_next-requires-clause-linked g c = c.loop-station.invariant.linked
 
 pub take_next-requires-room-S-Destruct : goal.take_next-requires-room-S-Destruct
 take_next-requires-room-S-Destruct g c κs within = search (c.requires-raw.1.1.1.1.1.1.1.1.1.1.1.1.1.1.1.1, c.requires-raw.1.1.1.1.1.1.1.1.1.1.1.1.1.1.1.1.0)
 
-pub put_first-requires-room-T-Destruct : goal.put_first-requires-room-T-Destruct
-put_first-requires-room-T-Destruct g c κs within = search (c.requires-raw.1.1.1.1.1.1.1.1.1.1.1.1.1.1.1.1, c.requires-raw.1.1.1.1.1.1.1.1.1.1.1.1.1.1.1.1.0)
+pub start-requires-room-W-Work : goal.start-requires-room-W-Work
+start-requires-room-W-Work g c κs within = search (c.requires-raw.1.1.1.1.1.1.1.1.1.1.1.1.1.1.1.1, c.requires-raw.1.1.1.1.1.1.1.1.1.1.1.1.1.1.1.1.0)
 
-pub all_taken-requires : goal.all_taken-requires
-all_taken-requires g c = search (c.requires-raw.1.1.1.1.1.1.1.1.1.1.1.1.1.1.1.1, c.requires-raw.1.1.1.1.1.1.1.1.1.1.1.1.1.1.1.1.0)
+pub start-requires-room-T-Destruct : goal.start-requires-room-T-Destruct
+start-requires-room-T-Destruct g c κs within = search (c.requires-raw.1.1.1.1.1.1.1.1.1.1.1.1.1.1.1.1, c.requires-raw.1.1.1.1.1.1.1.1.1.1.1.1.1.1.1.1.0)
 
-pub start_one-requires-send-C : goal.start_one-requires-send-C
-start_one-requires-send-C g c κs within = c.type_bounds.send-C
+pub start-requires-room-W-Destruct : goal.start-requires-room-W-Destruct
+start-requires-room-W-Destruct g c κs within = search (c.requires-raw.1.1.1.1.1.1.1.1.1.1.1.1.1.1.1.1, c.requires-raw.1.1.1.1.1.1.1.1.1.1.1.1.1.1.1.1.0)
 
-pub start_one-requires-send-J : goal.start_one-requires-send-J
-start_one-requires-send-J g c κs within = c.type_bounds.send-J
+pub start-requires-clause-able : goal.start-requires-clause-able
+start-requires-clause-able g c κs within = (ready_on g.J.Job.ready _ _ _ c.in-Some.ensures.job c.loop-station.invariant.ready).0
 
-pub start_one-requires-send-F : goal.start_one-requires-send-F
-start_one-requires-send-F g c κs within = c.type_bounds.send-F
+pub start-requires-clause-room : goal.start-requires-clause-room
+start-requires-clause-room g c κs within =
+    let s = ap length c.in-Some.ensures.station in
+    let fit = c.loop-station.invariant.fit in
+    omega (arith, fit, s)
 
-pub start_one-requires-send-C-Msg : goal.start_one-requires-send-C-Msg
-start_one-requires-send-C-Msg g c κs within = c.type_bounds.send-C-Msg
+pub loop-station-smaller : goal.loop-station-smaller
+loop-station-smaller g c = let s = ap length c.in-Some.ensures.station in omega (arith, s)
 
-pub start_one-requires-send-C-Shape : goal.start_one-requires-send-C-Shape
-start_one-requires-send-C-Shape g c κs within = c.type_bounds.send-C-Shape
+pub loop-station-preserved : goal.loop-station-preserved
+loop-station-preserved g c =
+    let i = c.loop-station.invariant in
+    let s = ap length c.in-Some.ensures.station in
+    let j = ap length c.in-Some.ensures.job in
+    let f = ap length c.in-Some.ensures.fates in
+    let grown = ap (λ group. group.works) c.start.ensures in
+    let room = ap (λ group. group.room) c.start.ensures in
+    let more = ap length grown in
+    let worker : Worker (Station g.C.Exclusion.core) g.row.J.Denot g.row.F.Denot = record { station = c.in-Some.station; job = c.in-Some.job; fates = c.in-Some.own; options = c.args.options } in
+    let pushed = length_push c.loop-station.group.works worker in
+    let each = i.each in
+    let linked = i.linked in
+    let fit = i.fit in record {
+      ready = (ready_on g.J.Job.ready _ _ _ c.in-Some.ensures.job i.ready).1;
+      each = omega (arith, each, s, j);
+      linked = omega (arith, linked, s, f);
+      fit = omega (arith, fit, s, more, pushed, room);
+      all =
+          ap (λ ws. ws ++ workers c.args.options c.take_next.new.stations.items c.take_next.new.jobs.items c.take_next.new.fates.items) grown
+          ∙ append_assoc c.loop-station.group.works (worker ∷ []) (workers c.args.options c.take_next.new.stations.items c.take_next.new.jobs.items c.take_next.new.fates.items)
+          ∙ ap (λ ws. c.loop-station.group.works ++ ws) (sym (next_worker c.args.options _ _ _ _ _ _ _ _ _ c.in-Some.ensures.station c.in-Some.ensures.job c.in-Some.ensures.fates))
+          ∙ i.all;
+      stations_room = c.take_next.ensures.room.0 ∙ i.stations_room;
+      jobs_room = c.take_next.ensures.room.1 ∙ i.jobs_room;
+    }
 
-pub start_one-requires-after_bounds : goal.start_one-requires-after_bounds
-start_one-requires-after_bounds g c κs within = (search (c.requires-raw.1.1.1.1.1.1.1.1.1.1.1.1.1.1.1.1, c.requires-raw.1.1.1.1.1.1.1.1.1.1.1.1.1.1.1.1.0), (ready_on g.J.Job.ready _ _ _ c.in-Some.ensures.job c.loop-station.invariant.ready).0)
+pub returns-clause-started : goal.returns-clause-started
+returns-clause-started g c =
+    let kept = when_none c.take_next.result c.in_default.not-Some c.take_next.ensures.none in
+    sym (append-nil c.loop-station.group.works)
+    ∙ ap (λ ss. c.loop-station.group.works ++ workers c.args.options ss c.loop-station.jobs.items c.loop-station.fates.items) (sym kept.0)
+    ∙ c.loop-station.invariant.all
+
+pub returns-clause-stations : goal.returns-clause-stations
+returns-clause-stations g c =
+    let kept = when_none c.take_next.result c.in_default.not-Some c.take_next.ensures.none in
+    kept.1 ∙ kept.0
+
+pub returns-clause-jobs : goal.returns-clause-jobs
+returns-clause-jobs g c =
+    let kept = when_none c.take_next.result c.in_default.not-Some c.take_next.ensures.none in
+    let none = ap length kept.0 in
+    let each = c.loop-station.invariant.each in
+    kept.2 ∙ nil_from_length _ (omega (arith, none, each))
+
+pub returns-clause-room : goal.returns-clause-room
+returns-clause-room g c = (c.take_next.ensures.room.0 ∙ c.loop-station.invariant.stations_room, c.take_next.ensures.room.1 ∙ c.loop-station.invariant.jobs_room)

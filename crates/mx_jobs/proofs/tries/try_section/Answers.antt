@@ -43,14 +43,14 @@ returns-in_ok-write_all-in-Ok-clause-left g c = λ e.
     let writes = c.section-writes.result.items in
     let read = c.read_all.new.station in
     let d = read.me.member.draft in
-    let made = section_pends g.J.Job.asks_for g.J.Job.makes g.J.Job.holds core job after number c.args.registers.now values writes
+    let made = section_pends g.J.Job.terms core job after number c.args.registers.now values writes
     c.args.station.now c.restart.new.self read c.write_all.new.station (sym c.in-Inside.ensures.value) c.requires.asked
-    (subst (λ (vs : List ℕ). g.J.Job.makes job number vs writes after) c.as_slice.ensures.value c.section-writes.ensures.made)
-    (subst (λ (vs : List ℕ). KeepsLaw g.J.Job.asks_for g.J.Job.holds job number vs writes) c.as_slice.ensures.value c.section-writes.ensures.keeps)
+    (subst (λ (vs : List ℕ). g.J.Job.terms.makes job number vs writes after) c.as_slice.ensures.value c.section-writes.ensures.made)
+    (subst (λ (vs : List ℕ). KeepsLaw g.J.Job.terms job number vs writes) c.as_slice.ensures.value c.section-writes.ensures.keeps)
     (restarted core _ _ c.restart.ensures) c.in-Ok.ensures.read
     (subst (λ (ws : List OneWrite). Drafts core read (record { reads = d.reads; writes = d.writes ++ ws }) c.write_all.new.station × AreThere read.me.member.setting.registers (map (λ (w : OneWrite). w.register) ws)) c.as_slice-in-Ok.ensures.value c.in_ok-write_all-in-Ok.ensures.drafts) in
     let has = c.try_leave-has_left.ensures.left (c.outcome_of.ensures.left (same_ok {F = JobFault} _ _ e)) in
-    pending_left g.J.Job.asks_for g.J.Job.makes g.J.Job.holds core job after has.0 c.args.station.now c.write_all.new.station c.try_leave-has_left.new.station made.0 made.1 has.1 has.2
+    pending_left g.J.Job.terms core job after has.0 c.args.station.now c.write_all.new.station c.try_leave-has_left.new.station made.0 made.1 has.1 has.2
 
 pub returns-in_ok-write_all-in-Ok-clause-pending : goal.returns-in_ok-write_all-in-Ok-clause-pending
 returns-in_ok-write_all-in-Ok-clause-pending g c = λ e.
@@ -62,13 +62,13 @@ returns-in_ok-write_all-in-Ok-clause-pending g c = λ e.
     let writes = c.section-writes.result.items in
     let read = c.read_all.new.station in
     let d = read.me.member.draft in
-    let made = section_pends g.J.Job.asks_for g.J.Job.makes g.J.Job.holds core job after number c.args.registers.now values writes
+    let made = section_pends g.J.Job.terms core job after number c.args.registers.now values writes
     c.args.station.now c.restart.new.self read c.write_all.new.station (sym c.in-Inside.ensures.value) c.requires.asked
-    (subst (λ (vs : List ℕ). g.J.Job.makes job number vs writes after) c.as_slice.ensures.value c.section-writes.ensures.made)
-    (subst (λ (vs : List ℕ). KeepsLaw g.J.Job.asks_for g.J.Job.holds job number vs writes) c.as_slice.ensures.value c.section-writes.ensures.keeps)
+    (subst (λ (vs : List ℕ). g.J.Job.terms.makes job number vs writes after) c.as_slice.ensures.value c.section-writes.ensures.made)
+    (subst (λ (vs : List ℕ). KeepsLaw g.J.Job.terms job number vs writes) c.as_slice.ensures.value c.section-writes.ensures.keeps)
     (restarted core _ _ c.restart.ensures) c.in-Ok.ensures.read
     (subst (λ (ws : List OneWrite). Drafts core read (record { reads = d.reads; writes = d.writes ++ ws }) c.write_all.new.station × AreThere read.me.member.setting.registers (map (λ (w : OneWrite). w.register) ws)) c.as_slice-in-Ok.ensures.value c.in_ok-write_all-in-Ok.ensures.drafts) in
-    subst (λ (z : Station core). Rests core c.args.station.now z × Pends g.J.Job.asks_for g.J.Job.makes g.J.Job.holds core job z after)
+    subst (λ (z : Station core). Rests core c.args.station.now z × Pends g.J.Job.terms core job z after)
     (sym (c.try_leave-has_left.ensures.kept (c.outcome_of.ensures.pending (same_ok {F = JobFault} _ _ e)))) made
 
 pub returns-in-Err : goal.returns-in-Err
@@ -135,9 +135,9 @@ returns-in_err-write_all-in-Ok-clause-fails g c =
     c.in_err-write_all-in-Ok.ensures.lacks
     (subst (λ (ws : List OneWrite). AreThere c.read_all.new.station.me.member.setting.registers (map (λ (w : OneWrite). w.register) ws)) (sym c.as_slice-in-Ok.ensures.value)
     (subst (λ (x : Setting). AreThere x.registers (map (λ (w : OneWrite). w.register) writes)) wrote.rests.setting there)) in
-    err_then (λ (w : JobFault). Rests core c.args.station.now c.write_all.new.station × CannotGoOn g.J.Job.asks_for g.J.Job.makes g.J.Job.holds core w c.args.job.now c.section-writes.new.self c.write_all.new.station)
+    err_then (λ (w : JobFault). Rests core c.args.station.now c.write_all.new.station × CannotGoOn g.J.Job.terms core w c.args.job.now c.section-writes.new.self c.write_all.new.station)
     c.from_residual.result NoRegister c.from_residual.ensures.1
-    (rests, inr (c.in-Inside.number, c.in-Ok.values.items, writes, subst (λ (vs : List ℕ). g.J.Job.makes c.args.job.now c.in-Inside.number vs writes c.section-writes.new.self) c.as_slice.ensures.value c.section-writes.ensures.made, lacks))
+    (rests, inr (c.in-Inside.number, c.in-Ok.values.items, writes, subst (λ (vs : List ℕ). g.J.Job.terms.makes c.args.job.now c.in-Inside.number vs writes c.section-writes.new.self) c.as_slice.ensures.value c.section-writes.ensures.made, lacks))
 
 pub returns-in_ok-write_all-in-Ok-clause-able : goal.returns-in_ok-write_all-in-Ok-clause-able
 returns-in_ok-write_all-in-Ok-clause-able g c = λ e.

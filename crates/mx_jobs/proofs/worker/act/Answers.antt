@@ -12,17 +12,17 @@ pub returns-clause-reaches : goal.returns-clause-reaches
 returns-clause-reaches g c = λ first from so_far.
     let core = g.C.Exclusion.core in
     on_ok_weaker c.go_on.result
-    (λ more. reaches_on g.J.Job.asks_for g.J.Job.makes g.J.Job.holds core _ first _ _ from _ _ (subst (λ (p : Bool). Reaches g.J.Job.asks_for g.J.Job.makes g.J.Job.holds core p first from c.args.job.now c.args.station.now) c.if-stance.false so_far) more)
+    (λ more. reaches_on g.J.Job.terms core _ first _ _ from _ _ (subst (λ (p : Bool). Reaches g.J.Job.terms core p first from c.args.job.now c.args.station.now) c.if-stance.false so_far) more)
     c.go_on.ensures.reaches
 
 pub returns-then-stance-clause-reaches : goal.returns-then-stance-clause-reaches
 returns-then-stance-clause-reaches g c = λ first from so_far.
     let core = g.C.Exclusion.core in
-    let before = subst (λ (p : Bool). Reaches g.J.Job.asks_for g.J.Job.makes g.J.Job.holds core p first from c.args.job.now c.args.station.now) c.if-stance.true so_far in
+    let before = subst (λ (p : Bool). Reaches g.J.Job.terms core p first from c.args.job.now c.args.station.now) c.if-stance.true so_far in
     let done = c.try_leave-has_left.ensures in
     elim (bool_cases c.try_leave-has_left.result) [
-      | inl t ↦ subst (λ (b : Bool). Reaches g.J.Job.asks_for g.J.Job.makes g.J.Job.holds core (not b) first from c.args.job.now c.try_leave-has_left.new.station) (sym t) (left_at_last g.J.Job.asks_for g.J.Job.makes g.J.Job.holds core first _ from _ _ before (done.left t))
-      | inr f ↦ subst (λ (b : Bool). Reaches g.J.Job.asks_for g.J.Job.makes g.J.Job.holds core (not b) first from c.args.job.now c.try_leave-has_left.new.station) (sym f) (still_there g.J.Job.asks_for g.J.Job.makes g.J.Job.holds core _ first _ from _ _ (done.kept f) before)
+      | inl t ↦ subst (λ (b : Bool). Reaches g.J.Job.terms core (not b) first from c.args.job.now c.try_leave-has_left.new.station) (sym t) (left_at_last g.J.Job.terms core first _ from _ _ before (done.left t))
+      | inr f ↦ subst (λ (b : Bool). Reaches g.J.Job.terms core (not b) first from c.args.job.now c.try_leave-has_left.new.station) (sym f) (still_there g.J.Job.terms core _ first _ from _ _ (done.kept f) before)
     ]
 
 pub returns-then-stance-clause-serves : goal.returns-then-stance-clause-serves
@@ -38,7 +38,7 @@ pub returns-then-stance-clause-able : goal.returns-then-stance-clause-able
 returns-then-stance-clause-able g c = λ first from so_far.
     let core = g.C.Exclusion.core in
     let phases = g.met.C.Exclusion.phases in
-    let before = subst (λ (p : Bool). Reaches g.J.Job.asks_for g.J.Job.makes g.J.Job.holds core p first from c.args.job.now c.args.station.now) c.if-stance.true so_far in
+    let before = subst (λ (p : Bool). Reaches g.J.Job.terms core p first from c.args.job.now c.args.station.now) c.if-stance.true so_far in
     let done = c.try_leave-has_left.ensures in
     elim (bool_cases c.try_leave-has_left.result) [
       | inl t ↦ λ busy. left_able core phases _ c.args.station.now c.try_leave-has_left.new.station before.rest.inside (done.left t).2
@@ -51,5 +51,5 @@ returns-clause-able g c = λ first from so_far. c.go_on.ensures.able
 pub returns-clause-fails : goal.returns-clause-fails
 returns-clause-fails g c = λ first from so_far.
     let core = g.C.Exclusion.core in
-    let before = subst (λ (p : Bool). Reaches g.J.Job.asks_for g.J.Job.makes g.J.Job.holds core p first from c.args.job.now c.args.station.now) c.if-stance.false so_far in
-    IfErr-weaker c.go_on.result _ _ (λ why did. fails_on g.J.Job.asks_for g.J.Job.makes g.J.Job.holds core why first _ _ from _ _ before did.0 did.1) c.go_on.ensures.fails
+    let before = subst (λ (p : Bool). Reaches g.J.Job.terms core p first from c.args.job.now c.args.station.now) c.if-stance.false so_far in
+    IfErr-weaker c.go_on.result _ _ (λ why did. fails_on g.J.Job.terms core why first _ _ from _ _ before did.0 did.1) c.go_on.ensures.fails

@@ -11,15 +11,15 @@ next_section-requires g c = (
   search (c.requires-raw),
   (
     c.as_slice.ensures.fits,
-    (subst (g.J.Job.asks_for c.args.job.now) (sym c.as_slice.ensures.value) (subst (λ o. IfSome o (λ rs. g.J.Job.asks_for c.args.job.now rs.items)) c.in-Some.is c.asks-asked.ensures.some), (c.requires.ready, c.requires.left)),
+    (subst (g.J.Job.terms.asks_for c.args.job.now) (sym c.as_slice.ensures.value) (subst (λ o. IfSome o (λ rs. g.J.Job.terms.asks_for c.args.job.now rs.items)) c.in-Some.is c.asks-asked.ensures.some), (c.requires.ready, c.requires.left)),
   ),
 )
 
 pub returns-in-None-clause-reaches : goal.returns-in-None-clause-reaches
 returns-in-None-clause-reaches g c =
     let core = g.C.Exclusion.core in
-    subst (λ (p : Bool). Reaches g.J.Job.asks_for g.J.Job.makes g.J.Job.holds core p c.args.job.now c.args.station.now c.args.job.now c.args.station.now) (sym c.requires.left)
-    (settled g.J.Job.asks_for g.J.Job.makes g.J.Job.holds core _ _ _ _ (stands g.J.Job.asks_for g.J.Job.makes g.J.Job.holds core _ _ _ _ refl (rests_here core _ _ refl)))
+    subst (λ (p : Bool). Reaches g.J.Job.terms core p c.args.job.now c.args.station.now c.args.job.now c.args.station.now) (sym c.requires.left)
+    (settled g.J.Job.terms core _ _ _ _ (stands g.J.Job.terms core _ _ _ _ refl (rests_here core _ _ refl)))
 
 pub returns-in-None-clause-serves : goal.returns-in-None-clause-serves
 returns-in-None-clause-serves g c = serves_acting g.C.Exclusion.core _ _ (no_act g.C.Exclusion.core _ _ refl)
@@ -27,5 +27,14 @@ returns-in-None-clause-serves g c = serves_acting g.C.Exclusion.core _ _ (no_act
 pub returns-in_err-next_section-in-Some-clause-fails : goal.returns-in_err-next_section-in-Some-clause-fails
 returns-in_err-next_section-in-Some-clause-fails g c =
     let core = g.C.Exclusion.core in
-    err_then (λ (w : JobFault). Rests core c.args.station.now c.next_section.new.station × CannotGoOn g.J.Job.asks_for g.J.Job.makes g.J.Job.holds core w c.args.job.now c.next_section.new.job c.next_section.new.station)
+    err_then (λ (w : JobFault). Rests core c.args.station.now c.next_section.new.station × CannotGoOn g.J.Job.terms core w c.args.job.now c.next_section.new.job c.next_section.new.station)
     c.from_residual.result c.in_err-next_section-in-Some.field-0.0 c.from_residual.ensures.1 c.in_err-next_section-in-Some.ensures.fails
+
+pub returns-then-not-is_due-clause-reaches : goal.returns-then-not-is_due-clause-reaches
+returns-then-not-is_due-clause-reaches g c =
+    let core = g.C.Exclusion.core in
+    subst (λ (p : Bool). Reaches g.J.Job.terms core p c.args.job.now c.args.station.now c.args.job.now c.args.station.now) (sym c.requires.left)
+    (settled g.J.Job.terms core _ _ _ _ (stands g.J.Job.terms core _ _ _ _ refl (rests_here core _ _ refl)))
+
+pub returns-then-not-is_due-clause-serves : goal.returns-then-not-is_due-clause-serves
+returns-then-not-is_due-clause-serves g c = serves_acting g.C.Exclusion.core _ _ (no_act g.C.Exclusion.core _ _ refl)

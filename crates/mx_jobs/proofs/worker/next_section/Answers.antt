@@ -18,9 +18,9 @@ returns-in-Left-clause-reaches g c =
     let core = g.C.Exclusion.core in
     let begun = rests_on core _ _ _ (asked core c.ask.result _ _ c.ask.ensures.done c.ask.ensures.refused) (came core c.enter.result _ _ c.enter.ensures.done c.enter.ensures.refused) in
     let tried = c.in_ok-try_section.ensures in
-    subst (λ (p : Bool). Reaches g.J.Job.asks_for g.J.Job.makes g.J.Job.holds core p c.args.job.now c.args.station.now c.try_section.new.job c.try_section.new.station) (sym c.requires.left) (settled g.J.Job.asks_for g.J.Job.makes g.J.Job.holds core _ _ _ _ (elim c.in-Left.is [
-      | inl is ↦ left_after g.J.Job.asks_for g.J.Job.makes g.J.Job.holds core _ _ _ _ _ begun (tried.left (ap (λ x. Ok x) is))
-      | inr is ↦ let did = tried.outside (ap (λ x. Ok x) is) in stands g.J.Job.asks_for g.J.Job.makes g.J.Job.holds core _ _ _ _ did.0 (rests_on core _ _ _ begun (rests_here core _ _ did.1))
+    subst (λ (p : Bool). Reaches g.J.Job.terms core p c.args.job.now c.args.station.now c.try_section.new.job c.try_section.new.station) (sym c.requires.left) (settled g.J.Job.terms core _ _ _ _ (elim c.in-Left.is [
+      | inl is ↦ left_after g.J.Job.terms core _ _ _ _ _ begun (tried.left (ap (λ x. Ok x) is))
+      | inr is ↦ let did = tried.outside (ap (λ x. Ok x) is) in stands g.J.Job.terms core _ _ _ _ did.0 (rests_on core _ _ _ begun (rests_here core _ _ did.1))
     ]))
 
 pub returns-in-Pending-clause-reaches : goal.returns-in-Pending-clause-reaches
@@ -28,15 +28,15 @@ returns-in-Pending-clause-reaches g c =
     let core = g.C.Exclusion.core in
     let begun = rests_on core _ _ _ (asked core c.ask.result _ _ c.ask.ensures.done c.ask.ensures.refused) (came core c.enter.result _ _ c.enter.ensures.done c.enter.ensures.refused) in
     let did = c.in_ok-try_section.ensures.pending (ap (λ x. Ok x) c.in-Pending.is) in
-    pending g.J.Job.asks_for g.J.Job.makes g.J.Job.holds core _ _ _ _ (rests_on core _ _ _ begun did.0) did.1
+    pending g.J.Job.terms core _ _ _ _ (rests_on core _ _ _ begun did.0) did.1
 
 pub returns-in-Gap-clause-reaches : goal.returns-in-Gap-clause-reaches
 returns-in-Gap-clause-reaches g c =
     let core = g.C.Exclusion.core in
     let begun = rests_on core _ _ _ (asked core c.ask.result _ _ c.ask.ensures.done c.ask.ensures.refused) (came core c.enter.result _ _ c.enter.ensures.done c.enter.ensures.refused) in
     let tried = c.in_ok-try_section.ensures.gap (ap (λ x. Ok x) c.in-Gap.is) in
-    subst (λ (p : Bool). Reaches g.J.Job.asks_for g.J.Job.makes g.J.Job.holds core p c.args.job.now c.args.station.now c.try_section.new.job c.want_next.new.station) (sym c.requires.left ∙ sym c.want_next.ensures.same)
-    (settled g.J.Job.asks_for g.J.Job.makes g.J.Job.holds core _ _ _ _ (stands g.J.Job.asks_for g.J.Job.makes g.J.Job.holds core _ _ _ _ tried.0 (rests_on core _ _ _ begun (rests_on core _ _ _ tried.1 c.want_next.ensures.rests))))
+    subst (λ (p : Bool). Reaches g.J.Job.terms core p c.args.job.now c.args.station.now c.try_section.new.job c.want_next.new.station) (sym c.requires.left ∙ sym c.want_next.ensures.same)
+    (settled g.J.Job.terms core _ _ _ _ (stands g.J.Job.terms core _ _ _ _ tried.0 (rests_on core _ _ _ begun (rests_on core _ _ _ tried.1 c.want_next.ensures.rests))))
 
 pub returns-in-Left-clause-serves : goal.returns-in-Left-clause-serves
 returns-in-Left-clause-serves g c =
@@ -99,5 +99,5 @@ returns-in_err-try_section-clause-fails g c =
     let core = g.C.Exclusion.core in
     let begun = rests_on core _ _ _ (asked core c.ask.result _ _ c.ask.ensures.done c.ask.ensures.refused) (came core c.enter.result _ _ c.enter.ensures.done c.enter.ensures.refused) in
     let did = c.in_err-try_section.ensures.fails in
-    err_then (λ (w : JobFault). Rests core c.args.station.now c.try_section.new.station × CannotGoOn g.J.Job.asks_for g.J.Job.makes g.J.Job.holds core w c.args.job.now c.try_section.new.job c.try_section.new.station)
+    err_then (λ (w : JobFault). Rests core c.args.station.now c.try_section.new.station × CannotGoOn g.J.Job.terms core w c.args.job.now c.try_section.new.job c.try_section.new.station)
     c.from_residual.result c.in_err-try_section.field-0.0 c.from_residual.ensures.1 (rests_on core c.args.station.now c.enter.new.self c.try_section.new.station begun did.0, did.1)

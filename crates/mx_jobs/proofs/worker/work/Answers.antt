@@ -17,7 +17,7 @@ is_inside-requires g c = search (c.requires-raw)
 pub loop-turn-init : goal.loop-turn-init
 loop-turn-init g c =
     let core = g.C.Exclusion.core in
-    (settled g.J.Job.asks_for g.J.Job.makes g.J.Job.holds core _ _ _ _ (stands g.J.Job.asks_for g.J.Job.makes g.J.Job.holds core _ _ _ _ refl (rests_here core _ _ refl)), refl, c.requires.ready)
+    (settled g.J.Job.terms core _ _ _ _ (stands g.J.Job.terms core _ _ _ _ refl (rests_here core _ _ refl)), refl, c.requires.ready)
 
 pub loop-turn-preserved : goal.loop-turn-preserved
 loop-turn-preserved g c = (
@@ -30,8 +30,8 @@ loop-turn-preserved g c = (
 pub returns-then-done-clause-done : goal.returns-then-done-clause-done
 returns-then-done-clause-done g c = λ e.
     let core = g.C.Exclusion.core in
-    reached g.J.Job.asks_for g.J.Job.makes g.J.Job.holds core _ _ _ _
-    (subst (λ (p : Bool). Reaches g.J.Job.asks_for g.J.Job.makes g.J.Job.holds core p c.args.job.now c.args.station.now c.take_turn.new.job c.take_turn.new.station) (c.in-Ok.ensures.finished c.if-idle.true).0 (c.in-Ok.ensures.reaches _ _ c.loop-turn.invariant.0))
+    reached g.J.Job.terms core _ _ _ _
+    (subst (λ (p : Bool). Reaches g.J.Job.terms core p c.args.job.now c.args.station.now c.take_turn.new.job c.take_turn.new.station) (c.in-Ok.ensures.finished c.if-idle.true).0 (c.in-Ok.ensures.reaches _ _ c.loop-turn.invariant.0))
 
 pub returns-then-done-clause-finished : goal.returns-then-done-clause-finished
 returns-then-done-clause-finished g c = λ e. (c.in-Ok.ensures.finished c.if-idle.true).1
@@ -60,11 +60,11 @@ returns-clause-idles g c = λ e.
     let over = c.loop-turn-test.false in
     let most = c.loop-turn.auto._turn-end in
     let all : c.loop-turn._turn ≡ c.args.options.turns = omega (arith, over, most) in
-    subst (λ (n : ℕ). BusyRounds g.C.Exclusion.core (g.J.Job.finished c.loop-turn.job) c.args.options.settle_every n c.args.station.now c.loop-turn.station) all c.loop-turn.invariant.1
+    subst (λ (n : ℕ). BusyRounds g.C.Exclusion.core (g.J.Job.terms.finished c.loop-turn.job) c.args.options.settle_every n c.args.station.now c.loop-turn.station) all c.loop-turn.invariant.1
 
 pub returns-in-Err-clause-broken : goal.returns-in-Err-clause-broken
 returns-in-Err-clause-broken g c = λ why e.
-    subst (λ (w : JobFault). Fails g.J.Job.asks_for g.J.Job.makes g.J.Job.holds g.C.Exclusion.core w c.args.job.now c.args.station.now c.take_turn.new.job c.take_turn.new.station) (same_why _ _ e)
+    subst (λ (w : JobFault). Fails g.J.Job.terms g.C.Exclusion.core w c.args.job.now c.args.station.now c.take_turn.new.job c.take_turn.new.station) (same_why _ _ e)
     (c.in-Err.ensures.fails _ _ c.loop-turn.invariant.0)
 
 pub returns-in-Err-clause-works : goal.returns-in-Err-clause-works

@@ -1,6 +1,7 @@
 use Rattle.std.proofs.Common.{ℕ, ◌*◌, ◌≤◌, ◌∙◌, arith, subst}
 use Rattle.std.proofs.lemmas.Result.{err_from_is_err_and}
 use Rattle.mx_cli.specs.Requests.{live_request_of}
+use Rattle.mx_live.proofs.ProgressLemmas.{tells_none}
 use Rattle.mx_live.proofs.ErrorLemmas.{none_ends, shown_ends}
 use Rattle.mx_live.proofs.live_command.live_plan.Goals as goal
 
@@ -27,3 +28,6 @@ returns g c = record {
   progress = c.in_ok-gathered.ensures.progress;
   stays = c.in_ok-gathered.ensures.stays;
 }
+
+pub returns-then-saturating_mul-sections-clause-progress : goal.returns-then-saturating_mul-sections-clause-progress
+returns-then-saturating_mul-sections-clause-progress g c = tells_none c.args.request.now.progress (g.E.Output.written c.args.err.now)

@@ -16,7 +16,7 @@ run_stations-requires-send-C-Shape g c κs within = c.type_bounds.send-C-Shape
 pub gather_left-requires : goal.gather_left-requires
 gather_left-requires g c =
     let at = c.requires in
-    (search (c.requires-raw), of_one_table g.C.Exclusion.core at.0 c.args.plan.now _ _ (record { stations = c.args.stations.items; rested = at.1; worked = c.in-Ok.ensures.left }))
+    (search (c.requires-raw.1.1.1.1.1.1), of_one_table g.C.Exclusion.core at.0 c.args.plan.now _ _ (record { stations = c.args.stations.items; rested = at.1; worked = c.in-Ok.ensures.left }))
 
 pub returns-in-Ok-clause-come : goal.returns-in-Ok-clause-come
 returns-in-Ok-clause-come g c = λ shape rested.
@@ -36,4 +36,10 @@ pub returns-in-Err-clause-err : goal.returns-in-Err-clause-err
 returns-in-Err-clause-err g c = λ shape at. inr refl
 
 pub run_stations-requires-after_bounds : goal.run_stations-requires-after_bounds
-run_stations-requires-after_bounds g c κs within = search (c.requires-raw)
+run_stations-requires-after_bounds g c κs within = search (c.requires-raw.1.1.1.1.1.1)
+
+pub run_stations-requires-send-R : goal.run_stations-requires-send-R
+run_stations-requires-send-R g c κs within = c.type_bounds.send-R
+
+pub run_stations-requires-sync-R : goal.run_stations-requires-sync-R
+run_stations-requires-sync-R g c κs within = c.type_bounds.sync-R

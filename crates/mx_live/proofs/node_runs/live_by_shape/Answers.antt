@@ -1,6 +1,7 @@
 use Rattle.std.proofs.Common.{◌∙◌, arith, sym}
 use Rattle.std.proofs.lemmas.Result.{IfErr-weaker, IfOk-weaker}
 use Rattle.mx_plan.specs.declared.shape.Shape.TheVariants as planned
+use Rattle.mx_live.proofs.ProgressLemmas.{tells_none}
 use Rattle.mx_live.proofs.SectionLemmas.{come_by, none_by}
 use Rattle.mx_live.proofs.node_runs.live_by_shape.Goals as goal
 
@@ -48,3 +49,12 @@ returns-in_ok-stations-in-Raymond g c =
       progress = run.progress;
       stays = run.stays;
     }
+
+pub returns-in_err-stations-in-Ricart-clause-progress : goal.returns-in_err-stations-in-Ricart-clause-progress
+returns-in_err-stations-in-Ricart-clause-progress g c = tells_none c.args.request.now.progress (g.E.Output.written c.args.err.now)
+
+pub returns-in_err-stations-in-Maekawa-clause-progress : goal.returns-in_err-stations-in-Maekawa-clause-progress
+returns-in_err-stations-in-Maekawa-clause-progress g c = tells_none c.args.request.now.progress (g.E.Output.written c.args.err.now)
+
+pub returns-in_err-stations-in-Raymond-clause-progress : goal.returns-in_err-stations-in-Raymond-clause-progress
+returns-in_err-stations-in-Raymond-clause-progress g c = tells_none c.args.request.now.progress (g.E.Output.written c.args.err.now)

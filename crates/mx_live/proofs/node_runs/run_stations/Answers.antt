@@ -2,6 +2,7 @@ use Rattle.std.proofs.Common.{IfOk, arith, subst}
 use Rattle.std.proofs.lemmas.Result.{IfOk-weaker}
 use Rattle.mx_live.specs.declared.threads.WorkerConfig.{WorkerConfig}
 use Rattle.mx_live.specs.Workers.{AreLeft}
+use Rattle.mx_live.proofs.ProgressLemmas.{tells_none}
 use Rattle.mx_live.proofs.WorkerLemmas.{left_by}
 use Rattle.mx_live.proofs.node_runs.run_stations.Goals as goal
 
@@ -26,10 +27,28 @@ returns-clause-left g c =
     (IfOk-weaker c.join_all.result _ _ (λ all kept. left_by g.C.Exclusion.core _ _ _ all.items c.in_ok-workers.ensures kept) c.join_all.ensures)
 
 pub start_all-requires-after_bounds : goal.start_all-requires-after_bounds
-start_all-requires-after_bounds g c κs within = (search (c.requires-raw), omega (arith, c.nodes.ensures.high))
+start_all-requires-after_bounds g c κs within = (search (c.requires-raw.1.1.1.1.1.1), omega (arith, c.nodes.ensures.high))
 
 pub report_if_asked-requires : goal.report_if_asked-requires
-report_if_asked-requires g c = search (c.requires-raw)
+report_if_asked-requires g c = search (c.requires-raw.1.1.1.1.1.1)
 
 pub join_all-requires : goal.join_all-requires
-join_all-requires g c = search (c.requires-raw)
+join_all-requires g c = search (c.requires-raw.1.1.1.1.1.1)
+
+pub start_all-requires-send-R : goal.start_all-requires-send-R
+start_all-requires-send-R g c κs within = c.type_bounds.send-R
+
+pub start_all-requires-sync-R : goal.start_all-requires-sync-R
+start_all-requires-sync-R g c κs within = c.type_bounds.sync-R
+
+pub watch_over-requires : goal.watch_over-requires
+watch_over-requires g c = search (c.requires-raw.1.1.1.1.1.1)
+
+pub drop-stations-requires-room-T-Destruct : goal.drop-stations-requires-room-T-Destruct
+drop-stations-requires-room-T-Destruct g c κs within = search (c.requires-raw.1.1.1.1.1.1)
+
+pub returns-in_err-watch-clause-progress : goal.returns-in_err-watch-clause-progress
+returns-in_err-watch-clause-progress g c = tells_none c.args.request.now.progress (g.E.Output.written c.args.err.now)
+
+pub returns-in_err-workers-clause-progress : goal.returns-in_err-workers-clause-progress
+returns-in_err-workers-clause-progress g c = tells_none c.args.request.now.progress (g.E.Output.written c.args.err.now)

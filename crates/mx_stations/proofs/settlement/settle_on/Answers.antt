@@ -59,3 +59,9 @@ is_finished-requires g c = search rules
 
 pub settle_if_due-requires : goal.settle_if_due-requires
 settle_if_due-requires g c = search rules
+
+pub is_to_ask-asks-requires : goal.is_to_ask-asks-requires
+is_to_ask-asks-requires g c = search rules
+
+pub wait-requires : goal.wait-requires
+wait-requires g c = search rules

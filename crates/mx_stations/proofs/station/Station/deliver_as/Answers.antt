@@ -1,7 +1,8 @@
 use Rattle.std.proofs.Common.{rules, sym, ap, ◌∙◌, subst}
 use Rattle.std.specs.Arc.{arc_value}
 use Rattle.mx_stations.specs.Posts.{DeliversAs, Waits, post, sent_in, shown}
-use Rattle.mx_stations.proofs.Posts.{no_none, on_err, same_seat, takeable}
+use Rattle.mx_stations.specs.Turns.{HoldsUnknown}
+use Rattle.mx_stations.proofs.Posts.{on_err, same_seat, takeable}
 use Rattle.mx_stations.proofs.station.Station.deliver_as.Goals as goal
 
 pub look-requires : goal.look-requires
@@ -19,7 +20,9 @@ invariant_of-self g c =
 
 pub returns-in_err-hand_over-clause-held : goal.returns-in_err-hand_over-clause-held
 returns-in_err-hand_over-clause-held g c =
-    on_err c.from_residual.result _ (no_none c.in-Some._held (ap (λ s. s.me.hand) (sym c.self.view_is) ∙ c.in-Some.is))
+    let l = c.look.ensures in let p = c.self.inside in
+    let view = (λ j. post (l.same.0 j) (arc_value p.field).nodes (shown p.node p.member p.hand p.receipts.items (l.same.1 j).0) p.waiting.items) ∙ c.self.view_is in
+    on_err c.from_residual.result _ (subst (λ s. HoldsUnknown g.C.Exclusion.core s) view c.in_err-hand_over.ensures.held)
 
 pub returns-in_err-hand_over-clause-memory : goal.returns-in_err-hand_over-clause-memory
 returns-in_err-hand_over-clause-memory g c =

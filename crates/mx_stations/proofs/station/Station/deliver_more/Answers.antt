@@ -1,4 +1,5 @@
-use Rattle.std.proofs.Common.{refl, sym, subst, ◌≢◌, None}
+use Rattle.std.proofs.Common.{refl, sym, subst}
+use Rattle.mx_stations.specs.Turns.{HoldsUnknown}
 use Rattle.mx_stations.proofs.Going.{goes_held, stays}
 use Rattle.mx_stations.proofs.Posts.{on_err}
 use Rattle.mx_stations.proofs.Turning.{more_first, no_more}
@@ -16,7 +17,7 @@ returns-in_err-deliver_first-clause-goes g c = stays g.C.Exclusion.core _ _ c.in
 pub returns-in_err-deliver_first-clause-kept : goal.returns-in_err-deliver_first-clause-kept
 returns-in_err-deliver_first-clause-kept g c =
     let e = c.in_err-deliver_first.ensures in
-    on_err c.from_residual.result _ (subst (λ s. s.me.hand ≢ None) (sym e.memory) e.held)
+    on_err c.from_residual.result _ (subst (λ s. HoldsUnknown g.C.Exclusion.core s) (sym e.memory) e.held)
 
 pub returns-clause-more : goal.returns-clause-more
 returns-clause-more g c = more_first g.C.Exclusion.core c.args.fate _ _ c.in_ok-deliver_first.field-0 c.in-Twice.is c.in_ok-deliver_first.ensures.delivered

@@ -1,6 +1,7 @@
 use Rattle.std.proofs.Common.{arith, rules, sym, ap, ◌∙◌, subst, ◌≡◌, [], ◌∷◌, append-nil}
 use Rattle.std.specs.Arc.{arc_value}
 use Rattle.mx_member.specs.declared.acts.Act.TheVariants.{Deliver}
+use Rattle.mx_member.specs.Member.{BringsUnknown}
 use Rattle.mx_stations.specs.Posts.{after_act, left_in, post, shown}
 use Rattle.mx_stations.specs.Running.{GoToNodes}
 use Rattle.mx_stations.proofs.Crossing.{held_takes}
@@ -8,7 +9,7 @@ use Rattle.mx_stations.proofs.Posts.{acted_seat, acted_waits, happens, keeps_lef
 use Rattle.mx_stations.proofs.station.Station.hand_over.Goals as goal
 
 pub clear-requires : goal.clear-requires
-clear-requires g c = omega arith
+clear-requires g c = search rules
 
 pub receive-requires : goal.receive-requires
 receive-requires g c =
@@ -23,6 +24,12 @@ pub returns-in_err-receive-clause-memory : goal.returns-in_err-receive-clause-me
 returns-in_err-receive-clause-memory g c =
     let p = c.self.inside in
     on_err c.from_residual.result _ (ap (λ y. post p.seat.table_id (arc_value p.field).nodes (shown p.node y p.hand p.receipts.items p.seat.me.0) p.waiting.items) c.in_err-receive.ensures.err ∙ c.self.view_is)
+
+pub returns-in_err-receive-clause-held : goal.returns-in_err-receive-clause-held
+returns-in_err-receive-clause-held g c =
+    let held = c.in-Some.held in
+    on_err c.from_residual.result _
+    (held.0, held.1, ap (λ s. s.me.hand) (sym c.self.view_is) ∙ c.in-Some.is, subst (λ s. BringsUnknown held.1 s.me.member.journal) c.self.view_is c.in_err-receive.ensures.memory)
 
 pub act-requires : goal.act-requires
 act-requires g c =

@@ -1,10 +1,10 @@
 use Rattle.std.proofs.Common.{rules, sym, ap, ◌∙◌, inl, subst, ◌<◌}
 use Rattle.mx_stations.proofs.Crossing.{none_there, took}
-use Rattle.mx_stations.proofs.Posts.{match_false, match_true, on_err}
+use Rattle.mx_stations.proofs.Posts.{match_false, match_true, no_none, on_err}
 use Rattle.mx_stations.proofs.station.Station.take_in.Goals as goal
 
 pub returns-in_err-deliver-clause-memory : goal.returns-in_err-deliver-clause-memory
-returns-in_err-deliver-clause-memory g c = let d = c.in_err-deliver.ensures in on_err c.from_residual.result _ (inl (d.held, d.memory))
+returns-in_err-deliver-clause-memory g c = let d = c.in_err-deliver.ensures in on_err c.from_residual.result _ (inl (no_none _ d.held.2, d.memory))
 
 pub returns-then-branch-clause-taken : goal.returns-then-branch-clause-taken
 returns-then-branch-clause-taken g c = inl (match_true _ c.in_ok-deliver.field-0 c.in_ok-deliver.ensures.delivered c.if-branch.true)
