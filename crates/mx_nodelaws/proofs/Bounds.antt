@@ -1,11 +1,29 @@
--- Numbers that are u64 values, and names that are nodes: letters, steps, and the world at rest.
-use Rattle.std.proofs.Common.{ℕ, ◌<◌, ◌≡◌, ◌↔◌, inl, inr, List, [], ◌∷◌, ◌++◌, slice_set, length, sym, subst, arith}
-use Rattle.std.proofs.lemmas.Option.{slice_get_within}
+-- Numbers that are u64 values, and names that are nodes: states, letters, steps, the world at rest.
+use Rattle.std.proofs.Common.{ℕ, ◌<◌, ◌≡◌, ◌↔◌, inl, inr, List, [], ◌∷◌, ◌++◌, Option, Some, None, get_or, replicate, slice_set, length, sym, ◌∙◌, subst, arith}
+use Rattle.std.proofs.lemmas.Option.{same_Some, slice_get_within}
 use Rattle.mx_stamps.specs.Lists.{IsIn, each_below}
-use Rattle.mx_stamps.proofs.Lists.{in_append, get_after, get_each_below, length_each_below, length_set}
+use Rattle.mx_stamps.proofs.Lists.{in_append, get_after, get_each_below, get_or_after, get_or_replicate, length_each_below, length_set, none_is_no_some}
 use Rattle.mx_nodelaws.specs.World.{World, Done, IsNode, after, sent_by}
 use Rattle.mx_nodelaws.specs.Bounds.{AreBounded, IsBoundedDone, IsBoundedWorld}
 use Rattle.mx_nodelaws.proofs.Worlds.{in_sent_by}
+
+-- what holds of each value that a state may hold
+module _ {X : Type 0} (P : X → Type 0) where
+  pub none_held : (x : X) → None ≡ Some x → P x
+  none_held x e = absurd (none_is_no_some x e)
+
+  pub one_held : (v x : X) → P v → Some v ≡ Some x → P x
+  one_held v x ok e = subst P (same_Some v x e) ok
+
+  -- at each place of a list
+  pub none_at : (k j : ℕ) (x : X) → get_or (replicate k None) j None ≡ Some x → P x
+  none_at k j x e = none_held x (sym (get_or_replicate k j None) ∙ e)
+
+  pub put_at : (xs : List (Option X)) (b : ℕ) (o : Option X) → ((x : X) → o ≡ Some x → P x) → ((j : ℕ) (x : X) → get_or xs j None ≡ Some x → P x) → (j : ℕ) (x : X) → get_or (slice_set xs b o) j None ≡ Some x → P x
+  put_at xs b o new old j x e = elim (get_or_after xs b j o None (Some x) e) [ inl p ↦ new x p.1 | inr was ↦ old j x was ]
+
+  pub set_at : (xs : List X) (b : ℕ) (v d : X) → P v → ((j : ℕ) (x : X) → get_or xs j d ≡ x → P x) → (j : ℕ) (x : X) → get_or (slice_set xs b v) j d ≡ x → P x
+  set_at xs b v d new old j x e = elim (get_or_after xs b j v d x e) [ inl p ↦ subst P p.1 new | inr was ↦ old j x was ]
 
 module _ {M : Type 0} (Letter : ℕ → M → Type 0) (n : ℕ) where
   pub nil : AreBounded Letter n []

@@ -1,22 +1,20 @@
 -- The arbiter's rows keep each number a u64 value, and each name a node.
-use Rattle.std.proofs.Common.{ℕ, zero, suc, ◌<◌, ◌+◌, ◌≡◌, inl, inr, ◌||◌, List, [], ◌∷◌, Option, Some, None, max, slice_set, get_or, nat_eq, nat_lt, refl, subst, arith}
+use Rattle.std.proofs.Common.{ℕ, zero, suc, ◌<◌, ◌+◌, ◌≡◌, ◌||◌, List, [], ◌∷◌, Option, Some, None, max, nat_eq, nat_lt, refl, arith}
 use Rattle.mx_nodelaws.specs.World.{sending, becoming}
-use Rattle.std.proofs.lemmas.Option.{same_Some}
 use Rattle.mx_stamps.specs.declared.stamp.Stamp.{Stamp}
 use Rattle.mx_stamps.specs.Stamp.{is_before_of}
-use Rattle.mx_stamps.proofs.Lists.{none_is_no_some, get_or_after}
+use Rattle.mx_stamps.proofs.Lists.{none_is_no_some}
 use Rattle.mx_stamps.proofs.Choices.{lt_true, cond_case}
 use Rattle.mx_stamps.specs.Numbers.{last_number}
 use Rattle.mx_letters.specs.declared.maekawa.MaekawaMsg.{MaekawaMsg}
 use Rattle.mx_letters.specs.declared.maekawa.MaekawaMsg.TheVariants.{Locked, Failed, Inquire}
-use Rattle.mx_nodelaws.proofs.Bounds.{nil, one, both}
+use Rattle.mx_nodelaws.proofs.Bounds.{nil, one, both, none_held, one_held, put_at, set_at}
 use Rattle.mx_nodelaws.specs.Bounds.{IsU64, BoundedStamp, AreBounded, IsBoundedDone}
 use Rattle.mx_maekawa.specs.declared.lock.Lock.{Lock}
 use Rattle.mx_maekawa.specs.Node.{ArbiterState}
 use Rattle.mx_maekawa.specs.ArbiterStep.{others_at, lock_letter, locked, least_of, lesser, grant_to, grant_in, grant, is_below, fail_least, overtaking, rank_against, rank_by, waiting_for, queue, is_for, is_overtaken, take_fresh, take_live, take_request, is_exactly, or_else, waiting_at, unlocking, taking_back, take_relinquish, drop_up_to, ended_at, ending, is_up_to, take_release}
 use Rattle.mx_maekawa.specs.Good.{BoundedLetter, BoundedLock, BoundedArbiter}
 use Rattle.mx_maekawa.specs.ArbiterStep.{ArbiterDone}
-use Rattle.mx_maekawa.specs.laws.RequesterBounds.{set_small}
 
 -- a step of the arbiter after which each number is a u64 value, and each name a node
 abbrev pub BoundedArbiterDone : ℕ → ArbiterDone → Type 0
@@ -51,51 +49,33 @@ module _ (n : ℕ) where
       cond_case P (nat_eq j but) None (waiting_at a j) (λ _ e. absurd (none_is_no_some u e))
       (λ _ e. ok.waiting j u e) h
 
-  -- requests at the places of a list
-
-  put : (xs : List (Option Stamp)) (b : ℕ) (o : Option Stamp)
-      → ((u : Stamp) → o ≡ Some u → BoundedStamp n u)
-      → ((j : ℕ) (u : Stamp) → get_or xs j None ≡ Some u → BoundedStamp n u) → (j : ℕ) (u : Stamp)
-      → get_or (slice_set xs b o) j None ≡ Some u → BoundedStamp n u
-  put xs b o bounded ok j u h =
-      elim (get_or_after xs b j o None (Some u) h) [ inl p ↦ bounded u p.1 | inr old ↦ ok j u old ]
-
-  none_bounded : (u : Stamp) → None ≡ Some u → BoundedStamp n u
-  none_bounded u e = absurd (none_is_no_some u e)
-
-  some_bounded : (s u : Stamp) → BoundedStamp n s → Some s ≡ Some u → BoundedStamp n u
-  some_bounded s u bounded e = subst (λ x. BoundedStamp n x) (same_Some s u e) bounded
-
   or_else_bounded : (o : Option Stamp) (s u : Stamp) → BoundedStamp n s
       → ((v : Stamp) → o ≡ Some v → BoundedStamp n v) → or_else o s ≡ Some u → BoundedStamp n u
-  or_else_bounded None s u bounded was h = some_bounded s u bounded h
+  or_else_bounded None s u bounded was h = one_held (BoundedStamp n) s u bounded h
   or_else_bounded (Some x) s u bounded was h = was u h
 
   drop_bounded : (o : Option Stamp) (number : ℕ) (u : Stamp)
       → ((v : Stamp) → o ≡ Some v → BoundedStamp n v) → drop_up_to o number ≡ Some u
       → BoundedStamp n u
-  drop_bounded None number u was h = none_bounded u h
+  drop_bounded None number u was h = absurd (none_is_no_some u h)
   drop_bounded (Some x) number u was h =
       let P : Option Stamp → Type 0 = λ o. o ≡ Some u → BoundedStamp n u in
       cond_case P (nat_lt number x.number) (Some x) None (λ _ k. was u k)
-      (λ _ k. none_bounded u k) h
+      (λ _ k. absurd (none_is_no_some u k)) h
 
   -- Grant
 
   locked_bounded : (a : ArbiterState) (u : Stamp) → a.granted < last_number → BoundedStamp n u
       → BoundedArbiter n a → BoundedArbiterDone n (locked a u)
   locked_bounded a u lt bounded ok =
-      let next : IsU64 (a.granted + 1) = omega arith in record {
-        state = record {
-          count = ok.count;
-          lock = λ l h. subst (λ x. BoundedLock n x) (same_Some {A = Lock}
-              (record { stamp = u; grant = a.granted + 1; last = a.last }) l h)
-              (record { stamp = bounded; grant = next; last = ok.last });
-          granted = next;
-          waiting = put a.waiting u.node None none_bounded ok.waiting;
-          ended = ok.ended;
-          last = ok.last;
-        };
+      let next : IsU64 (a.granted + 1) = omega arith in
+      let lock : Lock = record { stamp = u; grant = a.granted + 1; last = a.last } in
+      let good : BoundedLock n lock = record { stamp = bounded; grant = next; last = ok.last } in
+      record {
+        state = search (
+          (λ (l : Lock). one_held (BoundedLock n) lock l good),
+          put_at (BoundedStamp n) a.waiting u.node None (none_held (BoundedStamp n)) ok.waiting,
+        );
         letters = one BoundedLetter n u.node (Locked u (a.granted + 1) a.last) bounded.1
             (bounded, next, ok.last);
       }
@@ -148,14 +128,8 @@ module _ (n : ℕ) where
   waiting_bounded : (a : ArbiterState) (stamp : Stamp) → BoundedStamp n stamp → BoundedArbiter n a
       → BoundedArbiter n (waiting_for a stamp)
   waiting_bounded a stamp bounded ok =
-      record {
-        count = ok.count;
-        lock = ok.lock;
-        granted = ok.granted;
-        waiting = put a.waiting stamp.node (Some stamp) (λ u e. some_bounded stamp u bounded e) ok.waiting;
-        ended = ok.ended;
-        last = ok.last;
-      }
+      search (put_at (BoundedStamp n) a.waiting stamp.node (Some stamp)
+      (λ u. one_held (BoundedStamp n) stamp u bounded) ok.waiting)
 
   queue_bounded : (o : Option Lock) (stamp : Stamp) (a : ArbiterState) → a.lock ≡ o
       → BoundedStamp n stamp → BoundedArbiter n a → BoundedArbiterDone n (queue o stamp a)
@@ -192,25 +166,18 @@ module _ (n : ℕ) where
 
   -- RELINQUISH
 
-  no_lock_bounded : (lock : Lock) → None ≡ Some lock → BoundedLock n lock
-  no_lock_bounded lock h = absurd (none_is_no_some lock h)
-
   pub relinquish_bounded : (stamp : Stamp) (g : ℕ) (a : ArbiterState) → BoundedStamp n stamp
       → BoundedArbiter n a → BoundedArbiterDone n (take_relinquish stamp g a)
   relinquish_bounded stamp g a bounded ok =
       cond_case (λ d. BoundedArbiterDone n d) (is_exactly a.lock stamp g)
       (grant (taking_back stamp a)) (becoming a)
       (λ _. grant_bounded (taking_back stamp a)
-      (record {
-        count = ok.count;
-        lock = no_lock_bounded;
-        granted = ok.granted;
-        waiting = put a.waiting stamp.node (or_else (waiting_at a stamp.node) stamp)
-            (λ u e. or_else_bounded (waiting_at a stamp.node) stamp u bounded
-            (λ v k. ok.waiting stamp.node v k) e) ok.waiting;
-        ended = ok.ended;
-        last = ok.last;
-      }))
+      (search (
+        none_held (BoundedLock n),
+        put_at (BoundedStamp n) a.waiting stamp.node (or_else (waiting_at a stamp.node) stamp)
+            (λ u. or_else_bounded (waiting_at a stamp.node) stamp u bounded (ok.waiting stamp.node))
+            ok.waiting,
+      )))
       (λ _. quietly_bounded a ok)
 
   -- RELEASE
@@ -221,26 +188,16 @@ module _ (n : ℕ) where
       let x = ending stamp t a in
       let was : IsU64 (ended_at a stamp.node) = ok.ended stamp.node (ended_at a stamp.node) refl in
       let number : IsU64 stamp.number = bounded.0 in
-      let mid : BoundedArbiter n x = record {
-        count = ok.count;
-        lock = ok.lock;
-        granted = ok.granted;
-        waiting = put a.waiting stamp.node
+      let mid : BoundedArbiter n x = search (
+        arith,
+        put_at (BoundedStamp n) a.waiting stamp.node
             (drop_up_to (waiting_at a stamp.node) stamp.number)
-            (λ u e. drop_bounded (waiting_at a stamp.node) stamp.number u
-            (λ v k. ok.waiting stamp.node v k) e) ok.waiting;
-        ended = set_small n a.ended stamp.node (max (ended_at a stamp.node) stamp.number)
-            (omega arith) ok.ended;
-        last = (let k = ok.last in omega arith);
-      } in
+            (λ u. drop_bounded (waiting_at a stamp.node) stamp.number u (ok.waiting stamp.node))
+            ok.waiting,
+        set_at IsU64 a.ended stamp.node (max (ended_at a stamp.node) stamp.number) 0 (omega arith)
+            ok.ended,
+      ) in
       cond_case (λ d. BoundedArbiterDone n d) (is_up_to a.lock stamp) (grant (unlocking x))
       (becoming x)
       (λ _. grant_bounded (unlocking x)
-      (record {
-        count = mid.count;
-        lock = no_lock_bounded;
-        granted = mid.granted;
-        waiting = mid.waiting;
-        ended = mid.ended;
-        last = mid.last;
-      })) (λ _. quietly_bounded x mid)
+      (search (none_held (BoundedLock n)))) (λ _. quietly_bounded x mid)

@@ -1,21 +1,20 @@
 -- Each row keeps each number a u64 value, and each name a node.
-use Rattle.std.proofs.Common.{ℕ, zero, suc, ◌<◌, ◌≤◌, ◌^◌, ◌≡◌, None, get_or, replicate, sym, ◌∙◌, arith}
+use Rattle.std.proofs.Common.{ℕ, zero, suc, ◌<◌, ◌≤◌, ◌^◌, ◌≡◌, get_or, replicate, arith}
 use Rattle.mx_stamps.specs.declared.stamp.Stamp.{Stamp}
-use Rattle.mx_stamps.proofs.Lists.{none_is_no_some, get_or_replicate}
 use Rattle.mx_stamps.proofs.Choices.{cond_case}
 use Rattle.mx_stamps.specs.Numbers.{last_number}
 use Rattle.mx_letters.specs.declared.maekawa.MaekawaMsg.{MaekawaMsg}
 use Rattle.mx_letters.specs.declared.maekawa.MaekawaMsg.TheVariants.{Request, Locked, Failed, Inquire, Relinquish, Release}
 use Rattle.mx_nodelaws.specs.World.{Done, becoming}
-use Rattle.mx_nodelaws.proofs.Bounds.{nil, both}
-use Rattle.mx_nodelaws.specs.Bounds.{IsU64, IsBoundedDone}
+use Rattle.mx_nodelaws.proofs.Bounds.{nil, both, none_held, none_at}
+use Rattle.mx_nodelaws.specs.Bounds.{IsU64, BoundedStamp, IsBoundedDone}
 use Rattle.mx_quorums.specs.Family.{Family, IsMeeting}
 use Rattle.mx_maekawa.specs.Node.{RequesterState, ArbiterState, Node}
 use Rattle.mx_maekawa.specs.RequesterStep.{asked, take_locked, take_failed, take_inquire, entering, ended, request_again}
 use Rattle.mx_maekawa.specs.Step.{by_requester, by_arbiter, start_of, tick_of, seeing, is_answer, is_call, deliver_of}
 use Rattle.mx_maekawa.specs.ArbiterStep.{lock_letter, take_request, take_relinquish, take_release}
-use Rattle.mx_maekawa.specs.Good.{BoundedLetter, BoundedRequester, BoundedNode}
-use Rattle.mx_maekawa.specs.laws.RequesterBounds.{BoundedRequesterDone, cleared_small, asked_bounded, locked_bounded, failed_bounded, inquire_bounded, entering_bounded, ended_bounded, again_bounded}
+use Rattle.mx_maekawa.specs.Good.{BoundedLetter, BoundedRequester, BoundedLock, BoundedNode}
+use Rattle.mx_maekawa.specs.laws.RequesterBounds.{BoundedRequesterDone, asked_bounded, locked_bounded, failed_bounded, inquire_bounded, entering_bounded, ended_bounded, again_bounded}
 use Rattle.mx_maekawa.specs.laws.ArbiterBounds as arbiter
 
 -- a step after which each number is a u64 value, and each name a node
@@ -37,22 +36,7 @@ module _ (n : ℕ) (s : Node) (ok : BoundedNode n s) where
   ignored = record { state = ok; letters = nil BoundedLetter n }
 
   saw : (number : ℕ) → IsU64 number → BoundedRequester n (seeing s number).requester
-  saw number small = record {
-    me = ok.requester.me;
-    own = ok.requester.own;
-    count = ok.requester.count;
-    limit = ok.requester.limit;
-    phase = ok.requester.phase;
-    highest =
-        (let k = ok.requester.highest in omega arith);
-    issued = ok.requester.issued;
-    ours = ok.requester.ours;
-    held = ok.requester.held;
-    back = ok.requester.back;
-    remembered = ok.requester.remembered;
-    top = ok.requester.top;
-    mine = ok.requester.mine;
-  }
+  saw number small = search arith
 
   pub ask_done : s.requester.highest < last_number
       → BoundedDone {A = Stamp} n (by_requester s (asked s.requester))
@@ -110,35 +94,25 @@ module _ (n : ℕ) (s : Node) (ok : BoundedNode n s) where
         (arbiter.lock_letter_bounded n s.arbiter.lock ok.arbiter.lock);
   }
 
-small_or_zero : (origin k a x : ℕ) → IsU64 origin → get_or (replicate k origin) a 0 ≡ x → IsU64 x
-small_or_zero origin zero a x small h = omega arith
-small_or_zero origin (suc k) zero x small h = omega arith
-small_or_zero origin (suc k) (suc a) x small h = small_or_zero origin k a x small h
+small_or_zero : (origin k : ℕ) → IsU64 origin → (a x : ℕ) → get_or (replicate k origin) a 0 ≡ x
+    → IsU64 x
+small_or_zero origin zero small a x h = omega arith
+small_or_zero origin (suc k) small zero x h = omega arith
+small_or_zero origin (suc k) small (suc a) x h = small_or_zero origin k small a x h
 
 pub start_node : (shape : Family) (origin limit i : ℕ) → IsMeeting shape → origin < 2 ^ 64
     → limit ≤ 1000000 → i < shape.count → BoundedNode shape.count (start_of shape i origin limit)
 start_node shape origin limit i valid small high lt = record {
-  requester = record {
-    me = lt;
-    own = λ a own. valid.nodes i a lt own;
-    count = omega arith;
-    limit = omega arith;
-    phase = tt;
-    highest = small;
-    issued = small;
-    ours = (omega arith, lt);
-    held = cleared_small shape.count;
-    back = λ a x h. small_or_zero origin 21 a x small h;
-    remembered = cleared_small shape.count;
-    top = omega arith;
-    mine = omega arith;
-  };
-  arbiter = record {
-    count = omega arith;
-    lock = λ l h. absurd (none_is_no_some l h);
-    granted = small;
-    waiting = λ j u h. absurd (none_is_no_some u (sym (get_or_replicate 21 j None) ∙ h));
-    ended = λ j x h. small_or_zero origin 21 j x small h;
-    last = omega arith;
-  };
+  requester = search (
+    arith,
+    (λ (a : ℕ). valid.nodes i a lt),
+    none_at IsU64 21,
+    small_or_zero origin 21 small,
+  );
+  arbiter = search (
+    arith,
+    none_held (BoundedLock shape.count),
+    none_at (BoundedStamp shape.count) 21,
+    small_or_zero origin 21 small,
+  );
 }

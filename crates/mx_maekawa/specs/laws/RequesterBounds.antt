@@ -1,14 +1,12 @@
 -- The requester's rows keep each number a u64 value, and each name a node.
-use Rattle.std.proofs.Common.{ℕ, zero, suc, ◌<◌, ◌≤◌, ◌+◌, ◌≡◌, inl, inr, not, ◌&&◌, List, [], ◌∷◌, Option, Some, None, max, slice_set, get_or, replicate, nat_eq, nat_lt, refl, sym, ◌∙◌, subst, arith}
-use Rattle.std.proofs.lemmas.Option.{same_Some}
+use Rattle.std.proofs.Common.{[], ℕ, zero, suc, ◌<◌, ◌≤◌, ◌≡◌, not, ◌&&◌, ◌∷◌, Option, Some, None, max, nat_eq, nat_lt, refl, sym, subst, arith}
 use Rattle.mx_stamps.specs.declared.stamp.Stamp.{Stamp}
-use Rattle.mx_stamps.proofs.Lists.{none_is_no_some, get_or_after, get_or_replicate}
 use Rattle.mx_stamps.proofs.Choices.{and_true, cond_case}
 use Rattle.mx_stamps.specs.Numbers.{last_number}
 use Rattle.mx_letters.specs.declared.maekawa.MaekawaMsg.{MaekawaMsg}
 use Rattle.mx_letters.specs.declared.maekawa.MaekawaMsg.TheVariants.{Request, Relinquish, Release}
 use Rattle.mx_nodelaws.specs.World.{becoming, addressed}
-use Rattle.mx_nodelaws.proofs.Bounds.{nil, one, both}
+use Rattle.mx_nodelaws.proofs.Bounds.{nil, one, both, none_held, one_held, none_at, put_at, set_at}
 use Rattle.mx_nodelaws.proofs.Worlds.{in_addressed}
 use Rattle.mx_nodelaws.specs.Phases.{is_waiting}
 use Rattle.mx_nodelaws.specs.Bounds.{IsU64, BoundedStamp, AreBounded, IsBoundedDone}
@@ -23,38 +21,6 @@ abbrev pub BoundedRequesterDone : {A : Type 0} → ℕ → RequesterDone A → T
 BoundedRequesterDone n did = IsBoundedDone BoundedRequester BoundedLetter n did
 
 module _ (n : ℕ) where
-  -- numbers at the places of a list
-
-  pub set_small : (xs : List ℕ) (b v : ℕ) → IsU64 v → ((a x : ℕ) → get_or xs a 0 ≡ x → IsU64 x)
-      → (a x : ℕ) → get_or (slice_set xs b v) a 0 ≡ x → IsU64 x
-  set_small xs b v small ok a x h = elim
-      (get_or_after xs b a v 0 x h) [
-        | inl p ↦ subst (λ y. IsU64 y) p.1 small
-        | inr old ↦
-            ok a x old
-      ]
-
-  emptied_small : (xs : List (Option ℕ)) (b : ℕ) → ((a g : ℕ) → get_or xs a None ≡ Some g → IsU64 g)
-      → (a g : ℕ) → get_or (slice_set xs b None) a None ≡ Some g → IsU64 g
-  emptied_small xs b ok a g h = elim (get_or_after xs b a None None (Some g) h) [
-    | inl p ↦
-        absurd (none_is_no_some g p.1)
-    | inr old ↦ ok a g old
-  ]
-
-  put_small : (xs : List (Option ℕ)) (b v : ℕ) → IsU64 v
-      → ((a g : ℕ) → get_or xs a None ≡ Some g → IsU64 g) → (a g : ℕ)
-      → get_or (slice_set xs b (Some v)) a None ≡ Some g → IsU64 g
-  put_small xs b v small ok a g h = elim
-      (get_or_after xs b a (Some v) None (Some g) h) [
-        | inl p ↦
-            subst (λ y. IsU64 y) (same_Some v g p.1) small
-        | inr old ↦ ok a g old
-      ]
-
-  pub cleared_small : (a g : ℕ) → get_or (replicate 21 None) a None ≡ Some g → IsU64 g
-  cleared_small a g h = absurd (none_is_no_some g (sym (get_or_replicate 21 a None) ∙ h))
-
   -- Fail
 
   giving_bounded : (o : Option ℕ) (r : RequesterState) (b : ℕ) → remembered_at r b ≡ o → b < n
@@ -62,21 +28,11 @@ module _ (n : ℕ) where
   giving_bounded None r b is lt ok = record { state = ok; letters = nil BoundedLetter n }
   giving_bounded (Some g) r b is lt ok =
       let small = ok.remembered b g is in record {
-        state = record {
-          me = ok.me;
-          own = ok.own;
-          count = ok.count;
-          limit = ok.limit;
-          phase = ok.phase;
-          highest = ok.highest;
-          issued = ok.issued;
-          ours = ok.ours;
-          held = emptied_small r.held b ok.held;
-          back = set_small r.back b g small ok.back;
-          remembered = emptied_small r.remembered b ok.remembered;
-          top = ok.top;
-          mine = ok.mine;
-        };
+        state = search (
+          put_at IsU64 r.held b None (none_held IsU64) ok.held,
+          put_at IsU64 r.remembered b None (none_held IsU64) ok.remembered,
+          set_at IsU64 r.back b g 0 small ok.back,
+        );
         letters = one BoundedLetter n b (Relinquish r.ours g) lt (ok.ours, small);
       }
 
@@ -95,22 +51,7 @@ module _ (n : ℕ) where
 
   fail_bounded : (a : ℕ) (r : RequesterState) → BoundedRequester n r
       → BoundedRequesterDone {A = Unit {0}} n (fail a r)
-  fail_bounded a r ok = give_bounded r.count (failing r a) ok.count
-      (record {
-        me = ok.me;
-        own = ok.own;
-        count = ok.count;
-        limit = ok.limit;
-        phase = ok.phase;
-        highest = ok.highest;
-        issued = ok.issued;
-        ours = ok.ours;
-        held = ok.held;
-        back = ok.back;
-        remembered = ok.remembered;
-        top = ok.top;
-        mine = ok.mine;
-      })
+  fail_bounded a r ok = give_bounded r.count (failing r a) ok.count search
 
   -- ask
 
@@ -125,21 +66,7 @@ module _ (n : ℕ) where
       → BoundedRequesterDone {A = Stamp} n (asked r)
   asked_bounded r lt ok =
       let ours : BoundedStamp n (asking r).ours = (omega arith, ok.me) in record {
-        state = record {
-          me = ok.me;
-          own = ok.own;
-          count = ok.count;
-          limit = ok.limit;
-          phase = tt;
-          highest = omega arith;
-          issued = omega arith;
-          ours = ours;
-          held = cleared_small;
-          back = ok.back;
-          remembered = cleared_small;
-          top = ok.top;
-          mine = ok.mine;
-        };
+        state = search (arith, none_at IsU64 21);
         letters = to_own_bounded r (Request (asking r).ours) ok ours;
       }
 
@@ -170,22 +97,10 @@ module _ (n : ℕ) where
       (λ _. cond_case P (nat_lt (back_at r a) g) (becoming (holding r a g c))
       (saying r a (Relinquish stamp g))
       (λ _. record {
-        state = record {
-          me = ok.me;
-          own = ok.own;
-          count = ok.count;
-          limit = ok.limit;
-          phase = ok.phase;
-          highest = ok.highest;
-          issued = ok.issued;
-          ours = ok.ours;
-          held = put_small r.held a g small ok.held;
-          back = ok.back;
-          remembered = ok.remembered;
-          top =
-              (let k = ok.top in omega arith);
-          mine = ok.mine;
-        };
+        state = search (
+          arith,
+          put_at IsU64 r.held a (Some g) (λ x. one_held IsU64 g x small) ok.held,
+        );
         letters = nil BoundedLetter n;
       })
       (λ _. record {
@@ -211,21 +126,7 @@ module _ (n : ℕ) where
   missing_bounded a stamp g r lt bounded small ok =
       let was : IsU64 (back_at r a) = ok.back a (back_at r a) refl in
       let mid : BoundedRequester n (declining r a g) =
-      record {
-        me = ok.me;
-        own = ok.own;
-        count = ok.count;
-        limit = ok.limit;
-        phase = ok.phase;
-        highest = ok.highest;
-        issued = ok.issued;
-        ours = ok.ours;
-        held = ok.held;
-        back = set_small r.back a (max (back_at r a) g) (omega arith) ok.back;
-        remembered = ok.remembered;
-        top = ok.top;
-        mine = ok.mine;
-      } in
+      search (set_at IsU64 r.back a (max (back_at r a) g) 0 (omega arith) ok.back) in
       let second = fail_bounded a (declining r a g) mid in
       record {
         state = second.state;
@@ -241,39 +142,15 @@ module _ (n : ℕ) where
       cond_case (λ d. BoundedRequesterDone {A = Unit {0}} n d) (has_failed_below r r.count)
       (saying (giving_now r a g) a (Relinquish stamp g)) (becoming (remembering r a g))
       (λ _. record {
-        state = record {
-          me = ok.me;
-          own = ok.own;
-          count = ok.count;
-          limit = ok.limit;
-          phase = ok.phase;
-          highest = ok.highest;
-          issued = ok.issued;
-          ours = ok.ours;
-          held = emptied_small r.held a ok.held;
-          back = set_small r.back a g small ok.back;
-          remembered = ok.remembered;
-          top = ok.top;
-          mine = ok.mine;
-        };
+        state = search (
+          put_at IsU64 r.held a None (none_held IsU64) ok.held,
+          set_at IsU64 r.back a g 0 small ok.back,
+        );
         letters = one BoundedLetter n a (Relinquish stamp g) lt (bounded, small);
       })
       (λ _. record {
-        state = record {
-          me = ok.me;
-          own = ok.own;
-          count = ok.count;
-          limit = ok.limit;
-          phase = ok.phase;
-          highest = ok.highest;
-          issued = ok.issued;
-          ours = ok.ours;
-          held = ok.held;
-          back = ok.back;
-          remembered = put_small r.remembered a g small ok.remembered;
-          top = ok.top;
-          mine = ok.mine;
-        };
+        state = search (put_at IsU64 r.remembered a (Some g) (λ x. one_held IsU64 g x small)
+            ok.remembered);
         letters = nil BoundedLetter n;
       })
 
@@ -304,44 +181,14 @@ module _ (n : ℕ) where
 
   pub entering_bounded : (r : RequesterState) → r.top < r.limit → BoundedRequester n r
       → BoundedRequester n (entering r)
-  entering_bounded r lt ok =
-      let next : IsU64 (r.top + 1) = (let k = ok.limit in omega arith) in
-      record {
-        me = ok.me;
-        own = ok.own;
-        count = ok.count;
-        limit = ok.limit;
-        phase = next;
-        highest = ok.highest;
-        issued = ok.issued;
-        ours = ok.ours;
-        held = ok.held;
-        back = ok.back;
-        remembered = cleared_small;
-        top = next;
-        mine = next;
-      }
+  entering_bounded r lt ok = search (arith, none_at IsU64 21)
 
   -- leave and cancel
 
   pub ended_bounded : (r : RequesterState) → BoundedRequester n r
       → BoundedRequesterDone {A = Unit {0}} n (ended r)
   ended_bounded r ok = record {
-    state = record {
-      me = ok.me;
-      own = ok.own;
-      count = ok.count;
-      limit = ok.limit;
-      phase = tt;
-      highest = ok.highest;
-      issued = ok.issued;
-      ours = ok.ours;
-      held = cleared_small;
-      back = ok.back;
-      remembered = cleared_small;
-      top = ok.top;
-      mine = ok.mine;
-    };
+    state = search (none_at IsU64 21);
     letters = to_own_bounded r (Release r.ours r.top) ok (ok.ours, ok.top);
   }
 

@@ -1,19 +1,20 @@
 -- Each row keeps each number a u64 value, and each name a node, whatever else holds.
-use Rattle.std.proofs.Common.{ℕ, ◌<◌, ◌≤◌, ◌+◌, ◌^◌, ◌≡◌, inl, inr, not, ◌&&◌, List, [], ◌∷◌, Option, Some, None, nat_eq, nat_lt, refl, sym, subst, arith}
+use Rattle.std.proofs.Common.{ℕ, ◌<◌, ◌≤◌, ◌+◌, ◌^◌, ◌≡◌, inl, inr, not, ◌&&◌, List, [], ◌∷◌, Option, Some, None, nat_eq, nat_lt, refl, sym, subst, arith, get_or, replicate, true}
 use Rattle.mx_stamps.specs.declared.stamp.Stamp.{Stamp}
-use Rattle.mx_stamps.proofs.Lists.{none_is_no_some, get_or_after, get_or_replicate}
+use Rattle.mx_stamps.proofs.Lists.{get_or_replicate}
 use Rattle.mx_stamps.proofs.Choices.{cond_case}
 use Rattle.mx_stamps.specs.Numbers.{last_number}
 use Rattle.mx_letters.specs.declared.raymond.RaymondMsg.{RaymondMsg}
 use Rattle.mx_letters.specs.declared.raymond.RaymondMsg.TheVariants.{Request, Privilege, Got}
-use Rattle.mx_nodelaws.proofs.Bounds.{nil, one, both}
+use Rattle.mx_nodelaws.proofs.Bounds.{nil, one, both, none_held, set_at}
 use Rattle.mx_nodelaws.specs.Bounds.{IsU64, AreBounded}
 use Rattle.mx_nodelaws.specs.World.{answering, becoming}
 use Rattle.mx_trees.specs.Tree.{Rooted, IsRooted}
 use Rattle.mx_raymond.specs.declared.unacked.Unacked.{Unacked}
+use Rattle.mx_raymond.specs.Queue.{is_queued, joined, without}
 use Rattle.mx_raymond.specs.Node.{Node}
 use Rattle.mx_raymond.specs.Step.{NodeDone, start_of, is_holder, serving, asking, asked, privilege_again, take_holders_request, heard_from, queueing, take_others_request, take_request, holding, acknowledging, take_privilege, is_unacked, take_got, is_neighbour, deliver_of, entering, leaving, left, withdrawing, cancelled, request_again, tick_of}
-use Rattle.mx_raymond.specs.Good.{BoundedLetter, BoundedNode}
+use Rattle.mx_raymond.specs.Good.{BoundedLetter, BoundedUnacked, BoundedNode}
 use Rattle.mx_raymond.specs.laws.Tests.{queued_pushed, queued_joined, queued_without, queued_behind}
 use Rattle.mx_raymond.specs.laws.ServingBounds.{BoundedDone, serving_bounded}
 
@@ -24,24 +25,14 @@ module _ (n : ℕ) (s : Node) (ok : BoundedNode n s) where
   -- ask
 
   asking_bounded : s.asks < last_number → BoundedNode n (asking s)
-  asking_bounded low = record {
-    me = ok.me;
-    limit = ok.limit;
-    phase = tt;
-    holder = ok.holder;
-    queue = λ j h. elim (queued_pushed s.queue s.me j h) [
-      | inl old ↦ ok.queue j old
-      | inr e ↦
-          (let k = ok.me in omega arith)
-    ];
-    hop = ok.hop;
-    unacked = ok.unacked;
-    asks = omega arith;
-    sent = ok.sent;
-    heard = ok.heard;
-    top = ok.top;
-    mine = ok.mine;
-  }
+  asking_bounded low =
+      let queue : (j : ℕ) → is_queued (asking s).queue j ≡ true → j < n =
+      λ j h. elim (queued_pushed s.queue s.me j h) [
+        | inl old ↦ ok.queue j old
+        | inr e ↦
+            (let k = ok.me in omega arith)
+      ] in
+      search arith
 
   pub asked_bounded : s.asks < last_number → BoundedDone n (asked s)
   asked_bounded low =
@@ -57,33 +48,21 @@ module _ (n : ℕ) (s : Node) (ok : BoundedNode n s) where
   again_bounded (Some u) e =
       let p = ok.unacked u e in one BoundedLetter n u.to (Privilege u.hop u.last) p.0 (p.1, p.2)
 
-  heard_bounded : (from number j : ℕ) → IsU64 number → IsU64 (heard_from (queueing s from number) j)
-  heard_bounded from number j small =
-      elim (get_or_after s.heard from j number 0 (heard_from (queueing s from number) j) refl) [
-        | inl p ↦ subst (λ x. IsU64 x) p.1 small
-        | inr old ↦ subst (λ x. IsU64 x) old (ok.heard j)
-      ]
+  heard_bounded : (from number : ℕ) → IsU64 number → (j : ℕ)
+      → IsU64 (heard_from (queueing s from number) j)
+  heard_bounded from number small j = set_at IsU64 s.heard from number 0 small
+      (λ k x e. subst IsU64 e (ok.heard k)) j (heard_from (queueing s from number) j) refl
 
   queueing_bounded : (from number : ℕ) → from < n → IsU64 number
       → BoundedNode n (queueing s from number)
-  queueing_bounded from number lt small = record {
-    me = ok.me;
-    limit = ok.limit;
-    phase = ok.phase;
-    holder = ok.holder;
-    queue = λ j h. elim (queued_joined s.queue from j h) [
-      | inl old ↦ ok.queue j old
-      | inr e ↦
-          omega arith
-    ];
-    hop = ok.hop;
-    unacked = ok.unacked;
-    asks = ok.asks;
-    sent = ok.sent;
-    heard = λ j. heard_bounded from number j small;
-    top = ok.top;
-    mine = ok.mine;
-  }
+  queueing_bounded from number lt small =
+      let queue : (j : ℕ) → is_queued (joined s.queue from) j ≡ true → j < n =
+      λ j h. elim (queued_joined s.queue from j h) [
+        | inl old ↦ ok.queue j old
+        | inr e ↦
+            omega arith
+      ] in
+      search (heard_bounded from number small)
 
   request_bounded : (from number : ℕ) → from < n → IsU64 number
       → BoundedDone n (take_request from number s)
@@ -101,20 +80,7 @@ module _ (n : ℕ) (s : Node) (ok : BoundedNode n s) where
   -- a privilege
 
   holding_bounded : (hop last : ℕ) → IsU64 hop → IsU64 last → BoundedNode n (holding s hop last)
-  holding_bounded hop last p q = record {
-    me = ok.me;
-    limit = ok.limit;
-    phase = ok.phase;
-    holder = ok.me;
-    queue = ok.queue;
-    hop = p;
-    unacked = λ u e. absurd (none_is_no_some u e);
-    asks = ok.asks;
-    sent = ok.sent;
-    heard = ok.heard;
-    top = (let k = ok.top in omega arith);
-    mine = ok.mine;
-  }
+  holding_bounded hop last p q = search (arith, none_held (BoundedUnacked n))
 
   privilege_bounded : (from hop last : ℕ) → from < n → IsU64 hop → IsU64 last
       → BoundedDone n (take_privilege from hop last s)
@@ -137,20 +103,7 @@ module _ (n : ℕ) (s : Node) (ok : BoundedNode n s) where
       let first : NodeDone (Unit {0}) = becoming (record s { unacked = None }) in
       cond_case P (is_unacked s.unacked from hop) first (becoming s)
       (λ _. record {
-        state = record {
-          me = ok.me;
-          limit = ok.limit;
-          phase = ok.phase;
-          holder = ok.holder;
-          queue = ok.queue;
-          hop = ok.hop;
-          unacked = λ u e. absurd (none_is_no_some u e);
-          asks = ok.asks;
-          sent = ok.sent;
-          heard = ok.heard;
-          top = ok.top;
-          mine = ok.mine;
-        };
+        state = search (none_held (BoundedUnacked n));
         letters = nil BoundedLetter n;
       })
       (λ _. as_it_was)
@@ -173,38 +126,15 @@ module _ (n : ℕ) (s : Node) (ok : BoundedNode n s) where
   -- enter
 
   pub entering_bounded : s.top < s.limit → BoundedNode n (entering s)
-  entering_bounded lt = record {
-    me = ok.me;
-    limit = ok.limit;
-    phase = (let k = ok.limit in omega arith);
-    holder = ok.holder;
-    queue = λ j h. ok.queue j (queued_behind s.queue j h);
-    hop = ok.hop;
-    unacked = ok.unacked;
-    asks = ok.asks;
-    sent = ok.sent;
-    heard = ok.heard;
-    top = (let k = ok.limit in omega arith);
-    mine = (let k = ok.limit in omega arith);
-  }
+  entering_bounded lt =
+      let queue : (j : ℕ) → is_queued (entering s).queue j ≡ true → j < n =
+      λ j h. ok.queue j (queued_behind s.queue j h) in
+      search arith
 
   -- leave
 
   leaving_bounded : BoundedNode n (leaving s)
-  leaving_bounded = record {
-    me = ok.me;
-    limit = ok.limit;
-    phase = tt;
-    holder = ok.holder;
-    queue = ok.queue;
-    hop = ok.hop;
-    unacked = ok.unacked;
-    asks = ok.asks;
-    sent = ok.sent;
-    heard = ok.heard;
-    top = ok.top;
-    mine = ok.mine;
-  }
+  leaving_bounded = search
 
   pub left_bounded : BoundedDone n (left s)
   left_bounded =
@@ -214,20 +144,10 @@ module _ (n : ℕ) (s : Node) (ok : BoundedNode n s) where
   -- cancel
 
   withdrawing_bounded : BoundedNode n (withdrawing s)
-  withdrawing_bounded = record {
-    me = ok.me;
-    limit = ok.limit;
-    phase = tt;
-    holder = ok.holder;
-    queue = λ j h. ok.queue j (queued_without s.queue s.me j h).0;
-    hop = ok.hop;
-    unacked = ok.unacked;
-    asks = ok.asks;
-    sent = ok.sent;
-    heard = ok.heard;
-    top = ok.top;
-    mine = ok.mine;
-  }
+  withdrawing_bounded =
+      let queue : (j : ℕ) → is_queued (without s.queue s.me) j ≡ true → j < n =
+      λ j h. ok.queue j (queued_without s.queue s.me j h).0 in
+      search
 
   pub cancelled_bounded : BoundedDone n (cancelled s)
   cancelled_bounded =
@@ -257,17 +177,9 @@ module _ (n : ℕ) (s : Node) (ok : BoundedNode n s) where
 
 pub start_bounded : (tree : Rooted) (origin limit i : ℕ) → IsRooted tree → origin < 2 ^ 64
     → limit ≤ 1000000 → i < tree.count → BoundedNode tree.count (start_of tree i origin limit)
-start_bounded tree origin limit i valid small high lt = record {
-  me = lt;
-  limit = omega arith;
-  phase = tt;
-  holder = valid.toward_node i lt;
-  queue = λ j h. let bad : ⊥ = cc in absurd bad;
-  hop = small;
-  unacked = λ u h. absurd (none_is_no_some u h);
-  asks = omega arith;
-  sent = omega arith;
-  heard = λ j. subst (λ x. IsU64 x) (sym (get_or_replicate 21 j 0)) (omega arith);
-  top = omega arith;
-  mine = omega arith;
-}
+start_bounded tree origin limit i valid small high lt =
+    let queue : (j : ℕ) → is_queued [] j ≡ true → j < tree.count =
+    λ j h. let bad : ⊥ = cc in absurd bad in
+    let heard : (j : ℕ) → IsU64 (get_or (replicate 21 0) j 0) =
+    λ j. subst (λ x. IsU64 x) (sym (get_or_replicate 21 j 0)) (omega arith) in
+    search (arith, none_held (BoundedUnacked tree.count), valid.toward_node i lt)

@@ -1,14 +1,13 @@
 -- Assign and Make keep each number a u64 value, and each name a node.
-use Rattle.std.proofs.Common.{ℕ, ◌<◌, ◌+◌, ◌≡◌, Option, Some, None, refl, subst, arith}
-use Rattle.std.proofs.lemmas.Option.{same_Some}
+use Rattle.std.proofs.Common.{ℕ, ◌<◌, ◌+◌, ◌≡◌, Option, Some, None, true, refl, arith}
 use Rattle.mx_stamps.proofs.Choices.{cond_case}
 use Rattle.mx_stamps.specs.Numbers.{last_number}
 use Rattle.mx_letters.specs.declared.raymond.RaymondMsg.TheVariants.{Request, Privilege}
-use Rattle.mx_nodelaws.proofs.Bounds.{nil, one, both}
+use Rattle.mx_nodelaws.proofs.Bounds.{nil, one, both, one_held}
 use Rattle.mx_nodelaws.specs.Bounds.{IsBoundedDone}
 use Rattle.mx_nodelaws.specs.World.{becoming, and_then}
 use Rattle.mx_raymond.specs.declared.unacked.Unacked.{Unacked}
-use Rattle.mx_raymond.specs.Queue.{head_of}
+use Rattle.mx_raymond.specs.Queue.{head_of, is_queued}
 use Rattle.mx_raymond.specs.Node.{Node}
 use Rattle.mx_raymond.specs.Step.{NodeDone, can_pass, passed, assign_privilege_to, assign_privilege, must_request, requested, make_request, serving}
 use Rattle.mx_raymond.specs.Good.{BoundedLetter, BoundedUnacked, BoundedNode}
@@ -25,22 +24,14 @@ module _ (n : ℕ) where
   passed_bounded : (s : Node) (next : ℕ) → next < n → s.hop < last_number → BoundedNode n s
       → BoundedDone n (passed s next)
   passed_bounded s next lt low ok = record {
-    state = record {
-      me = ok.me;
-      limit = ok.limit;
-      phase = ok.phase;
-      holder = lt;
-      queue = λ j h. ok.queue j (queued_behind s.queue j h);
-      hop = omega arith;
-      unacked = λ u e. subst (λ x. BoundedUnacked n x)
-          (same_Some {A = Unacked} (record { to = next; hop = s.hop + 1; last = s.top }) u e)
-          (lt, omega arith, ok.top);
-      asks = ok.asks;
-      sent = ok.sent;
-      heard = ok.heard;
-      top = ok.top;
-      mine = ok.mine;
-    };
+    state =
+        let sent : Unacked = record { to = next; hop = s.hop + 1; last = s.top } in
+        let queue : (j : ℕ) → is_queued (passed s next).state.queue j ≡ true → j < n =
+        λ j h. ok.queue j (queued_behind s.queue j h) in
+        search (
+          arith,
+          (λ (u : Unacked). one_held (BoundedUnacked n) sent u (lt, omega arith, ok.top)),
+        );
     letters = one BoundedLetter n next (Privilege (s.hop + 1) s.top) lt (omega arith, ok.top);
   }
 
@@ -60,20 +51,7 @@ module _ (n : ℕ) where
   requested_bounded : (s : Node) → s.sent < last_number → BoundedNode n s
       → BoundedDone n (requested s)
   requested_bounded s low ok = record {
-    state = record {
-      me = ok.me;
-      limit = ok.limit;
-      phase = ok.phase;
-      holder = ok.holder;
-      queue = ok.queue;
-      hop = ok.hop;
-      unacked = ok.unacked;
-      asks = ok.asks;
-      sent = omega arith;
-      heard = ok.heard;
-      top = ok.top;
-      mine = ok.mine;
-    };
+    state = search arith;
     letters = one BoundedLetter n s.holder (Request (s.sent + 1)) ok.holder (omega arith);
   }
 

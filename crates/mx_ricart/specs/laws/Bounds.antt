@@ -1,9 +1,7 @@
 -- Each row keeps each number a u64 value and each name a node, whatever else holds.
-use Rattle.std.proofs.Common.{ℕ, ◌<◌, ◌≤◌, ◌+◌, ◌^◌, ◌≡◌, inl, inr, Bool, cond, not, ◌&&◌, ◌||◌, Option, Some, None, max, slice_set, get_or, nat_eq, refl, sym, ◌∙◌, subst, arith}
-use Rattle.std.proofs.lemmas.Option.{same_Some}
+use Rattle.std.proofs.Common.{ℕ, ◌<◌, ◌≤◌, ◌^◌, ◌≡◌, Bool, cond, not, ◌&&◌, ◌||◌, Option, Some, None, max, nat_eq, refl, sym, subst, arith}
 use Rattle.mx_stamps.specs.declared.stamp.Stamp.{Stamp}
 use Rattle.mx_stamps.specs.Stamp.{is_before_of, is_same_as}
-use Rattle.mx_stamps.proofs.Lists.{get_or_after, get_or_replicate, none_is_no_some}
 use Rattle.mx_stamps.proofs.Choices.{cond_case}
 use Rattle.mx_stamps.specs.Numbers.{last_number}
 use Rattle.mx_letters.specs.declared.ricart.RicartMsg.{RicartMsg}
@@ -12,7 +10,7 @@ use Rattle.mx_nodelaws.specs.World.{Done, becoming, addressed}
 use Rattle.mx_nodelaws.specs.Phases.{is_busy, is_waiting}
 use Rattle.mx_nodelaws.specs.Bounds.{IsU64, BoundedStamp, AreBounded, IsBoundedDone}
 use Rattle.mx_nodelaws.proofs.Worlds.{in_addressed}
-use Rattle.mx_nodelaws.proofs.Bounds.{nil, one}
+use Rattle.mx_nodelaws.proofs.Bounds.{nil, one, none_at, one_held, put_at}
 use Rattle.mx_nodelaws.proofs.Sent.{sent_unless}
 use Rattle.mx_ricart.specs.Node.{Node}
 use Rattle.mx_ricart.specs.Step.{IsCount, start_of, is_other, has_reply, deferred_at, asking, asked, seeing, later_of, deferring, replied, take_request, counting, take_reply, deliver_of, entering, reply_deferred, ended, ticked, tick_of}
@@ -41,41 +39,26 @@ module _ (n : ℕ) (s : Node) (ok : BoundedNode n s) where
 
   pub asked_bounded : s.highest < last_number → BoundedDone n (asked s)
   asked_bounded lt = record {
-    state = record {
-      me = ok.me;
-      count = ok.count;
-      limit = ok.limit;
-      phase = tt;
-      highest = omega arith;
-      ours = (omega arith, ok.me);
-      waits = ok.waits;
-      top = ok.top;
-      mine = ok.mine;
-    };
+    state = search arith;
     letters = requests_bounded (asking s).ours (omega arith, ok.me) (λ j. nat_eq j s.me);
   }
 
   -- a request comes
 
-  later_bounded : (o : Option Stamp) (stamp d : Stamp)
-      → ((u : Stamp) → o ≡ Some u → BoundedStamp n u) → BoundedStamp n stamp → later_of o stamp ≡ d
-      → BoundedStamp n d
-  later_bounded None stamp d old bounded is = subst (λ x. BoundedStamp n x) is bounded
-  later_bounded (Some u) stamp d old bounded is =
-      subst (λ x. BoundedStamp n x) is (cond_case (λ x. BoundedStamp n x)
-      (is_before_of u stamp) stamp u (λ _. bounded) (λ _. old u refl))
+  later_bounded : (o : Option Stamp) (stamp : Stamp)
+      → ((u : Stamp) → o ≡ Some u → BoundedStamp n u) → BoundedStamp n stamp
+      → BoundedStamp n (later_of o stamp)
+  later_bounded None stamp old bounded = bounded
+  later_bounded (Some u) stamp old bounded = cond_case (BoundedStamp n) (is_before_of u stamp)
+      stamp u (λ _. bounded) (λ _. old u refl)
 
   waits_bounded : (stamp : Stamp) → BoundedStamp n stamp → (j : ℕ) (d : Stamp)
-      → get_or (slice_set s.deferred stamp.node
-      (Some (later_of (deferred_at s stamp.node) stamp))) j None ≡ Some d → BoundedStamp n d
-  waits_bounded stamp bounded j d was =
-      elim (get_or_after s.deferred stamp.node j
-      (Some (later_of (deferred_at s stamp.node) stamp)) None (Some d) was) [
-        | inl p ↦ later_bounded (deferred_at s stamp.node) stamp d
-            (λ u h. ok.waits stamp.node u h) bounded
-            (same_Some (later_of (deferred_at s stamp.node) stamp) d p.1)
-        | inr q ↦ ok.waits j d q
-      ]
+      → deferred_at (deferring s stamp) j ≡ Some d → BoundedStamp n d
+  waits_bounded stamp bounded =
+      let later = later_of (deferred_at s stamp.node) stamp in
+      put_at (BoundedStamp n) s.deferred stamp.node (Some later)
+      (λ d. one_held (BoundedStamp n) later d
+      (later_bounded (deferred_at s stamp.node) stamp (ok.waits stamp.node) bounded)) ok.waits
 
   request_bounded : (stamp : Stamp) → BoundedStamp n stamp
       → BoundedDone {A = Unit {0}} n (take_request s stamp)
@@ -86,31 +69,11 @@ module _ (n : ℕ) (s : Node) (ok : BoundedNode n s) where
       (becoming (deferring (seeing s stamp.number) stamp))
       (replied (seeing s stamp.number) stamp)
       (λ _. record {
-        state = record {
-          me = ok.me;
-          count = ok.count;
-          limit = ok.limit;
-          phase = ok.phase;
-          highest = seen;
-          ours = ok.ours;
-          waits = waits_bounded stamp bounded;
-          top = ok.top;
-          mine = ok.mine;
-        };
+        state = search (arith, waits_bounded stamp bounded);
         letters = nil BoundedLetter n;
       })
       (λ _. record {
-        state = record {
-          me = ok.me;
-          count = ok.count;
-          limit = ok.limit;
-          phase = ok.phase;
-          highest = seen;
-          ours = ok.ours;
-          waits = ok.waits;
-          top = ok.top;
-          mine = ok.mine;
-        };
+        state = search arith;
         letters = one BoundedLetter n stamp.node (Reply stamp s.top) bounded.1 (bounded, ok.top);
       })
 
@@ -123,17 +86,7 @@ module _ (n : ℕ) (s : Node) (ok : BoundedNode n s) where
       (is_waiting s.phase && (is_same_as stamp s.ours && not (has_reply s from)))
       (becoming (counting s from top)) (becoming s)
       (λ _. record {
-        state = record {
-          me = ok.me;
-          count = ok.count;
-          limit = ok.limit;
-          phase = ok.phase;
-          highest = ok.highest;
-          ours = ok.ours;
-          waits = ok.waits;
-          top = (let k = ok.top in omega arith);
-          mine = ok.mine;
-        };
+        state = search arith;
         letters = nil BoundedLetter n;
       })
       (λ _. as_was)
@@ -152,36 +105,13 @@ module _ (n : ℕ) (s : Node) (ok : BoundedNode n s) where
   -- enter
 
   pub entering_bounded : s.top < s.limit → BoundedNode n (entering s)
-  entering_bounded lt =
-      let small : IsU64 (s.top + 1) = (let k = ok.limit in omega arith) in
-      record {
-        me = ok.me;
-        count = ok.count;
-        limit = ok.limit;
-        phase = small;
-        highest = ok.highest;
-        ours = ok.ours;
-        waits = ok.waits;
-        top = small;
-        mine = small;
-      }
+  entering_bounded lt = search arith
 
   -- leave and cancel
 
   pub ended_bounded : BoundedDone n (ended s)
   ended_bounded = record {
-    state = record {
-      me = ok.me;
-      count = ok.count;
-      limit = ok.limit;
-      phase = tt;
-      highest = ok.highest;
-      ours = ok.ours;
-      waits = λ j d was. absurd
-          (none_is_no_some d (sym (get_or_replicate 21 j None) ∙ was));
-      top = ok.top;
-      mine = ok.mine;
-    };
+    state = search (none_at (BoundedStamp n) 21);
     letters = λ b m sent.
         let r = in_addressed (reply_deferred s) s.count b m sent in
         let q = sent_reply (deferred_at s b) s.top m r.1 in
@@ -203,14 +133,5 @@ module _ (n : ℕ) (s : Node) (ok : BoundedNode n s) where
 
 pub start_bounded : (count origin limit i : ℕ) → IsCount count → origin < 2 ^ 64 → limit ≤ 1000000
     → i < count → BoundedNode count (start_of count i origin limit)
-start_bounded count origin limit i valid small high lt = record {
-  me = lt;
-  count = omega arith;
-  limit = omega arith;
-  phase = tt;
-  highest = small;
-  ours = (omega arith, lt);
-  waits = λ j d was. absurd (none_is_no_some d (sym (get_or_replicate 21 j None) ∙ was));
-  top = omega arith;
-  mine = omega arith;
-}
+start_bounded count origin limit i valid small high lt =
+    search (arith, none_at (BoundedStamp count) 21)
