@@ -1,6 +1,6 @@
 -- The requester's rows of the step table. Each says which part of it is published (Maekawa 1985)
 -- and which is added here.
-use Rattle.std.specs.Prelude.{ℕ, zero, suc, ◌+◌, ◌<◌, ◌≡◌, Bool, true, false, ◌||◌, ◌&&◌, not, List, [], ◌∷◌, ◌++◌, Option, Some, None, Result, max, nat_lt, nat_eq, if◌then◌else◌, slice_index_or, slice_set, replicate}
+use Rattle.std.specs.Prelude.{ℕ, zero, suc, ◌+◌, ◌<◌, ◌≡◌, Bool, true, false, ◌||◌, ◌&&◌, not, List, [], ◌∷◌, Option, Some, None, Result, max, nat_lt, nat_eq, if◌then◌else◌, slice_index_or, slice_set, replicate}
 use Rattle.mx_stamps.specs.declared.limits.TheConstants.{MAX_NODES}
 use Rattle.mx_stamps.specs.declared.stamp.Stamp.{Stamp}
 use Rattle.mx_stamps.specs.Stamp.{is_same_as}

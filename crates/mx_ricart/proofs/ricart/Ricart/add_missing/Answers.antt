@@ -1,5 +1,4 @@
 use Rattle.std.proofs.Common.{◌≡◌, ◌∙◌, sym, true}
-use Rattle.mx_ricart.specs.Knows.{missing_of}
 use Rattle.mx_ricart.specs.Step.{has_all_replies}
 use Rattle.mx_ricart.proofs.ricart.Ricart.add_missing.Goals as goal
 
