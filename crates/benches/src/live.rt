@@ -1,6 +1,8 @@
 //! Times stations in threads, one for each node, over a network that loses nothing. Measures how
 //! long they take to enter a given number of sections in all, and how many parcels that takes.
 
+ghost use Rattle.std.specs.Prelude.{◌<◌};
+
 use crate::shapes::{LIMIT, binary_tree, count_of, quorums_of};
 use anyhow::{Result, bail};
 use mx_jobs::{Host, StartGate};
@@ -59,6 +61,15 @@ fn total(numbers: &[u64]) -> u64 {
     sum
 }
 
+fn nodes_of<C: Exclusion>(stations: &[Station<C>]) -> u8
+    ensures { result < 22 }
+{
+    match stations.first() {
+        Some(station) => station.nodes(),
+        None => 1,
+    }
+}
+
 fn run_nodes<C: Exclusion + Send + 'static, R: Host>(
     rt: &R,
     stations: Vec<Station<C>>,
@@ -68,7 +79,7 @@ where
     C::Msg: Send + 'static,
     C::Shape: Send + 'static,
 {
-    let meeting = StartGate::new(*rt, stations.len() as u8, 100_000_000);
+    let meeting = StartGate::new(*rt, nodes_of(stations.as_slice()), 100_000_000);
     let parcels = AtomicU64::new(0);
     let each = thread::map_vec(
         rt,

@@ -15,7 +15,7 @@ use std::alloc::AllocError;
 use std::io;
 use std::io::{BufWriter, IsTerminal, Write};
 use std::process::ExitCode;
-use std::rt::{Clock, Env, Files};
+use std::rt::{Env, Files};
 
 fn carry_out<R: Files + Input + AllocGlobal + Host, O: Output, E: Output>(
     rt: &R,
