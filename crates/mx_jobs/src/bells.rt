@@ -163,7 +163,8 @@ impl<R: Wait + Clock> Bells<R> {
             if pause.is_brief {
                 return self.rise(bit);
             }
-            self.let_tick(self.stillness.who_ticks(self.everyone));
+            let gone = self.gone.load(Ordering::SeqCst);
+            self.let_tick(self.stillness.who_ticks(self.everyone & !gone));
         }
         if let Some(bed) = self.beds.get(node.get() as usize)
             && !bed.spin.finds(&self.rt, &self.calls, bit << RUNG)
