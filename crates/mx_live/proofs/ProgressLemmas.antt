@@ -37,6 +37,6 @@ more_told shown count (Ok done) a b c told on wrote kept = (
 pub tells_none : (asked : Bool) (held : Held) → TellsProgress asked held held
 tells_none asked held = (0, (([], omega arith, Appends-nil held), λ not. refl))
 
--- what was asked for is told
+-- lines that were requested
 pub tells_some : (asked : Bool) (old new : Held) → asked ≡ true → (shown : ℕ) × Progresses shown old new → TellsProgress asked old new
 tells_some asked old new is told = (told.0, (told.1, λ not. absurd (let wrong : true ≡ false = sym is ∙ not in cc)))

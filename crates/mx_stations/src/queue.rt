@@ -28,7 +28,7 @@ pub(crate) fn store_up<M: Copy + Default>(waiting: &mut Waiting<M>, out: &Outbox
     }
 }
 
-/// Exchanges the parcel at `index` with the one at `kept`, which is none of those behind it.
+/// Swaps the parcel at `index` with the one at `kept`, which is not greater.
 pub(crate) fn bring_forward<M: Copy + Default>(waiting: &mut Waiting<M>, index: usize, kept: usize)
     requires within { index < length waiting.old.items }
     requires low { kept ≤ index }

@@ -33,7 +33,7 @@ pub struct Station<C: Exclusion> {
     pub(crate) waiting: Waiting<C::Msg>,
     /// The nodes for which parcels were put out since the last turn began.
     pub(crate) put_to: NodeSet,
-    /// The nodes of which parcels were taken since the last turn began.
+    /// The nodes whose parcels were taken since the last turn began.
     pub(crate) took_from: NodeSet,
 }
 

@@ -192,7 +192,7 @@ impl<C: Exclusion> Station<C> {
         Ok(report)
     }
 
-    /// Forgets for which nodes parcels were put out, and of which they were taken.
+    /// Forgets which nodes parcels were put out for, and whose parcels were taken.
     fn forget_moves(&mut self)
         ensures { self.new ≡ self.old }
     {
