@@ -39,9 +39,9 @@ module _ {H S M : Type 0} (core : Core H S M) (IsShape : H → Type 0) (Good : W
       by : (a : Act M) → Arrives (length members) sent i a → Grows sent i (act_of core a m).letters grown → Keeps core IsShape Good phases laws w (told i a (act_of core a m).answer) (act_of core a m).state grown
       by act.Ask arrives grows = ask_kept core IsShape Good phases laws w grown grows
       by act.Enter arrives grows = enter_kept core IsShape Good phases laws w grown (core.enter m.core).answer refl grows
-      by (act.Read register) arrives grows = read_kept core IsShape Good phases laws w register grown (core.phase m.core) refl grows
-      by (act.Write register value) arrives grows = write_kept core IsShape Good phases laws w register value grown (core.phase m.core) refl grows
-      by act.Leave arrives grows = leave_kept core IsShape Good phases laws w grown (core.phase m.core) refl grows
+      by (act.Read register) arrives grows = read_kept core IsShape Good phases laws w register grown grows
+      by (act.Write register value) arrives grows = write_kept core IsShape Good phases laws w register value grown grows
+      by act.Leave arrives grows = leave_kept core IsShape Good phases laws w grown grows
       by act.Cancel arrives grows = cancel_kept core IsShape Good phases laws w grown grows
       by (act.Settle k) arrives grows = settle_kept core IsShape Good phases laws w k grown grows
       by act.Tick arrives grows = tick_kept core IsShape Good phases laws w grown grows
@@ -67,14 +67,5 @@ taken core Good ss members sent i from parcel m sound at was = (
 -- so a member can do whatever arrives
 pub doable : {H S M : Type 0} (core : Core H S M) (Good : World S M → Type 0) (ss : List Section) (members : List (MemberState S)) (sent : List (ℕ × ℕ × Parcel M)) (i : ℕ) (a : Act M) (m : MemberState S) →
     IsSound core Good ss members sent → IsMember members i m → Arrives (length members) sent i a → IsDoable a m
-doable core Good ss members sent i act.Ask m sound at arrives = tt
-doable core Good ss members sent i act.Enter m sound at arrives = tt
-doable core Good ss members sent i (act.Read register) m sound at arrives = tt
-doable core Good ss members sent i (act.Write register value) m sound at arrives = tt
-doable core Good ss members sent i act.Leave m sound at arrives = tt
-doable core Good ss members sent i act.Cancel m sound at arrives = tt
-doable core Good ss members sent i (act.Settle k) m sound at arrives = tt
-doable core Good ss members sent i act.Tick m sound at arrives = tt
-doable core Good ss members sent i (act.Want to) m sound at arrives = tt
 doable core Good ss members sent i (act.Deliver from parcel) m sound at arrives = taken core Good ss members sent i from parcel m sound at arrives
-doable core Good ss members sent i act.Restart m sound at arrives = tt
+doable core Good ss members sent i _ m sound at arrives = tt

@@ -1,43 +1,35 @@
 -- Each call of one member fits the sections so far, and leaves a sound world of the sections after it.
-use Rattle.std.proofs.Common.{ℕ, ◌<◌, ◌≡◌, ◌↔◌, inl, inr, List, [], ◌∷◌, ◌++◌, Result, Ok, Err, length, nat_lt, nat_le, take, refl, sym, ◌∙◌, ap, subst, if◌then◌else◌}
+use Rattle.std.proofs.Common.{ℕ, ◌<◌, ◌≡◌, ◌↔◌, inl, inr, List, [], ◌∷◌, ◌++◌, Result, Ok, Err, length, take, refl, sym, ◌∙◌, ap, subst}
 use Rattle.mx_stamps.specs.declared.stamp.Stamp.{Stamp}
 use Rattle.mx_stamps.specs.Lists.{IsIn}
 use Rattle.std.specs.List.{list_any}
 use Rattle.mx_stamps.proofs.Lists.{cond_case, in_append}
-use Rattle.mx_nodelaws.specs.World.{World, Quiet, sent_by}
+use Rattle.mx_nodelaws.specs.World.{World, sent_by}
 use Rattle.mx_nodelaws.specs.Core.{Core, KeepsPhases}
 use Rattle.mx_nodelaws.specs.Laws.{KeepsGood}
-use Rattle.mx_nodelaws.specs.declared.phase.Phase.{Phase}
-use Rattle.mx_nodelaws.specs.declared.phase.Phase.TheVariants.{Idle, Waiting, Inside}
+use Rattle.mx_nodelaws.specs.declared.phase.Phase.TheVariants.{Inside}
 use Rattle.mx_nodelaws.specs.declared.faults.AskFault.{AskFault}
 use Rattle.mx_nodelaws.specs.declared.faults.CancelFault.{CancelFault}
 use Rattle.mx_nodelaws.specs.declared.faults.EnterFault.{EnterFault}
 use Rattle.mx_journal.specs.declared.records.Record.{Record}
 use Rattle.mx_journal.specs.declared.ranges.Range.{Range}
-use Rattle.mx_journal.specs.declared.settlement.SettleFault.TheVariants as settle
-use Rattle.mx_journal.specs.declared.settlement.SettleFault.{SettleFault}
 use Rattle.mx_journal.specs.Agreement.{IsSubmap}
-use Rattle.mx_journal.specs.Drafted.{with_read, with_write}
 use Rattle.mx_journal.specs.Settled.{settled, with_base, with_list}
 use Rattle.mx_journal.proofs.Settled.{ascending_beyond}
-use Rattle.mx_stamps.proofs.Choices.{le_false, lt_false}
 use Rattle.mx_merge.specs.Missing.{in_ranges}
 use Rattle.mx_merge.proofs.Answered.{answered_known}
 use Rattle.mx_member.specs.declared.acts.Act.TheVariants as act
 use Rattle.mx_member.specs.declared.acts.Answer.TheVariants as answer
 use Rattle.mx_member.specs.declared.parcel.Parcel.{Parcel}
 use Rattle.mx_member.specs.declared.parcel.Parcel.TheVariants.{Guard, Want, Base, Records}
-use Rattle.mx_member.specs.declared.faults.ReadFault.{ReadFault}
-use Rattle.mx_member.specs.declared.faults.ReadFault.TheVariants as read
-use Rattle.mx_member.specs.declared.faults.WriteFault.{WriteFault}
-use Rattle.mx_member.specs.declared.faults.WriteFault.TheVariants as write
 use Rattle.mx_member.specs.Journals.{IsParcelOf}
-use Rattle.mx_member.specs.Member.{MemberState, first_gap, guarded, with_core, with_draft, with_journal}
-use Rattle.mx_member.specs.Steps.{answers_to, base_to, entered, leave_at, read_at, reaches, records_to, refusing, settle_of, shown_inside, take_of, want_to, write_at}
+use Rattle.mx_member.specs.Member.{MemberState, guarded, with_core}
+use Rattle.mx_member.specs.Steps.{answers_to, base_to, entered, leave_of, read_of, reaches, records_to, settle_of, take_of, want_to, write_of}
 use Rattle.mx_trace.specs.Sections.{Mark, after_marks, section_journal}
 use Rattle.mx_member.specs.Told.{told}
 use Rattle.mx_trace.specs.Serial.{AllFit}
 use Rattle.mx_member.specs.World.{IsSound, letters_in}
+use Rattle.mx_member.proofs.Cases.{leaves, reads, settles, writes}
 use Rattle.mx_member.proofs.CorePart.{letter_of}
 use Rattle.mx_member.proofs.DraftSteps.{read_sound, write_sound}
 use Rattle.mx_member.proofs.EntrySteps.{enter_sound, leave_sound}
@@ -103,84 +95,41 @@ module _ {H S M : Type 0} (core : Core H S M) (IsShape : H → Type 0) (Good : W
     subst (λ s. IsSound core Good w.sections (moved_in w (with_core s w.member)) grown) (sym (phases.enter_err w.member.core fault is)) (refused_sound core IsShape Good phases laws w grown grows),
   )
 
-  -- what a read makes of the member, by its answer
-  abbrev KeepsRead : Moment core Good → ℕ → List (ℕ × ℕ × Parcel M) → Quiet (MemberState S) (Result ℕ ReadFault) → Type 0
-  KeepsRead w register grown done = Keeps w (told {M = M} w.node (act.Read register) (answer.Read done.answer)) done.state grown
+  pub read_kept : (w : Moment core Good) (register : ℕ) (grown : List (ℕ × ℕ × Parcel M)) → GrowsBy w [] grown →
+      Keeps w (told {M = M} w.node (act.Read register) (answer.Read (read_of core register w.member).answer)) (read_of core register w.member).state grown
+  read_kept w register grown grows =
+      reads core w.member register (core.phase w.member.core) (λ q. Keeps w (told {M = M} w.node (act.Read register) (answer.Read q.answer)) q.state grown)
+      (λ fault _. (tt, refused_sound core IsShape Good phases laws w grown grows))
+      (λ n is there all. let k = read_sound core IsShape Good phases laws w n register grown is there all grows in ((k.0, tt), k.1))
 
-  read_refused : (w : Moment core Good) (register : ℕ) (grown : List (ℕ × ℕ × Parcel M)) (fault : ReadFault) → GrowsBy w [] grown → KeepsRead w register grown (refusing w.member fault)
-  read_refused w register grown fault grows = (tt, refused_sound core IsShape Good phases laws w grown grows)
+  pub write_kept : (w : Moment core Good) (register value : ℕ) (grown : List (ℕ × ℕ × Parcel M)) → GrowsBy w [] grown →
+      Keeps w (told {M = M} w.node (act.Write register value) (answer.Written (write_of core register value w.member).answer)) (write_of core register value w.member).state grown
+  write_kept w register value grown grows =
+      writes core w.member register value (core.phase w.member.core) (λ q. Keeps w (told {M = M} w.node (act.Write register value) (answer.Written q.answer)) q.state grown)
+      (λ fault. (tt, refused_sound core IsShape Good phases laws w grown grows))
+      (λ n is. let k = write_sound core IsShape Good phases laws w n register value grown is grows in ((k.0, tt), k.1))
 
-  pub read_kept : (w : Moment core Good) (register : ℕ) (grown : List (ℕ × ℕ × Parcel M)) (p : Phase) → core.phase w.member.core ≡ p → GrowsBy w [] grown → KeepsRead w register grown (read_at core register w.member p)
-  read_kept w register grown Idle is grows = read_refused w register grown read.NotInside grows
-  read_kept w register grown Waiting is grows = read_refused w register grown read.NotInside grows
-  read_kept w register grown (Inside n) is grows =
-      let m : MemberState S = w.member in
-      let value : ℕ = shown_inside register n m in
-      let done : Quiet (MemberState S) (Result ℕ ReadFault) = record { state = with_draft (with_read register value m.draft) m; answer = Ok value } in
-      let free = if nat_le n m.journal.base.upto then refusing m (read.Settled m.journal.base.upto) else done in
-      let room = if nat_le 8 (length m.draft.reads) then refusing m read.Full else free in
-      let gap = if nat_lt (first_gap m.journal) n then refusing m (read.Gap (first_gap m.journal)) else room in
-      cond_case (λ q. KeepsRead w register grown q) (nat_le m.setting.registers register) (refusing m read.NoRegister) gap
-      (λ _. read_refused w register grown read.NoRegister grows)
-      (λ there. cond_case (λ q. KeepsRead w register grown q) (nat_lt (first_gap m.journal) n) (refusing m (read.Gap (first_gap m.journal))) room
-      (λ _. read_refused w register grown (read.Gap (first_gap m.journal)) grows)
-      (λ all. cond_case (λ q. KeepsRead w register grown q) (nat_le 8 (length m.draft.reads)) (refusing m read.Full) free
-      (λ _. read_refused w register grown read.Full grows)
-      (λ _. cond_case (λ q. KeepsRead w register grown q) (nat_le n m.journal.base.upto) (refusing m (read.Settled m.journal.base.upto)) done
-      (λ _. read_refused w register grown (read.Settled m.journal.base.upto) grows)
-      (λ _.
-      let k = read_sound core IsShape Good phases laws w n register grown is (le_false m.setting.registers register there) (lt_false (first_gap m.journal) n all) grows in
-      ((k.0, tt), k.1)))))
+  pub leave_kept : (w : Moment core Good) (grown : List (ℕ × ℕ × Parcel M)) → GrowsBy w (leave_of core w.member).letters grown →
+      Keeps w (told {M = M} w.node act.Leave (answer.Left (leave_of core w.member).answer)) (leave_of core w.member).state grown
+  leave_kept w grown =
+      leaves core w.member (core.phase w.member.core) (λ q. GrowsBy w q.letters grown → Keeps w (told {M = M} w.node act.Leave (answer.Left q.answer)) q.state grown)
+      (λ grows. (tt, refused_sound core IsShape Good phases laws w grown grows))
+      (λ n is grows. let k = leave_sound core IsShape Good phases laws w n grown is grows in ((k.0, tt), k.1))
 
-  -- the same of a write
-  abbrev KeepsWrite : Moment core Good → ℕ → ℕ → List (ℕ × ℕ × Parcel M) → Quiet (MemberState S) (Result (Unit {0}) WriteFault) → Type 0
-  KeepsWrite w register value grown done = Keeps w (told {M = M} w.node (act.Write register value) (answer.Written done.answer)) done.state grown
-
-  write_refused : (w : Moment core Good) (register value : ℕ) (grown : List (ℕ × ℕ × Parcel M)) (fault : WriteFault) → GrowsBy w [] grown → KeepsWrite w register value grown (refusing w.member fault)
-  write_refused w register value grown fault grows = (tt, refused_sound core IsShape Good phases laws w grown grows)
-
-  pub write_kept : (w : Moment core Good) (register value : ℕ) (grown : List (ℕ × ℕ × Parcel M)) (p : Phase) → core.phase w.member.core ≡ p → GrowsBy w [] grown → KeepsWrite w register value grown (write_at core register value w.member p)
-  write_kept w register value grown Idle is grows = write_refused w register value grown write.NotInside grows
-  write_kept w register value grown Waiting is grows = write_refused w register value grown write.NotInside grows
-  write_kept w register value grown (Inside n) is grows =
-      let m : MemberState S = w.member in
-      let done : Quiet (MemberState S) (Result (Unit {0}) WriteFault) = record { state = with_draft (with_write register value m.draft) m; answer = Ok tt } in
-      let room = if nat_le 8 (length m.draft.writes) then refusing m write.Full else done in
-      cond_case (λ q. KeepsWrite w register value grown q) (nat_le m.setting.registers register) (refusing m write.NoRegister) room
-      (λ _. write_refused w register value grown write.NoRegister grows)
-      (λ _. cond_case (λ q. KeepsWrite w register value grown q) (nat_le 8 (length m.draft.writes)) (refusing m write.Full) done
-      (λ _. write_refused w register value grown write.Full grows)
-      (λ _. let k = write_sound core IsShape Good phases laws w n register value grown is grows in ((k.0, tt), k.1)))
-
-  pub leave_kept : (w : Moment core Good) (grown : List (ℕ × ℕ × Parcel M)) (p : Phase) → core.phase w.member.core ≡ p → GrowsBy w (leave_at core w.member p).letters grown →
-      Keeps w (told {M = M} w.node act.Leave (answer.Left (leave_at core w.member p).answer)) (leave_at core w.member p).state grown
-  leave_kept w grown Idle is grows = (tt, refused_sound core IsShape Good phases laws w grown grows)
-  leave_kept w grown Waiting is grows = (tt, refused_sound core IsShape Good phases laws w grown grows)
-  leave_kept w grown (Inside n) is grows = let k = leave_sound core IsShape Good phases laws w n grown is grows in ((k.0, tt), k.1)
-
-  -- what settling makes of the member
-  abbrev KeepsSettled : Moment core Good → ℕ → List (ℕ × ℕ × Parcel M) → Quiet (MemberState S) (Result (Unit {0}) SettleFault) → Type 0
-  KeepsSettled w k grown done = Keeps w [] done.state grown
-
-  pub settle_kept : (w : Moment core Good) (k : ℕ) (grown : List (ℕ × ℕ × Parcel M)) → GrowsBy w [] grown → KeepsSettled w k grown (settle_of k w.member)
+  pub settle_kept : (w : Moment core Good) (k : ℕ) (grown : List (ℕ × ℕ × Parcel M)) → GrowsBy w [] grown → Keeps w [] (settle_of k w.member).state grown
   settle_kept w k grown grows =
+      settles core w.member k (λ q. Keeps w [] q.state grown)
+      (λ fault. (tt, refused_sound core IsShape Good phases laws w grown grows))
+      (λ low past.
       let m : MemberState S = w.member in
-      let done : Quiet (MemberState S) (Result (Unit {0}) SettleFault) = record { state = with_journal (settled k m.journal) m; answer = Ok tt } in
-      let gap = if nat_le (first_gap m.journal) k then refusing m (settle.Gap (first_gap m.journal)) else done in
-      cond_case (λ q. KeepsSettled w k grown q) (nat_lt k m.journal.base.upto) (refusing m (settle.Below m.journal.base.upto)) gap
-      (λ _. (tt, refused_sound core IsShape Good phases laws w grown grows))
-      (λ high. cond_case (λ q. KeepsSettled w k grown q) (nat_le (first_gap m.journal) k) (refusing m (settle.Gap (first_gap m.journal))) done
-      (λ _. (tt, refused_sound core IsShape Good phases laws w grown grows))
-      (λ past.
       let order = journal_ascends w.sections in
       let mine = w.sound.ordered w.node m w.here in
       let of = w.sound.journals w.node m w.here in
-      let low = lt_false k m.journal.base.upto high in
-      let all = covered_to_gap k m.journal (le_false (first_gap m.journal) k past) in (
+      let all = covered_to_gap k m.journal past in (
         tt,
         gossip_sound core IsShape Good phases laws w (settled k m.journal) [] grown
             (settled_of (section_journal w.sections) m.journal k order mine of low all) (settled_ascends (section_journal w.sections) m.journal k order mine of low all) refl (λ b p h. absurd h) grows,
-      )))
+      ))
 
   -- a want goes to a node, brings nothing, and is no letter
   pub want_kept : (w : Moment core Good) (to : ℕ) (ranges : List Range) (grown : List (ℕ × ℕ × Parcel M)) → to < length w.members → GrowsBy w (want_to to ranges) grown → Keeps w [] w.member grown

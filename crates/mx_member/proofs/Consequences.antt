@@ -1,24 +1,20 @@
 -- What a sound world says of its members: who is inside, and what their journals show.
-use Rattle.std.proofs.Common.{ℕ, ◌<◌, ◌≤◌, ◌≡◌, List, Result, Ok, Err, length, nat_le, nat_lt, refl, subst, arith, if◌then◌else◌}
-use Rattle.mx_stamps.proofs.Choices.{le_true}
-use Rattle.mx_stamps.proofs.Lists.{cond_case}
-use Rattle.mx_nodelaws.specs.World.{World, Quiet}
+use Rattle.std.proofs.Common.{ℕ, ◌<◌, ◌≤◌, ◌≡◌, List, Err, subst, arith}
+use Rattle.mx_nodelaws.specs.World.{World}
 use Rattle.mx_nodelaws.specs.Core.{Core, IsInside}
 use Rattle.mx_nodelaws.specs.Laws.{KeepsGood}
-use Rattle.mx_nodelaws.specs.declared.phase.Phase.{Phase}
-use Rattle.mx_nodelaws.specs.declared.phase.Phase.TheVariants.{Idle, Waiting, Inside}
-use Rattle.mx_journal.specs.Drafted.{with_read}
+use Rattle.mx_nodelaws.specs.declared.phase.Phase.TheVariants.{Inside}
 use Rattle.mx_journal.specs.Settled.{DoAgree, IsCovered, top_covered}
 use Rattle.mx_registers.specs.Based.{registers_in}
 use Rattle.mx_registers.specs.Registers.{AreApplied}
 use Rattle.mx_member.specs.declared.parcel.Parcel.{Parcel}
-use Rattle.mx_member.specs.declared.faults.ReadFault.{ReadFault}
 use Rattle.mx_member.specs.declared.faults.ReadFault.TheVariants as read
 use Rattle.mx_member.specs.Journals.{IsJournalOf}
-use Rattle.mx_member.specs.Member.{MemberState, first_gap, with_draft}
-use Rattle.mx_member.specs.Steps.{read_at, read_of, refusing, shown_inside}
+use Rattle.mx_member.specs.Member.{MemberState}
+use Rattle.mx_member.specs.Steps.{read_of}
 use Rattle.mx_trace.specs.Sections.{Section, oldest, section_journal, writes_in}
 use Rattle.mx_member.specs.World.{IsMember, IsSound, core_part}
+use Rattle.mx_member.proofs.Cases.{Cause, reads}
 use Rattle.mx_member.proofs.CorePart.{get_map}
 use Rattle.mx_member.proofs.EntrySteps.{drafted, journal_rest}
 use Rattle.mx_member.proofs.OfSections.{journals_of_one}
@@ -41,27 +37,14 @@ module _ {H S M : Type 0} (core : Core H S M) (Good : World S M → Type 0) (ss 
       omega (arith, d.2)
 
   -- so no read is refused since its section is settled
-  unsettled_at : (i register k : ℕ) (m : MemberState S) (p : Phase) → IsMember members i m → core.phase m.core ≡ p → (read_at core register m p).answer ≡ Err (read.Settled k) → ⊥
-  unsettled_at i register k m Idle at is e = let bad : ⊥ = cc in bad
-  unsettled_at i register k m Waiting at is e = let bad : ⊥ = cc in bad
-  unsettled_at i register k m (Inside n) at is was =
-      let low = never_settled i n m at is in
-      let done : Quiet (MemberState S) (Result ℕ ReadFault) = record { state = with_draft (with_read register (shown_inside register n m) m.draft) m; answer = Ok (shown_inside register n m) } in
-      let free = if nat_le n m.journal.base.upto then refusing m (read.Settled m.journal.base.upto) else done in
-      let room = if nat_le 8 (length m.draft.reads) then refusing m read.Full else free in
-      let gap = if nat_lt (first_gap m.journal) n then refusing m (read.Gap (first_gap m.journal)) else room in
-      cond_case (λ q. q.answer ≡ Err (read.Settled k) → ⊥) (nat_le m.setting.registers register) (refusing m read.NoRegister) gap
-      (λ _ e. let bad : ⊥ = cc in bad)
-      (λ _. cond_case (λ q. q.answer ≡ Err (read.Settled k) → ⊥) (nat_lt (first_gap m.journal) n) (refusing m (read.Gap (first_gap m.journal))) room
-      (λ _ e. let bad : ⊥ = cc in bad)
-      (λ _. cond_case (λ q. q.answer ≡ Err (read.Settled k) → ⊥) (nat_le 8 (length m.draft.reads)) (refusing m read.Full) free
-      (λ _ e. let bad : ⊥ = cc in bad)
-      (λ _. cond_case (λ q. q.answer ≡ Err (read.Settled k) → ⊥) (nat_le n m.journal.base.upto) (refusing m (read.Settled m.journal.base.upto)) done
-      (λ t _. let high = le_true n m.journal.base.upto t in absurd (omega arith))
-      (λ _ e. let bad : ⊥ = cc in bad)))) was
-
   pub read_unsettled : (i register k : ℕ) (m : MemberState S) → IsMember members i m → (read_of core register m).answer ≡ Err (read.Settled k) → ⊥
-  read_unsettled i register k m at e = unsettled_at i register k m (core.phase m.core) at refl e
+  read_unsettled i register k m at =
+      reads core m register (core.phase m.core) (λ q. q.answer ≡ Err (read.Settled k) → ⊥)
+      (λ fault cause e.
+      let is : fault ≡ read.Settled k = cc in
+      let c = subst (λ f. Cause core m (core.phase m.core) f) is cause in
+      omega (arith, never_settled i c.0 m at c.1, c.2))
+      (λ n is there all e. let bad : ⊥ = cc in bad)
 
   -- any two members' journals agree
   pub journals_agree : (i j : ℕ) (m k : MemberState S) → IsMember members i m → IsMember members j k → DoAgree m.journal k.journal

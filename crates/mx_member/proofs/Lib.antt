@@ -4,6 +4,7 @@
 -- nodes hold their own receipts. RunningTells: what they tell. Joining: the join of all journals.
 -- Owners: where the sections are known.
 -- The others are the way there, lowest first. Phases: phases. CorePart: the core part of worlds.
+-- Cases: what each call gives.
 -- OfSections: bases and journals of the sections. SectionLists: sections and their journal. Covering: what
 -- journals go on covering. SectionWrites: what the sections wrote. AnyOrder: registers, whatever the order of records.
 -- SerialReads: reads in a draft that grows. Moments: an act of one member, and what it has to show.
@@ -14,6 +15,7 @@
 -- over plain variables.
 pub mod Phases
 pub mod CorePart
+pub mod Cases
 pub mod OfSections
 pub mod SectionLists
 pub mod Covering

@@ -1,5 +1,5 @@
 -- The acts of a member, their results, and when they are possible.
-use Rattle.std.specs.Prelude.{ℕ, ◌<◌, ◌↔◌, ◌++◌, List, [], Err}
+use Rattle.std.specs.Prelude.{ℕ, ◌<◌, ◌≡◌, ◌↔◌, ◌++◌, IfOk, List, [], OnErr, Result, Err}
 use Rattle.mx_stamps.specs.Lists.{IsIn}
 use Rattle.mx_nodelaws.specs.World.{Done, answering, quietly, sent_by}
 use Rattle.mx_nodelaws.specs.Core.{Core}
@@ -32,32 +32,15 @@ act_of core act.Restart m =
     record { state = restart_of core m; answer = answer.Woken; letters = [] }
 
 abbrev pub IsDoable : {S M : Type 0} → Act M → MemberState S → Type 0
-IsDoable act.Ask m = Unit {0}
-IsDoable act.Enter m = Unit {0}
-IsDoable (act.Read register) m = Unit {0}
-IsDoable (act.Write register value) m = Unit {0}
-IsDoable act.Leave m = Unit {0}
-IsDoable act.Cancel m = Unit {0}
-IsDoable (act.Settle k) m = Unit {0}
-IsDoable act.Tick m = Unit {0}
-IsDoable (act.Want to) m = Unit {0}
 IsDoable (act.Deliver from parcel) m = IsTakeable from parcel m
-IsDoable act.Restart m = Unit {0}
+IsDoable _ m = Unit {0}
 
 -- the act may need memory: the node leaves a section that its journal does not cover, or a
 -- delivered parcel has a record of such a section
 abbrev pub NeedsMemory : {H S M : Type 0} → Core H S M → Act M → MemberState S → Type 0
-NeedsMemory core act.Ask m = ⊥
-NeedsMemory core act.Enter m = ⊥
-NeedsMemory core (act.Read register) m = ⊥
-NeedsMemory core (act.Write register value) m = ⊥
 NeedsMemory core act.Leave m = LacksItsRecord core m
-NeedsMemory core act.Cancel m = ⊥
-NeedsMemory core (act.Settle k) m = ⊥
-NeedsMemory core act.Tick m = ⊥
-NeedsMemory core (act.Want to) m = ⊥
 NeedsMemory core (act.Deliver from parcel) m = BringsUnknown parcel m.journal
-NeedsMemory core act.Restart m = ⊥
+NeedsMemory core _ m = ⊥
 
 abbrev pub IsRefusal : Answer → Type 0
 IsRefusal (answer.Asked (Err fault)) = Unit {0}
@@ -69,20 +52,23 @@ IsRefusal (answer.Cancelled (Err fault)) = Unit {0}
 IsRefusal (answer.Settled (Err fault)) = Unit {0}
 IsRefusal _ = ⊥
 
+-- if the act returns a result, the member, the result and the parcels are those of the act; if
+-- not, it may need memory, the member is unchanged, and nothing is sent
+pub record IsPerformed {H S M F : Type 0} (core : Core H S M) (a : Act M) (old new : MemberState S)
+    (out : List (ℕ × Parcel M)) (r : Result Answer F) : Type 0 where
+  pub state : IfOk r (λ answer. new ≡ (act_of core a old).state)
+  pub answer : IfOk r (λ answer. answer ≡ (act_of core a old).answer)
+  pub letters : IfOk r (λ answer. out ≡ (act_of core a old).letters)
+  pub memory : OnErr r (NeedsMemory core a old)
+  pub err : OnErr r (new ≡ old)
+  pub quiet : OnErr r (out ≡ [])
+
 -- node i may do this act, in a cluster with this number of nodes and these parcels sent: a
 -- delivered parcel was sent to node i, and a want goes to one of the nodes
 abbrev pub Arrives : {M : Type 0} → ℕ → List (ℕ × ℕ × Parcel M) → ℕ → Act M → Type 0
-Arrives nodes sent i act.Ask = Unit {0}
-Arrives nodes sent i act.Enter = Unit {0}
-Arrives nodes sent i (act.Read register) = Unit {0}
-Arrives nodes sent i (act.Write register value) = Unit {0}
-Arrives nodes sent i act.Leave = Unit {0}
-Arrives nodes sent i act.Cancel = Unit {0}
-Arrives nodes sent i (act.Settle k) = Unit {0}
-Arrives nodes sent i act.Tick = Unit {0}
 Arrives nodes sent i (act.Want to) = to < nodes
 Arrives nodes sent i (act.Deliver from parcel) = IsIn (from, i, parcel) sent
-Arrives nodes sent i act.Restart = Unit {0}
+Arrives nodes sent i _ = Unit {0}
 
 -- `grown` has exactly what was sent before and what node i sends now, in any order
 abbrev pub Grows : {P : Type 0} → List (ℕ × ℕ × P) → ℕ → List (ℕ × P) → List (ℕ × ℕ × P) → Type 0

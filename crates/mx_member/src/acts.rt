@@ -1,5 +1,5 @@
-ghost use Rattle.std.specs.Prelude.{◌≡◌, [], IfOk, OnErr};
-ghost use Rattle.mx_member.specs.Acts.{IsDoable, NeedsMemory, act_of};
+ghost use Rattle.std.specs.Prelude.{◌≡◌, []};
+ghost use Rattle.mx_member.specs.Acts.{IsDoable, IsPerformed};
 
 use crate::faults::{CloseFault, ReadFault, WriteFault};
 use crate::member::Member;
@@ -65,12 +65,7 @@ pub fn perform<C: Exclusion>(
 ) -> Result<Answer, AllocError>
     requires empty { out.old ≡ [] }
     requires doable { IsDoable act member.old }
-    ensures state { IfOk result (λ answer. member.new ≡ (act_of C.core act member.old).state) }
-    ensures answer { IfOk result (λ answer. answer ≡ (act_of C.core act member.old).answer) }
-    ensures letters { IfOk result (λ answer. out.new ≡ (act_of C.core act member.old).letters) }
-    ensures memory { OnErr result (NeedsMemory C.core act member.old) }
-    ensures err { OnErr result (member.new ≡ member.old) }
-    ensures quiet { OnErr result (out.new ≡ []) }
+    ensures { IsPerformed C.core act member.old member.new out.new result }
 {
     match act {
         Act::Ask => Ok(Answer::Asked(member.ask(out))),

@@ -1,5 +1,5 @@
 -- The part of an event: what it tells, and that it may be done.
-use Rattle.std.proofs.Common.{ℕ, ◌<◌, ◌≡◌, ◌∙◌, ap, sym, Bool, true, false, List, Option, Some, None, Result, Ok, Err, nat_lt, slice_get, length, refl, subst, if◌then◌else◌}
+use Rattle.std.proofs.Common.{ℕ, ◌<◌, ◌≡◌, ◌∙◌, ap, sym, List, Option, Some, None, Result, Ok, Err, nat_lt, slice_get, length, refl, subst, if◌then◌else◌}
 use Rattle.mx_stamps.proofs.Lists.{cond_case, in_get}
 use Rattle.mx_journal.proofs.Choices.{lt_true}
 use Rattle.mx_nodelaws.specs.Core.{Core}
@@ -14,7 +14,7 @@ use Rattle.mx_events.specs.declared.event.Event.{Event}
 use Rattle.mx_events.specs.declared.event.Event.TheVariants as event
 use Rattle.mx_network.specs.declared.faults.StepFault.{StepFault}
 use Rattle.mx_network.specs.declared.faults.StepFault.TheVariants.{NoNode, NoParcel}
-use Rattle.mx_network.specs.Step.{answer_of, delivery_of, own_act, own_node, part_of, IsByItself}
+use Rattle.mx_network.specs.Step.{acting, answer_of, delivery_of, own_act, own_node, part_of, IsByItself}
 use Rattle.mx_trace.specs.Trace.{mark_of}
 use Rattle.mx_network.proofs.Marks.{entering, reading, writing, leaving}
 
@@ -25,9 +25,9 @@ pub err_no_ok : {A E : Type 0} (f : E) (x : A) → ◌≡◌ {A = Result A E} (E
 err_no_ok f x e = cc
 
 -- a want to another of so many nodes
-wanted : {M : Type 0} (nodes i j : ℕ) (p : ℕ × Act M) → (if nat_lt j nodes then Ok (i, act.Want j) else Err NoNode) ≡ Ok p → (j < nodes) × ((i, act.Want j) ≡ p)
+pub wanted : {M : Type 0} (nodes i j : ℕ) (p : ℕ × Act M) → acting (act.Want j) (if nat_lt j nodes then Ok i else Err NoNode) ≡ Ok p → (j < nodes) × ((i, act.Want j) ≡ p)
 wanted {M} nodes i j p is =
-    cond_case (λ (r : Result (ℕ × Act M) StepFault). r ≡ Ok p → (j < nodes) × ((i, act.Want j) ≡ p)) (nat_lt j nodes) (Ok (i, act.Want j)) (Err NoNode)
+    cond_case (λ (r : Result ℕ StepFault). acting (act.Want j) r ≡ Ok p → (j < nodes) × ((i, act.Want j) ≡ p)) (nat_lt j nodes) (Ok i) (Err NoNode)
     (λ t e. (lt_true j nodes t, same_Ok (i, act.Want j) p e)) (λ _ e. absurd (err_no_ok NoNode p e)) is
 
 -- what is delivered was sent to the node that takes it
@@ -38,32 +38,15 @@ delivered {M} nodes k sent p (Some q) was is =
 
 -- the part of what a node does by itself
 module _ {M : Type 0} (nodes : ℕ) (sent : List (ℕ × ℕ × Parcel M)) where
-  abbrev with_act : Act M → Result ℕ StepFault → Result (ℕ × Act M) StepFault
-  with_act a (Ok i) = Ok (i, a)
-  with_act a (Err fault) = Err fault
-
-  with_choice : (a : Act M) (b : Bool) (i : ℕ) → with_act a (if b then Ok i else Err NoNode) ≡ if b then Ok (i, a) else Err NoNode
-  with_choice a true i = refl
-  with_choice a false i = refl
-
-  own : (e : Event) → IsByItself e → part_of nodes sent e ≡ with_act (own_act e) (own_node nodes e)
-  own (event.Want i j) is = sym (with_choice (act.Want j) (nat_lt j nodes) i)
+  own : (e : Event) → IsByItself e → part_of nodes sent e ≡ acting (own_act e) (own_node nodes e)
   own (event.Deliver k) is = absurd is
-  own (event.Ask i) is = refl
-  own (event.Enter i) is = refl
-  own (event.Read i register) is = refl
-  own (event.Write i register value) is = refl
-  own (event.Leave i) is = refl
-  own (event.Cancel i) is = refl
-  own (event.Settle i k) is = refl
-  own (event.Tick i) is = refl
-  own (event.Restart i) is = refl
+  own _ is = refl
 
   pub own_part : (e : Event) (i : ℕ) → IsByItself e → Ok i ≡ own_node nodes e → part_of nodes sent e ≡ Ok (i, own_act e)
-  own_part e i is of = own e is ∙ ap (λ r. with_act (own_act e) r) (sym of)
+  own_part e i is of = own e is ∙ ap (λ r. acting (own_act e) r) (sym of)
 
   pub own_fault : (e : Event) (fault : StepFault) → IsByItself e → Err fault ≡ own_node nodes e → part_of nodes sent e ≡ Err fault
-  own_fault e fault is of = own e is ∙ ap (λ r. with_act (own_act e) r) (sym of)
+  own_fault e fault is of = own e is ∙ ap (λ r. acting (own_act e) r) (sym of)
 
 pub no_delivery : (e : Event) → ((k : ℕ) → e ≡ event.Deliver k → ⊥) → IsByItself e
 no_delivery (event.Deliver k) never = never k refl
@@ -71,17 +54,9 @@ no_delivery _ never = tt
 
 -- whatever an event's part is, it may be done
 pub arrives : {M : Type 0} (nodes : ℕ) (sent : List (ℕ × ℕ × Parcel M)) (e : Event) (p : ℕ × Act M) → part_of nodes sent e ≡ Ok p → Arrives nodes sent p.0 p.1
-arrives {M} nodes sent (event.Ask i) p is = subst (λ (x : ℕ × Act M). Arrives nodes sent x.0 x.1) (same_Ok (i, act.Ask) p is) tt
-arrives {M} nodes sent (event.Enter i) p is = subst (λ (x : ℕ × Act M). Arrives nodes sent x.0 x.1) (same_Ok (i, act.Enter) p is) tt
-arrives {M} nodes sent (event.Read i register) p is = subst (λ (x : ℕ × Act M). Arrives nodes sent x.0 x.1) (same_Ok (i, act.Read register) p is) tt
-arrives {M} nodes sent (event.Write i register value) p is = subst (λ (x : ℕ × Act M). Arrives nodes sent x.0 x.1) (same_Ok (i, act.Write register value) p is) tt
-arrives {M} nodes sent (event.Leave i) p is = subst (λ (x : ℕ × Act M). Arrives nodes sent x.0 x.1) (same_Ok (i, act.Leave) p is) tt
-arrives {M} nodes sent (event.Cancel i) p is = subst (λ (x : ℕ × Act M). Arrives nodes sent x.0 x.1) (same_Ok (i, act.Cancel) p is) tt
-arrives {M} nodes sent (event.Settle i k) p is = subst (λ (x : ℕ × Act M). Arrives nodes sent x.0 x.1) (same_Ok (i, act.Settle k) p is) tt
-arrives {M} nodes sent (event.Tick i) p is = subst (λ (x : ℕ × Act M). Arrives nodes sent x.0 x.1) (same_Ok (i, act.Tick) p is) tt
 arrives {M} nodes sent (event.Want i j) p is = let w = wanted nodes i j p is in subst (λ (x : ℕ × Act M). Arrives nodes sent x.0 x.1) w.1 w.0
 arrives nodes sent (event.Deliver k) p is = delivered nodes k sent p (slice_get sent k) refl is
-arrives {M} nodes sent (event.Restart i) p is = subst (λ (x : ℕ × Act M). Arrives nodes sent x.0 x.1) (same_Ok (i, act.Restart) p is) tt
+arrives {M} nodes sent _ p is = subst (λ (x : ℕ × Act M). Arrives nodes sent x.0 x.1) (same_Ok _ p is) tt
 
 module _ {H S M : Type 0} (core : Core H S M) (m : MemberState S) where
   -- the item of an event tells what the act's answer tells
@@ -93,16 +68,12 @@ module _ {H S M : Type 0} (core : Core H S M) (m : MemberState S) where
   delivery_tells k p (Some q) is = subst (Tells (event.Deliver k)) (same_Ok (q.1, act.Deliver q.0 q.2) p is) refl
 
   pub tells : (nodes : ℕ) (sent : List (ℕ × ℕ × Parcel M)) (e : Event) (p : ℕ × Act M) → part_of nodes sent e ≡ Ok p → Tells e p
-  tells nodes sent (event.Ask i) p is = subst (Tells (event.Ask i)) (same_Ok (i, act.Ask) p is) refl
   tells nodes sent (event.Enter i) p is = subst (Tells (event.Enter i)) (same_Ok (i, act.Enter) p is) (entering M i (length (act_of core act.Enter m).letters) (enter_of core m).answer)
   tells nodes sent (event.Read i register) p is =
       subst (Tells (event.Read i register)) (same_Ok (i, act.Read register) p is) (reading M i (length (act_of core (act.Read register) m).letters) register (read_of core register m).answer)
   tells nodes sent (event.Write i register value) p is =
       subst (Tells (event.Write i register value)) (same_Ok (i, act.Write register value) p is) (writing M i (length (act_of core (act.Write register value) m).letters) register value (write_of core register value m).answer)
   tells nodes sent (event.Leave i) p is = subst (Tells (event.Leave i)) (same_Ok (i, act.Leave) p is) (leaving M i (length (act_of core act.Leave m).letters) (leave_of core m).answer)
-  tells nodes sent (event.Cancel i) p is = subst (Tells (event.Cancel i)) (same_Ok (i, act.Cancel) p is) refl
-  tells nodes sent (event.Settle i k) p is = subst (Tells (event.Settle i k)) (same_Ok (i, act.Settle k) p is) refl
-  tells nodes sent (event.Tick i) p is = subst (Tells (event.Tick i)) (same_Ok (i, act.Tick) p is) refl
   tells nodes sent (event.Want i j) p is = subst (Tells (event.Want i j)) (wanted nodes i j p is).1 refl
   tells nodes sent (event.Deliver k) p is = delivery_tells k p (slice_get sent k) is
-  tells nodes sent (event.Restart i) p is = subst (Tells (event.Restart i)) (same_Ok (i, act.Restart) p is) refl
+  tells nodes sent e p is = subst (Tells e) (same_Ok _ p is) refl

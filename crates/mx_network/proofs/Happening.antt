@@ -88,21 +88,40 @@ module _ {H S M : Type 0} (core : Core H S M) (g : ClusterState S M) (e : Event)
       ∙ ap (λ q. let x : ClusterState S M = record { members = slice_set g.members p.0 new; sent = sent; trace = g.trace ++ record { event = e; outcome = q } ∷ [] } in Ok x) (sym b)
       ∙ ap (λ t. let x : ClusterState S M = record { members = slice_set g.members p.0 new; sent = sent; trace = t } in Ok x) (sym d)
 
+-- what has happened: a member that is there did the part of the event
+pub record IsDoneBy {H S M : Type 0} (core : Core H S M) (g : ClusterState S M) (e : Event) (new : ClusterState S M) : Type 0 where
+  pub part : ℕ × Act M
+  pub member : MemberState S
+  pub is_part : part_of (length g.members) g.sent e ≡ Ok part
+  pub here : slice_get g.members part.0 ≡ Some member
+  pub after : grown g e part.0 (answer_of core part.1 member) ≡ new
+
+-- the items that make two lists longer are the same
+pub last_same : {X : Type 0} (xs : List X) (x y : X) → xs ++ x ∷ [] ≡ xs ++ y ∷ [] → x ≡ y
+last_same [] x y e = cc
+last_same (z ∷ zs) x y e = last_same zs x y (let tail : zs ++ x ∷ [] ≡ zs ++ y ∷ [] = cc in tail)
+
 module _ {H S M : Type 0} (core : Core H S M) (g : ClusterState S M) (e : Event) (new : ClusterState S M) where
+  done_at_member : (p : ℕ × Act M) → part_of (length g.members) g.sent e ≡ Ok p → (o : Option (MemberState S)) → slice_get g.members p.0 ≡ o → at_member core g e p.0 p.1 o ≡ Ok new → IsDoneBy core g e new
+  done_at_member p part None at step = absurd (err_no_ok NoNode new step)
+  done_at_member p part (Some m) at step = record { part = p; member = m; is_part = part; here = at; after = same_Ok (grown g e p.0 (answer_of core p.1 m)) new step }
+
+  done_at_part : (r : Result (ℕ × Act M) StepFault) → part_of (length g.members) g.sent e ≡ r → at_part core g e r ≡ Ok new → IsDoneBy core g e new
+  done_at_part (Err fault) part step = absurd (err_no_ok fault new step)
+  done_at_part (Ok p) part step = done_at_member p part (slice_get g.members p.0) refl step
+
+  pub done_by : step_of core g e ≡ Ok new → IsDoneBy core g e new
+  done_by step = done_at_part (part_of (length g.members) g.sent e) refl step
+
   -- an event that has happened joins the trace
-  abbrev IsNoted : Type 0
-  IsNoted = (o : Outcome) × (new.trace ≡ g.trace ++ record { event = e; outcome = o } ∷ [])
+  pub noted : step_of core g e ≡ Ok new → (o : Outcome) × (new.trace ≡ g.trace ++ record { event = e; outcome = o } ∷ [])
+  noted step = let d = done_by step in ((answer_of core d.part.1 d.member).answer, ap (λ (x : ClusterState S M). x.trace) (sym d.after))
 
-  noted_at : (i : ℕ) (a : Act M) (m : Option (MemberState S)) → at_member core g e i a m ≡ Ok new → IsNoted
-  noted_at i a None step = absurd (err_no_ok NoNode new step)
-  noted_at i a (Some m) step = ((answer_of core a m).answer, ap (λ (x : ClusterState S M). x.trace) (sym (same_Ok (grown g e i (answer_of core a m)) new step)))
-
-  noted_part : (r : Result (ℕ × Act M) StepFault) → at_part core g e r ≡ Ok new → IsNoted
-  noted_part (Err fault) step = absurd (err_no_ok fault new step)
-  noted_part (Ok p) step = noted_at p.0 p.1 (slice_get g.members p.0) step
-
-  pub noted : step_of core g e ≡ Ok new → IsNoted
-  noted step = noted_part (part_of (length g.members) g.sent e) step
+  -- with the outcome of the act
+  pub outcome_is : (d : IsDoneBy core g e new) (o : Outcome) → new.trace ≡ g.trace ++ record { event = e; outcome = o } ∷ [] → (answer_of core d.part.1 d.member).answer ≡ o
+  outcome_is d o told =
+      let item : Outcome → Entry = λ x. record { event = e; outcome = x } in
+      ap (λ (x : Entry). x.outcome) (last_same g.trace (item (answer_of core d.part.1 d.member).answer) (item o) (ap (λ (x : ClusterState S M). x.trace) d.after ∙ told))
 
 -- a node has done its act, its parcels were sent, and the event is noted
 module _ {H S M : Type 0} (core : Core H S M) (g : ClusterState S M) (e : Event) (a : Act M) (m new : MemberState S) (out : List (ℕ × Parcel M)) (sent0 sent : List (ℕ × ℕ × Parcel M)) (trace0 trace : List Entry) where

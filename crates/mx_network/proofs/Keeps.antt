@@ -1,5 +1,5 @@
 -- Each event keeps what a cluster keeps.
-use Rattle.std.proofs.Common.{ℕ, ◌<◌, ◌≤◌, ◌^◌, ◌≡◌, List, [], ◌∷◌, ◌++◌, Option, Some, None, Result, Ok, Err, slice_get, length, refl, sym, ◌∙◌, ap, subst, IfOk, OnErr}
+use Rattle.std.proofs.Common.{ℕ, ◌<◌, ◌≤◌, ◌^◌, ◌≡◌, List, [], ◌∷◌, ◌++◌, Some, Result, Ok, Err, slice_get, length, refl, sym, ◌∙◌, ap, subst, IfOk, OnErr}
 use Rattle.mx_stamps.specs.Lists.{each_below}
 use Rattle.mx_nodelaws.specs.World.{World, sent_by}
 use Rattle.mx_nodelaws.specs.Core.{Core, KeepsPhases}
@@ -20,15 +20,14 @@ use Rattle.mx_member.proofs.Owners.{owners_at_start, owners_kept}
 use Rattle.mx_events.specs.declared.event.Event.{Event}
 use Rattle.mx_trace.specs.declared.outcome.Entry.{Entry}
 use Rattle.mx_network.specs.declared.faults.StepFault.{StepFault}
-use Rattle.mx_network.specs.declared.faults.StepFault.TheVariants.{NoNode}
 use Rattle.mx_network.specs.Kept.{IsKept}
 use Rattle.mx_trace.specs.Trace.{sections, marks}
-use Rattle.mx_network.specs.Step.{AreUnsettled, ClusterState, answer_of, part_of, grown, at_member, at_part, step_of, IsStep, RunsTo}
+use Rattle.mx_network.specs.Step.{AreUnsettled, ClusterState, answer_of, part_of, grown, step_of, IsStep, RunsTo}
 use Rattle.mx_network.proofs.Marks.{marks-snoc}
 use Rattle.mx_events.specs.declared.event.Event.TheVariants as event
-use Rattle.mx_network.proofs.Happening.{delivery_part, happens}
+use Rattle.mx_network.proofs.Happening.{delivery_part, done_by, happens}
 use Rattle.mx_network.proofs.KeptSound.{kept_sound}
-use Rattle.mx_network.proofs.EventParts.{arrives, err_no_ok, same_Ok, tells}
+use Rattle.mx_network.proofs.EventParts.{arrives, tells}
 use Rattle.mx_network.proofs.Refused.{noted_unsettled}
 
 module _ {H S M : Type 0} (core : Core H S M) (IsShape : H → Type 0) (Good : World S M → Type 0) (phases : KeepsPhases core) (laws : KeepsGood core IsShape Good) where
@@ -52,17 +51,9 @@ module _ {H S M : Type 0} (core : Core H S M) (IsShape : H → Type 0) (Good : W
       (marks-snoc g.trace e (answer_of core p.1 m).answer ∙ ap (λ l. marks g.trace ++ l) (tells core m (length g.members) g.sent e p part))
       (noted_unsettled core Good g (grown g e p.0 (answer_of core p.1 m)) kept e (answer_of core p.1 m).answer (happens core g e p part m at) refl) kept k.0 k.1
 
-  at_some : (g : ClusterState S M) (e : Event) (p : ℕ × Act M) (new : ClusterState S M) (o : Option (MemberState S)) → slice_get g.members p.0 ≡ o → part_of (length g.members) g.sent e ≡ Ok p → at_member core g e p.0 p.1 o ≡ Ok new → IsKept core Good g → IsKept core Good new
-  at_some g e p new None was part step kept = absurd (err_no_ok NoNode new step)
-  at_some g e p new (Some m) was part step kept = subst (λ x. IsKept core Good x) (same_Ok (grown g e p.0 (answer_of core p.1 m)) new step) (grown_kept g e p m part was kept)
-
-  at_parted : (g : ClusterState S M) (e : Event) (new : ClusterState S M) (r : Result (ℕ × Act M) StepFault) → part_of (length g.members) g.sent e ≡ r → at_part core g e r ≡ Ok new → IsKept core Good g → IsKept core Good new
-  at_parted g e new (Err f) was step kept = absurd (err_no_ok f new step)
-  at_parted g e new (Ok p) was step kept = at_some g e p new (slice_get g.members p.0) refl was step kept
-
   -- every event keeps a cluster
   pub step_kept : (g : ClusterState S M) (e : Event) (new : ClusterState S M) → step_of core g e ≡ Ok new → IsKept core Good g → IsKept core Good new
-  step_kept g e new step kept = at_parted g e new (part_of (length g.members) g.sent e) refl step kept
+  step_kept g e new step kept = let d = done_by core g e new step in subst (λ x. IsKept core Good x) d.after (grown_kept g e d.part d.member d.is_part d.here kept)
 
   -- so does one that did not happen
   pub result_kept : {A : Type 0} (g : ClusterState S M) (e : Event) (new : ClusterState S M) (r : Result A StepFault) → IfOk r (λ o. step_of core g e ≡ Ok new) → OnErr r (new ≡ g) → IsKept core Good g → IsKept core Good new

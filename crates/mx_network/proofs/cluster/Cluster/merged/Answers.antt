@@ -8,12 +8,12 @@ use Rattle.mx_member.proofs.OfSections.{unsettled_of, whole_registers}
 use Rattle.mx_member.proofs.SectionLists.{journal_ascends}
 use Rattle.mx_member.proofs.SectionWrites.{covered_shows}
 use Rattle.mx_merge.specs.declared.join.MergeFault.TheVariants.{Conflict}
-use Rattle.mx_network.specs.Kept.{IsKept}
 use Rattle.mx_network.specs.Merged.{IsAboveAll, IsBelowEach}
 use Rattle.mx_trace.specs.Trace.{journal_of, sections}
 use Rattle.mx_network.specs.Step.{ClusterState}
 use Rattle.mx_network.proofs.Finding.{none_at, some_at}
 use Rattle.mx_network.proofs.Merging.{least_more, least_same, mergeable, merged_more, merged_same, merged_whole, merged_within, no_conflict}
+use Rattle.mx_network.proofs.Seen.{seen_kept}
 use Rattle.mx_network.proofs.cluster.Cluster.merged.Goals as goal
 use Rattle.mx_network.proofs.cluster.Cluster.merged.Goals.{in-Some+in_ok-merge, in_default}
 
@@ -31,7 +31,7 @@ loop-node-init g c =
 
 pub returns-in_err-merge-clause-conflict : goal.returns-in_err-merge-clause-conflict
 returns-in_err-merge-clause-conflict g c = λ n.
-    let kept = subst (λ (x : ClusterState g.row.C.Denot g.row.C-Msg.Denot). IsKept g.C.Exclusion.core g.C.Exclusion.Good x) c.self.view_is c.self.invariant.1 in
+    let kept = seen_kept _ _ c.self.view_is c.self.invariant.1 in
     let members = ap (λ (x : ClusterState g.row.C.Denot g.row.C-Msg.Denot). x.members) c.self.view_is in
     let at = some_at c.deref.result.now c.args.self.now.members c.get.result c.in-Some.member.now (c.deref.ensures.value ∙ members) c.in-Some.ensures.lookup.0 c.in-Some.ensures.lookup.1 in
     let agree = mergeable g.C.Exclusion.core g.C.Exclusion.Good c.args.self.now kept c.loop-node.all c.journal.result.now c.get.result c.in-Some.member.now c.loop-node.invariant.sections at c.journal.ensures in
@@ -39,7 +39,7 @@ returns-in_err-merge-clause-conflict g c = λ n.
 
 pub loop-node-preserved : goal.loop-node-preserved
 loop-node-preserved g c =
-    let kept = subst (λ (x : ClusterState g.row.C.Denot g.row.C-Msg.Denot). IsKept g.C.Exclusion.core g.C.Exclusion.Good x) c.self.view_is c.self.invariant.1 in
+    let kept = seen_kept _ _ c.self.view_is c.self.invariant.1 in
     let members = ap (λ (x : ClusterState g.row.C.Denot g.row.C-Msg.Denot). x.members) c.self.view_is in
     let here : c.get.result ≡ get_or c.args.nodes.now c.loop-node.node-index c.get.result =
     subst (λ (n : ℕ). n ≡ get_or c.args.nodes.now c.loop-node.node-index n) (sym c.get.ensures.value) c.node-item.is in
@@ -84,7 +84,7 @@ returns-clause-in_order g c k count few all top =
 
 pub returns-clause-whole : goal.returns-clause-whole
 returns-clause-whole g c every =
-    let kept = subst (λ (x : ClusterState g.row.C.Denot g.row.C-Msg.Denot). IsKept g.C.Exclusion.core g.C.Exclusion.Good x) c.self.view_is c.self.invariant.1 in
+    let kept = seen_kept _ _ c.self.view_is c.self.invariant.1 in
     merged_whole g.C.Exclusion.core g.C.Exclusion.Good c.args.self.now kept c.args.nodes.now c.loop-node.all c.loop-node.invariant.ordered c.loop-node.invariant.sections (returns-clause-all g c) every
 
 pub returns-clause-shown : goal.returns-clause-shown

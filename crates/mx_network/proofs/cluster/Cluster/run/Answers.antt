@@ -1,29 +1,16 @@
-use Rattle.std.proofs.Common.{arith, List, [], ◌∷◌, ◌++◌, IfSome, Option, take, refl, subst, sym, ap, ◌∙◌}
+use Rattle.std.proofs.Common.{arith, List, [], ◌∷◌, ◌++◌, IfSome, Option, take, subst, sym, ap, ◌∙◌}
 use Rattle.std.proofs.lemmas.List.{take_all, take_more}
 use Rattle.mx_events.specs.declared.event.Event.{Event}
 use Rattle.mx_network.specs.Step.{ClusterState, IsFaultOf, RunsTo, step_of}
 use Rattle.mx_network.proofs.Happening.{at_place}
-use Rattle.mx_network.proofs.Headline.{exclusive, numbered}
 use Rattle.mx_network.proofs.Keeps.{RunsTo-snoc}
 use Rattle.mx_network.proofs.cluster.Cluster.run.Goals as goal
 
-pub loop-index-init : goal.loop-index-init
-loop-index-init g c = rw (← c.self.view_is) (record {
-  runs = refl;
-  exclusive = exclusive c.self.inside.trace.items c.self.invariant.1.serial;
-  numbered = numbered c.self.inside.trace.items c.self.invariant.1.serial;
-  serial = c.self.invariant.1.serial;
-})
-
 pub loop-index-preserved : goal.loop-index-preserved
-loop-index-preserved g c = record {
-  runs = subst (λ (es : List Event). RunsTo g.C.Exclusion.core c.args.self.now es c.advance.new.self)
-      (sym (take_more c.args.events.now c.loop-index.index c.index-events-index.result c.loop-index-test.true ∙ ap (λ (x : Event). take c.loop-index.index c.args.events.now ++ x ∷ []) (sym c.index-events-index.is)))
-      (RunsTo-snoc g.C.Exclusion.core c.args.self.now c.loop-index.self c.advance.new.self (take c.loop-index.index c.args.events.now) c.index-events-index.result c.loop-index.invariant.runs c.in_default.ensures.ok);
-  exclusive = c.in_default.ensures.exclusive;
-  numbered = c.in_default.ensures.numbered;
-  serial = c.in_default.ensures.serial;
-}
+loop-index-preserved g c =
+    subst (λ (es : List Event). RunsTo g.C.Exclusion.core c.args.self.now es c.advance.new.self)
+    (sym (take_more c.args.events.now c.loop-index.index c.index-events-index.result c.loop-index-test.true ∙ ap (λ (x : Event). take c.loop-index.index c.args.events.now ++ x ∷ []) (sym c.index-events-index.is)))
+    (RunsTo-snoc g.C.Exclusion.core c.args.self.now c.loop-index.self c.advance.new.self (take c.loop-index.index c.args.events.now) c.index-events-index.result c.loop-index.invariant c.in_default.ensures.ok)
 
 pub returns-in-Err-clause-fault : goal.returns-in-Err-clause-fault
 returns-in-Err-clause-fault g c =
@@ -34,31 +21,13 @@ returns-in-Err-clause-fault g c =
 pub returns-clause-ok : goal.returns-clause-ok
 returns-clause-ok g c =
     subst (λ (es : List Event). RunsTo g.C.Exclusion.core c.args.self.now es c.loop-index.self)
-    (take_all c.loop-index.index c.args.events.now c.loop-index-test.false) c.loop-index.invariant.runs
+    (take_all c.loop-index.index c.args.events.now c.loop-index-test.false) c.loop-index.invariant
 
 pub bounds-events-index : goal.bounds-events-index
 bounds-events-index g c = c.loop-index-test.true
 
 pub returns-in-Err-clause-err : goal.returns-in-Err-clause-err
-returns-in-Err-clause-err g c = (c.loop-index-test.true, subst (λ (s : ClusterState g.row.C.Denot g.row.C-Msg.Denot). RunsTo g.C.Exclusion.core c.args.self.now (take c.loop-index.index c.args.events.now) s) (sym c.in-Err.ensures.err) c.loop-index.invariant.runs)
-
-pub returns-in-Err-clause-exclusive : goal.returns-in-Err-clause-exclusive
-returns-in-Err-clause-exclusive g c = c.in-Err.ensures.exclusive
-
-pub returns-in-Err-clause-numbered : goal.returns-in-Err-clause-numbered
-returns-in-Err-clause-numbered g c = c.in-Err.ensures.numbered
-
-pub returns-in-Err-clause-serial : goal.returns-in-Err-clause-serial
-returns-in-Err-clause-serial g c = c.in-Err.ensures.serial
+returns-in-Err-clause-err g c = (c.loop-index-test.true, subst (λ (s : ClusterState g.row.C.Denot g.row.C-Msg.Denot). RunsTo g.C.Exclusion.core c.args.self.now (take c.loop-index.index c.args.events.now) s) (sym c.in-Err.ensures.err) c.loop-index.invariant)
 
 pub loop-index-smaller : goal.loop-index-smaller
 loop-index-smaller g c = (let t = c.loop-index-test.true in omega arith)
-
-pub returns-clause-exclusive : goal.returns-clause-exclusive
-returns-clause-exclusive g c = c.loop-index.invariant.exclusive
-
-pub returns-clause-numbered : goal.returns-clause-numbered
-returns-clause-numbered g c = c.loop-index.invariant.numbered
-
-pub returns-clause-serial : goal.returns-clause-serial
-returns-clause-serial g c = c.loop-index.invariant.serial

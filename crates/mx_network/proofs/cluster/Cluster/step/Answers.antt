@@ -1,13 +1,11 @@
-use Rattle.std.proofs.Common.{◌∙◌, Err, Ok, [], ◌∷◌, ◌++◌, ap, subst, sym}
+use Rattle.std.proofs.Common.{[], ◌∙◌, Err, Ok, ◌∷◌, ◌++◌, ap, sym}
 use Rattle.mx_trace.specs.declared.outcome.Entry.{Entry}
 use Rattle.mx_trace.specs.declared.outcome.Outcome.{Outcome}
-use Rattle.mx_network.specs.Kept.{IsKept}
 use Rattle.mx_network.specs.Step.{ClusterState}
-use Rattle.mx_network.proofs.Happening.{has_fault, has_happened, noted}
-use Rattle.mx_network.proofs.Headline.{exclusive, numbered}
-use Rattle.mx_network.proofs.Keeps.{kept_by}
+use Rattle.mx_network.proofs.Happening.{noted}
 use Rattle.mx_network.proofs.Refusals.{no_node, no_parcel}
 use Rattle.mx_network.proofs.Refused.{never_settled, refused_unchanged}
+use Rattle.mx_network.proofs.Seen.{seen_kept}
 use Rattle.mx_network.proofs.cluster.Cluster.step.Goals as goal
 
 pub newest-requires : goal.newest-requires
@@ -37,25 +35,25 @@ returns-clause-outcome g c =
 pub returns-clause-no_node : goal.returns-clause-no_node
 returns-clause-no_node g c =
     no_node g.C.Exclusion.core g.C.Exclusion.Good c.args.self.now c.apply_with_room.new.self c.args.event (Ok c.newest.result)
-    (subst (λ (x : ClusterState g.row.C.Denot g.row.C-Msg.Denot). IsKept g.C.Exclusion.core g.C.Exclusion.Good x) c.self.view_is c.self.invariant.1)
+    (seen_kept _ _ c.self.view_is c.self.invariant.1)
     c.in-Ok.ensures.ok tt
 
 pub returns-in-Err-clause-no_node : goal.returns-in-Err-clause-no_node
 returns-in-Err-clause-no_node g c =
     no_node g.C.Exclusion.core g.C.Exclusion.Good c.args.self.now c.apply_with_room.new.self c.args.event (Err c.in-Err.fault)
-    (subst (λ (x : ClusterState g.row.C.Denot g.row.C-Msg.Denot). IsKept g.C.Exclusion.core g.C.Exclusion.Good x) c.self.view_is c.self.invariant.1)
+    (seen_kept _ _ c.self.view_is c.self.invariant.1)
     tt c.in-Err.ensures.fault
 
 pub returns-clause-no_parcel : goal.returns-clause-no_parcel
 returns-clause-no_parcel g c =
     no_parcel g.C.Exclusion.core g.C.Exclusion.Good c.args.self.now c.apply_with_room.new.self c.args.event (Ok c.newest.result)
-    (subst (λ (x : ClusterState g.row.C.Denot g.row.C-Msg.Denot). IsKept g.C.Exclusion.core g.C.Exclusion.Good x) c.self.view_is c.self.invariant.1)
+    (seen_kept _ _ c.self.view_is c.self.invariant.1)
     c.in-Ok.ensures.ok tt
 
 pub returns-in-Err-clause-no_parcel : goal.returns-in-Err-clause-no_parcel
 returns-in-Err-clause-no_parcel g c =
     no_parcel g.C.Exclusion.core g.C.Exclusion.Good c.args.self.now c.apply_with_room.new.self c.args.event (Err c.in-Err.fault)
-    (subst (λ (x : ClusterState g.row.C.Denot g.row.C-Msg.Denot). IsKept g.C.Exclusion.core g.C.Exclusion.Good x) c.self.view_is c.self.invariant.1)
+    (seen_kept _ _ c.self.view_is c.self.invariant.1)
     tt c.in-Err.ensures.fault
 
 pub returns-clause-refused : goal.returns-clause-refused
@@ -65,7 +63,7 @@ returns-clause-refused g c =
 pub returns-clause-unsettled : goal.returns-clause-unsettled
 returns-clause-unsettled g c =
     never_settled g.C.Exclusion.core g.C.Exclusion.Good c.args.self.now c.apply_with_room.new.self
-    (subst (λ (x : ClusterState g.row.C.Denot g.row.C-Msg.Denot). IsKept g.C.Exclusion.core g.C.Exclusion.Good x) c.self.view_is c.self.invariant.1)
+    (seen_kept _ _ c.self.view_is c.self.invariant.1)
     c.args.event (Ok c.newest.result) c.in-Ok.ensures.ok (returns-clause-outcome g c)
 
 pub returns-in-Err-clause-fault : goal.returns-in-Err-clause-fault
@@ -73,29 +71,3 @@ returns-in-Err-clause-fault g c = c.in-Err.ensures.fault
 
 pub returns-in-Err-clause-err : goal.returns-in-Err-clause-err
 returns-in-Err-clause-err g c = c.in-Err.ensures.err
-
-pub returns-clause-serial : goal.returns-clause-serial
-returns-clause-serial g c =
-    (kept_by g.C.Exclusion.core g.C.Exclusion.IsShape g.C.Exclusion.Good g.met.C.Exclusion.phases g.met.C.Exclusion.laws c.args.self.now c.args.event c.apply_with_room.new.self _ (has_happened g.C.Exclusion.core c.args.self.now c.apply_with_room.new.self c.args.event c.in-Ok.ensures.ok)
-    (subst (λ (x : ClusterState g.row.C.Denot g.row.C-Msg.Denot). IsKept g.C.Exclusion.core g.C.Exclusion.Good x) c.self.view_is c.self.invariant.1)).serial
-
-pub returns-clause-exclusive : goal.returns-clause-exclusive
-returns-clause-exclusive g c = exclusive c.apply_with_room.new.self.trace (kept_by g.C.Exclusion.core g.C.Exclusion.IsShape g.C.Exclusion.Good g.met.C.Exclusion.phases g.met.C.Exclusion.laws c.args.self.now c.args.event c.apply_with_room.new.self _ (has_happened g.C.Exclusion.core c.args.self.now c.apply_with_room.new.self c.args.event c.in-Ok.ensures.ok)
-    (subst (λ (x : ClusterState g.row.C.Denot g.row.C-Msg.Denot). IsKept g.C.Exclusion.core g.C.Exclusion.Good x) c.self.view_is c.self.invariant.1)).serial
-
-pub returns-clause-numbered : goal.returns-clause-numbered
-returns-clause-numbered g c = numbered c.apply_with_room.new.self.trace (kept_by g.C.Exclusion.core g.C.Exclusion.IsShape g.C.Exclusion.Good g.met.C.Exclusion.phases g.met.C.Exclusion.laws c.args.self.now c.args.event c.apply_with_room.new.self _ (has_happened g.C.Exclusion.core c.args.self.now c.apply_with_room.new.self c.args.event c.in-Ok.ensures.ok)
-    (subst (λ (x : ClusterState g.row.C.Denot g.row.C-Msg.Denot). IsKept g.C.Exclusion.core g.C.Exclusion.Good x) c.self.view_is c.self.invariant.1)).serial
-
-pub returns-in-Err-clause-serial : goal.returns-in-Err-clause-serial
-returns-in-Err-clause-serial g c =
-    (kept_by g.C.Exclusion.core g.C.Exclusion.IsShape g.C.Exclusion.Good g.met.C.Exclusion.phases g.met.C.Exclusion.laws c.args.self.now c.args.event c.apply_with_room.new.self _ (has_fault g.C.Exclusion.core c.args.self.now c.apply_with_room.new.self c.args.event c.in-Err.fault c.in-Err.ensures.fault c.in-Err.ensures.err)
-    (subst (λ (x : ClusterState g.row.C.Denot g.row.C-Msg.Denot). IsKept g.C.Exclusion.core g.C.Exclusion.Good x) c.self.view_is c.self.invariant.1)).serial
-
-pub returns-in-Err-clause-exclusive : goal.returns-in-Err-clause-exclusive
-returns-in-Err-clause-exclusive g c = exclusive c.apply_with_room.new.self.trace (kept_by g.C.Exclusion.core g.C.Exclusion.IsShape g.C.Exclusion.Good g.met.C.Exclusion.phases g.met.C.Exclusion.laws c.args.self.now c.args.event c.apply_with_room.new.self _ (has_fault g.C.Exclusion.core c.args.self.now c.apply_with_room.new.self c.args.event c.in-Err.fault c.in-Err.ensures.fault c.in-Err.ensures.err)
-    (subst (λ (x : ClusterState g.row.C.Denot g.row.C-Msg.Denot). IsKept g.C.Exclusion.core g.C.Exclusion.Good x) c.self.view_is c.self.invariant.1)).serial
-
-pub returns-in-Err-clause-numbered : goal.returns-in-Err-clause-numbered
-returns-in-Err-clause-numbered g c = numbered c.apply_with_room.new.self.trace (kept_by g.C.Exclusion.core g.C.Exclusion.IsShape g.C.Exclusion.Good g.met.C.Exclusion.phases g.met.C.Exclusion.laws c.args.self.now c.args.event c.apply_with_room.new.self _ (has_fault g.C.Exclusion.core c.args.self.now c.apply_with_room.new.self c.args.event c.in-Err.fault c.in-Err.ensures.fault c.in-Err.ensures.err)
-    (subst (λ (x : ClusterState g.row.C.Denot g.row.C-Msg.Denot). IsKept g.C.Exclusion.core g.C.Exclusion.Good x) c.self.view_is c.self.invariant.1)).serial
