@@ -18,7 +18,7 @@ mod words;
 pub use commands::{SessionCommand, read_command};
 pub use edits::nearest;
 pub use errors::{Expected, LineError, LineFault, OwnWord};
-pub use escapes::add_escaped_text;
+pub use escapes::{Escaped, add_escaped_text};
 pub use line::{Line, ScriptLine, first_error, read_line};
 pub use messages::{
     FirstWords, Listed, Nearest, Quoted, message, message_of_line, message_of_unknown_node,
