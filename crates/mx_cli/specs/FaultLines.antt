@@ -1,5 +1,6 @@
 -- The lines of faults.
 use Rattle.std.specs.Prelude.{◌++◌, ◌&&◌, codes, decimal, if◌then◌else◌}
+use Rattle.mx_lines.specs.Escapes.{shown}
 use Rattle.mx_plan.specs.Text.{Text, line_feed}
 use Rattle.mx_plan.specs.FaultTexts.{fault_text}
 use Rattle.mx_cli.specs.declared.faults.Fault.{Fault}
@@ -17,10 +18,10 @@ part_text names named.Events =
 
 -- the line of a fault, if the plan and the events have these names
 abbrev pub fault_line : Text × Text → Fault → Text
-fault_line names (CannotRead named.Plan) = codes "mx: cannot read " ++ names.0 ++ line_feed
-fault_line names (CannotRead named.Events) = codes "mx: cannot read " ++ names.1 ++ line_feed
+fault_line names (CannotRead named.Plan) = codes "mx: cannot read " ++ shown names.0 ++ line_feed
+fault_line names (CannotRead named.Events) = codes "mx: cannot read " ++ shown names.1 ++ line_feed
 fault_line names (BadText fault) = codes "mx: " ++ fault_text fault ++ line_feed
-fault_line names (NotJson part) = codes "mx: not json: " ++ part_text names part ++ line_feed
+fault_line names (NotJson part) = codes "mx: not json: " ++ shown (part_text names part) ++ line_feed
 fault_line names (NoParcel k) = codes "mx: no parcel: event " ++ decimal k ++ line_feed
 
 abbrev pub memory_line : Text

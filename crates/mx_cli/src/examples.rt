@@ -47,7 +47,7 @@ neither delivered nor lost:
   cut N          all links of N are cut
   heal           all links heal
   partition N .. | M ..
-                 each link between a node left of | and one right of it is cut
+                 every link between the two sides of | is cut
 
 After `all`, N M means those from N to M.
 
@@ -75,9 +75,9 @@ of it is what `mx replay` prints of its events. `show` prints the line of each n
 parcel under way; `show N` those of node N. `undo` takes back the last line that was done,
 `undo K` the last K of them, and `redo` the last undo. `events` prints the events so far, as a
 file that `mx replay` reads, `script` all that has happened, as a script, `mark WORD` itself, and
-`help` the words. What is wrong in a line is told on standard error, and nothing changes. `end`,
-`quit`, `exit` or the end of standard input prints the closing lines and the verdict. Where a
-script is named, its lines come first. Where the plan is -, it is the first line of standard
+`help` the words. A faulty line is reported on standard error and changes nothing. `end`, `quit`,
+`exit` or the end of standard input prints the closing lines and the verdict. Where a script
+is named, its lines come first. Where the plan is -, it is the first line of standard
 input. `rlwrap mx play plan.json` keeps a history of the lines typed.";
 
 pub(crate) const PICTURE: &str = "Example: the events of one section, in a cluster of three nodes.

@@ -6,6 +6,7 @@ ghost use Rattle.mx_cli.specs.Words.{names_of};
 
 use crate::planning::are_dashes;
 use crate::request::Names;
+use mx_lines::Escaped;
 use mx_plan::PlanFault;
 use std::fmt;
 
@@ -29,7 +30,7 @@ pub enum Fault {
     NoParcel(u64),
 }
 
-/// The line that reports a fault, given the names of the plan and the events.
+/// The line that reports a fault, given the names of the plan and the events, which it escapes.
 #[derive(Clone, Copy)]
 pub struct FaultLine<'a> {
     pub fault: Fault,
@@ -41,15 +42,17 @@ impl fmt::Display for FaultLine<'_> {
 
     fn fmt<W: fmt::Write>(&self, f: &mut fmt::Formatter<W>) -> fmt::Result {
         match self.fault {
-            Fault::CannotRead(Named::Plan) => writeln!(f, "mx: cannot read {}", self.names.plan),
-            Fault::CannotRead(Named::Events) => writeln!(
-                f,
-                "mx: cannot read {}",
-                self.names.events
-            ),
+            Fault::CannotRead(Named::Plan) => {
+                let name = Escaped(self.names.plan);
+                writeln!(f, "mx: cannot read {name}")
+            }
+            Fault::CannotRead(Named::Events) => {
+                let name = Escaped(self.names.events);
+                writeln!(f, "mx: cannot read {name}")
+            }
             Fault::BadText(fault) => writeln!(f, "mx: {fault}"),
             Fault::NotJson(part) => {
-                let place = part_in(&self.names, part);
+                let place = Escaped(part_in(&self.names, part));
                 writeln!(f, "mx: not json: {place}")
             }
             Fault::NoParcel(k) => writeln!(f, "mx: no parcel: event {k}"),

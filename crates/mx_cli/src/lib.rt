@@ -30,4 +30,3 @@ pub use request::{
     Conditions, LiveRequest, Misfit, Names, PicturePart, RandomRun, Request, ViewOptions,
 };
 pub use stop::{Stop, stop_with};
-pub use table::is_explained;

@@ -31,8 +31,6 @@ pub(crate) struct CommandRow {
     pub(crate) about: &'static str,
     pub(crate) arguments: &'static [Argument],
     pub(crate) example: &'static str,
-    /// Whether `explain` tells where the faults of its files stand.
-    pub(crate) is_explained: bool,
 }
 
 /// All commands, in the order of the help.
@@ -55,7 +53,6 @@ static CHECK: CommandRow = CommandRow {
     about: "Checks a plan and prints a summary",
     arguments: &[PLAN, ASKS, JSON],
     example: help::CHECK_EXAMPLE,
-    is_explained: true,
 };
 
 static REPLAY: CommandRow = CommandRow {
@@ -63,7 +60,6 @@ static REPLAY: CommandRow = CommandRow {
     about: "Runs the events of a file; prints outcomes, parcels sent, and the nodes at the end",
     arguments: &[PLAN, EVENTS, QUIET, NODE, JSON, STATE, IS_SCRIPT],
     example: help::REPLAY_EXAMPLE,
-    is_explained: true,
 };
 
 static EXPLORE: CommandRow = CommandRow {
@@ -73,7 +69,6 @@ static EXPLORE: CommandRow = CommandRow {
         PLAN, SEED, STEPS, COUNT_TOO, JSON, WALK, LOSS, REPEAT, IN_ORDER,
     ],
     example: help::EXPLORE_EXAMPLE,
-    is_explained: true,
 };
 
 static LIVE: CommandRow = CommandRow {
@@ -81,7 +76,6 @@ static LIVE: CommandRow = CommandRow {
     about: "Runs each node in a thread and prints their merged journal",
     arguments: &[PLAN, SECTIONS, LINK_SEED, TURNS, SETTLE, PROGRESS],
     example: help::LIVE_EXAMPLE,
-    is_explained: true,
 };
 
 static DRAW: CommandRow = CommandRow {
@@ -89,7 +83,6 @@ static DRAW: CommandRow = CommandRow {
     about: "Prints random events from a seed as a file for `replay`",
     arguments: &[PLAN, SEED, STEPS, WALK, LOSS, REPEAT, IN_ORDER],
     example: examples::DRAW,
-    is_explained: false,
 };
 
 static SCRIPTED: CommandRow = CommandRow {
@@ -97,7 +90,6 @@ static SCRIPTED: CommandRow = CommandRow {
     about: "Prints the events of a script as a file for `replay`",
     arguments: &[PLAN, SCRIPT],
     example: examples::SCRIPT,
-    is_explained: true,
 };
 
 static PLAY: CommandRow = CommandRow {
@@ -105,7 +97,6 @@ static PLAY: CommandRow = CommandRow {
     about: "Runs the lines of a script as they are typed and prints each outcome",
     arguments: &[PLAN, FIRST_SCRIPT],
     example: examples::PLAY,
-    is_explained: false,
 };
 
 static PICTURE: CommandRow = CommandRow {
@@ -122,7 +113,6 @@ static PICTURE: CommandRow = CommandRow {
         IS_TRACE,
     ],
     example: examples::PICTURE,
-    is_explained: true,
 };
 
 static COUNT: CommandRow = CommandRow {
@@ -130,7 +120,6 @@ static COUNT: CommandRow = CommandRow {
     about: "Counts the letters, refusals and waits of a run",
     arguments: &[PLAN, EVENTS, JSON, IS_SCRIPT],
     example: examples::COUNT,
-    is_explained: true,
 };
 
 static JUDGE: CommandRow = CommandRow {
@@ -138,7 +127,6 @@ static JUDGE: CommandRow = CommandRow {
     about: "Judges the trace of a run, whichever program wrote it",
     arguments: &[PLAN, TRACE, JSON],
     example: examples::JUDGE,
-    is_explained: false,
 };
 
 static EXPLAIN: CommandRow = CommandRow {
@@ -146,7 +134,6 @@ static EXPLAIN: CommandRow = CommandRow {
     about: "Explains what is wrong in a plan, its events or a script, and where",
     arguments: &[PLAN, EVENTS_OR_SCRIPT, IS_SCRIPT],
     example: examples::EXPLAIN,
-    is_explained: false,
 };
 
 pub(crate) fn row_of(id: CommandId) -> &'static CommandRow
@@ -165,11 +152,4 @@ pub(crate) fn row_of(id: CommandId) -> &'static CommandRow
         CommandId::Judge => &JUDGE,
         CommandId::Explain => &EXPLAIN,
     }
-}
-
-/// Whether `explain` tells where the faults of this command's files stand.
-pub fn is_explained(name: &str) -> bool {
-    COMMANDS
-        .iter()
-        .any(|id| row_of(*id).name == name && row_of(*id).is_explained)
 }

@@ -1,4 +1,4 @@
 pub mod CountLemmas
-pub mod CountedLemmas
 pub mod MeasureLemmas
 pub mod PrintedLemmas
+pub mod RowLemmas

@@ -1,5 +1,5 @@
 -- What is printed of counts, from what was read.
-use Rattle.std.proofs.Common.{◌≡◌, ◌∙◌, ◌⊎◌, List, Result, Ok, Err, OnOk, Bool, ap, inl, inr, subst, sym}
+use Rattle.std.proofs.Common.{◌≡◌, ◌∙◌, ◌⊎◌, List, Result, Ok, Err, OnOk, Bool, ap, inl, inr, sym}
 use Rattle.mx_events.specs.declared.event.Event.{Event}
 use Rattle.mx_plan.specs.Text.{Text}
 use Rattle.mx_plan.specs.Fields.{Fields}
@@ -9,7 +9,7 @@ use Rattle.mx_plan.specs.declared.faults.PlanFault.TheVariants as plan_fault
 use Rattle.mx_cli.specs.Printing.{IsReport, Prints, Report, Sight, stop_at}
 use Rattle.mx_cli.specs.declared.stop.Stop.{Stop}
 use Rattle.mx_cli.proofs.FrameLemmas.{text_prints}
-use Rattle.mx_commands.specs.Jobs.{where_read}
+use Rattle.mx_driver.specs.Jobs.{where_read}
 use Rattle.mx_count.specs.Printed.{IsCount, count_report}
 
 module _ (is_json : Bool) (p : Fields) (text : Text) where

@@ -1,61 +1,72 @@
--- The names under which parcels and refusals are counted.
-use Rattle.std.specs.Prelude.{ℕ, ◌||◌, Bool, false, List, [], ◌∷◌, codes, nat_eq, if◌then◌else◌}
+-- Which parcels, and which refusals, are counted together.
+use Rattle.std.specs.Prelude.{ℕ, ◌&&◌, Bool, true, false, not, nat_eq}
 use Rattle.std.specs.Str.{bytes_eq}
 use Rattle.mx_member.specs.declared.parcel.Parcel.{Parcel}
 use Rattle.mx_member.specs.declared.parcel.Parcel.TheVariants as parcel
-use Rattle.mx_trace.specs.Causes.{cause_words}
+use Rattle.mx_trace.specs.declared.outcome.Cause.{Cause}
+use Rattle.mx_trace.specs.declared.outcome.Cause.TheVariants.{NotIdle, StampsSpent, NotWaiting, NotGranted, NumbersSpent, NotInside, NoRegister, Gap, Full, Below}
 use Rattle.mx_trace.specs.declared.outcome.Outcome.{Outcome}
 use Rattle.mx_trace.specs.declared.outcome.Outcome.TheVariants.{Refused}
 use Rattle.mx_plan.specs.Text.{Text}
 use Rattle.mx_count.specs.declared.kinds.Group.{Group}
-use Rattle.mx_count.specs.declared.kinds.Group.TheVariants.{Named, SentBy}
+use Rattle.mx_count.specs.declared.kinds.Group.TheVariants.{Letters, Kind, Own, Gossip, Want, Base, Records, SentBy}
 
--- a letter counts under `letters` and under its kind, but only under `own` if a node sent it to
--- itself; a parcel of gossip counts under `gossip` and under its kind
-module _ {M : Type 0} (kind_text : M → Text) (name : Text) where
-  abbrev pub is_kind : ℕ → ℕ → Parcel M → Bool
-  is_kind from to (parcel.Guard letter) =
-      if nat_eq from to then bytes_eq name (codes "own")
-      else (bytes_eq name (codes "letters") || bytes_eq name (kind_text letter))
-  is_kind from to (parcel.Want ranges) =
-      bytes_eq name (codes "gossip") || bytes_eq name (codes "want")
-  is_kind from to (parcel.Base base) =
-      bytes_eq name (codes "gossip") || bytes_eq name (codes "base")
-  is_kind from to (parcel.Records records) =
-      bytes_eq name (codes "gossip") || bytes_eq name (codes "records")
+-- the parcel is a letter from one node to another, neither gossip nor a letter to its own sender
+abbrev pub is_between : {M : Type 0} → ℕ → ℕ → Parcel M → Bool
+is_between from to (parcel.Guard letter) = not (nat_eq from to)
+is_between from to _ = false
 
-  abbrev pub is_under : ℕ × ℕ × Parcel M → Bool
-  is_under x = is_kind x.0 x.1 x.2
+-- such a letter has this word
+abbrev pub is_kind : {M : Type 0} → (M → Text) → Text → ℕ → ℕ → Parcel M → Bool
+is_kind kind_text word from to (parcel.Guard letter) =
+    not (nat_eq from to) && bytes_eq word (kind_text letter)
+is_kind kind_text word from to _ = false
 
--- a refusal counts under `refused` and under its cause
-abbrev pub is_refused_under : Text → Outcome → Bool
-is_refused_under name (Refused cause) =
-    bytes_eq name (codes "refused") || bytes_eq name (cause_words cause)
-is_refused_under name _ = false
+abbrev pub is_own : {M : Type 0} → ℕ → ℕ → Parcel M → Bool
+is_own from to (parcel.Guard letter) = nat_eq from to
+is_own from to _ = false
 
--- the name under which all letters from one node to another are counted, and (below) those for the
--- other parcels, in the order of their lines. The names for the kinds of letters are the words of
--- the algorithm's letters
-abbrev pub letter_names : List Text
-letter_names = codes "letters" ∷ []
+abbrev pub is_gossip : {M : Type 0} → Parcel M → Bool
+is_gossip (parcel.Guard letter) = false
+is_gossip _ = true
 
-abbrev pub other_names : List Text
-other_names = codes "own" ∷ codes "gossip" ∷ []
+abbrev pub is_want : {M : Type 0} → Parcel M → Bool
+is_want (parcel.Want ranges) = true
+is_want _ = false
 
-abbrev pub gossip_names : List Text
-gossip_names = codes "want" ∷ codes "base" ∷ codes "records" ∷ []
+abbrev pub is_base : {M : Type 0} → Parcel M → Bool
+is_base (parcel.Base base) = true
+is_base _ = false
 
--- the name under which all refusals are counted, and (below) those for each cause
-abbrev pub refused_names : List Text
-refused_names = codes "refused" ∷ []
+abbrev pub is_records : {M : Type 0} → Parcel M → Bool
+is_records (parcel.Records records) = true
+is_records _ = false
 
-abbrev pub cause_names : List Text
-cause_names =
-    codes "not idle" ∷ codes "stamps spent" ∷ codes "not waiting" ∷ codes "not granted"
-    ∷ codes "numbers spent" ∷ codes "not inside" ∷ codes "no register" ∷ codes "gap"
-    ∷ codes "full" ∷ codes "below" ∷ []
-
--- a parcel is in a group: it counts under the group's name, or the group's node sent it
+-- the parcel, with its sender and its addressee, is in this group
 abbrev pub is_in : {M : Type 0} → (M → Text) → Group → ℕ × ℕ × Parcel M → Bool
-is_in kind_text (Named name) = is_under kind_text name.now
-is_in kind_text (SentBy node) = λ x. nat_eq x.0 node
+is_in kind_text Letters x = is_between x.0 x.1 x.2
+is_in kind_text (Kind word) x = is_kind kind_text word.now x.0 x.1 x.2
+is_in kind_text Own x = is_own x.0 x.1 x.2
+is_in kind_text Gossip x = is_gossip x.2
+is_in kind_text Want x = is_want x.2
+is_in kind_text Base x = is_base x.2
+is_in kind_text Records x = is_records x.2
+is_in kind_text (SentBy node) x = nat_eq x.0 node
+
+-- the place of a cause among all causes, whatever its number
+abbrev pub place_of : Cause → ℕ
+place_of NotIdle = 0
+place_of StampsSpent = 1
+place_of NotWaiting = 2
+place_of NotGranted = 3
+place_of NumbersSpent = 4
+place_of NotInside = 5
+place_of NoRegister = 6
+place_of (Gap n) = 7
+place_of Full = 8
+place_of (Below n) = 9
+
+-- the outcome is a refusal for this cause
+abbrev pub is_refused_for : Cause → Outcome → Bool
+is_refused_for cause (Refused other) = nat_eq (place_of other) (place_of cause)
+is_refused_for cause _ = false

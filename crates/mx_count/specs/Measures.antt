@@ -1,5 +1,5 @@
 -- How long requests take, in letters: response times and synchronization delays.
-use Rattle.std.specs.Prelude.{ℕ, ◌+◌, ◌++◌, Bool, false, not, List, [], ◌∷◌, Option, Some, None, codes, length, max, min, nat_eq, position, slice_get, take, if◌then◌else◌}
+use Rattle.std.specs.Prelude.{ℕ, ◌++◌, Bool, false, not, List, [], ◌∷◌, Option, Some, None, position, slice_get, take, if◌then◌else◌}
 use Rattle.std.specs.List.{count_by}
 use Rattle.std.specs.Option.{option_map_or}
 use Rattle.mx_events.specs.declared.event.Event.{Event}
@@ -8,18 +8,11 @@ use Rattle.mx_trace.specs.declared.outcome.Entry.{Entry}
 use Rattle.mx_trace.specs.declared.outcome.Outcome.{Outcome}
 use Rattle.mx_trace.specs.declared.outcome.Outcome.TheVariants.{Asked, Left}
 use Rattle.mx_member.specs.declared.parcel.Parcel.{Parcel}
-use Rattle.mx_member.specs.declared.parcel.Parcel.TheVariants.{Guard}
-use Rattle.mx_plan.specs.Text.{Text}
+use Rattle.mx_count.specs.Kinds.{is_between}
 use Rattle.mx_count.specs.Waits.{ends_wait}
 use Rattle.mx_count.specs.NodeCounts.{is_entry, is_entry_of}
-use Rattle.mx_count.specs.Tallies.{absent_text, labelled, quotient_text, value_end, value_start}
 use Rattle.mx_count.specs.declared.measures.Measure.{Measure}
 use Rattle.mx_count.specs.declared.measures.Measure.TheVariants.{Response, Delay}
-
--- the parcel is a letter from one node to another, neither gossip nor a letter to its own sender
-abbrev pub is_between : {M : Type 0} → ℕ → ℕ → Parcel M → Bool
-is_between from to (Guard letter) = not (nat_eq from to)
-is_between from to _ = false
 
 abbrev pub is_letter : {M : Type 0} → Option (ℕ × ℕ × Parcel M) → Bool
 is_letter None = false
@@ -71,54 +64,3 @@ unfoldable pub measured : {M : Type 0} → Measure → List (ℕ × ℕ × Parce
 measured measure sent [] = []
 measured measure sent (e ∷ es) =
     letters_until sent es (end_from measure e es) ++ measured measure sent es
-
--- the least of a number and a list of numbers, and (below) their sum and the greatest
-unfoldable pub least_from : ℕ → List ℕ → ℕ
-least_from least [] = least
-least_from least (x ∷ xs) = least_from (min least x) xs
-
-unfoldable pub sum_from : ℕ → List ℕ → ℕ
-sum_from sum [] = sum
-sum_from sum (x ∷ xs) = sum_from (sum + x) xs
-
-unfoldable pub greatest_from : ℕ → List ℕ → ℕ
-greatest_from greatest [] = greatest
-greatest_from greatest (x ∷ xs) = greatest_from (max greatest x) xs
-
-abbrev pub least_start : Bool → Text
-least_start is_json = if is_json then codes "{\"least\":" else codes "least "
-
-abbrev pub least_text : Bool → ℕ → Text
-least_text is_json least = labelled (least_start is_json) least
-
-abbrev pub greatest_start : Bool → Text
-greatest_start is_json = if is_json then codes ",\"greatest\":" else codes ", greatest "
-
-abbrev pub greatest_text : Bool → ℕ → Text
-greatest_text is_json greatest = labelled (greatest_start is_json) greatest
-
-abbrev pub mean_start : Bool → Text
-mean_start is_json = if is_json then codes ",\"mean\":" else codes ", mean "
-
-abbrev pub measure_end : Bool → Text
-measure_end is_json = if is_json then codes "}" else []
-
-abbrev pub spread_text : Bool → ℕ → List ℕ → Text
-spread_text is_json x xs =
-    least_text is_json (least_from x xs)
-    ++ (mean_start is_json ++ quotient_text (sum_from x xs) (length xs + 1))
-    ++ greatest_text is_json (greatest_from x xs) ++ measure_end is_json
-
-abbrev pub numbers_text : Bool → List ℕ → Text
-numbers_text is_json [] = absent_text is_json
-numbers_text is_json (x ∷ xs) = spread_text is_json x xs
-
-abbrev pub measure_name : Measure → Text
-measure_name Response = codes "response time"
-measure_name Delay = codes "synchronization delay"
-
-abbrev pub measure_text : {M : Type 0} → Bool → List (ℕ × ℕ × Parcel M) → List Entry → Measure
-    → Text
-measure_text is_json sent trace measure =
-    (value_start is_json (measure_name measure)
-    ++ numbers_text is_json (measured measure sent trace)) ++ value_end is_json

@@ -1,5 +1,5 @@
 -- The counts of each node of a cluster.
-use Rattle.std.specs.Prelude.{ℕ, ◌&&◌, ◌++◌, Bool, true, false, List, Option, Some, None, codes, nat_eq, slice_get, if◌then◌else◌}
+use Rattle.std.specs.Prelude.{ℕ, zero, suc, ◌&&◌, ◌++◌, Bool, true, false, List, [], ◌∷◌, Option, Some, None, codes, nat_eq, slice_get}
 use Rattle.std.specs.List.{count_by}
 use Rattle.mx_events.specs.Events.{node_of}
 use Rattle.mx_events.specs.declared.event.Event.{Event}
@@ -9,13 +9,10 @@ use Rattle.mx_trace.specs.declared.outcome.Outcome.{Outcome}
 use Rattle.mx_trace.specs.declared.outcome.Outcome.TheVariants.{Entered}
 use Rattle.mx_member.specs.declared.parcel.Parcel.{Parcel}
 use Rattle.mx_network.specs.Step.{ClusterState}
-use Rattle.mx_plan.specs.Text.{Text}
-use Rattle.mx_plan.specs.Fields.{Fields}
-use Rattle.mx_format.specs.EventTexts.{name_of}
-use Rattle.mx_format.specs.Lines.{texts_from}
-use Rattle.mx_format.specs.Members.{node_start}
-use Rattle.mx_count.specs.Tallies.{tally}
+use Rattle.mx_count.specs.Rows.{Row}
 use Rattle.mx_count.specs.Waits.{is_refusal}
+use Rattle.mx_count.specs.declared.rows.Level.TheVariants.{Node, Next}
+use Rattle.mx_count.specs.declared.rows.Value.TheVariants.{Number}
 
 abbrev pub is_entered : Outcome → Bool
 is_entered (Entered n) = true
@@ -61,24 +58,13 @@ received_of i g = count_by (λ entry. is_delivered_to i g.sent entry.event) g.tr
 abbrev pub refused_of : {S M : Type 0} → ℕ → ClusterState S M → ℕ
 refused_of i g = count_by (is_refusal_of i) g.trace
 
-abbrev pub node_head : Bool → Fields → ℕ → Text
-node_head is_json p i = if is_json then node_start p i else name_of p i
+-- the rows of node i, and (below) of the first nodes
+abbrev pub rows_of_node : {S M : Type 0} → ClusterState S M → ℕ → List Row
+rows_of_node g i =
+    (Node i, codes "sections", Number (entries_of i g)) ∷ (Next, codes "sent", Number (sent_of i g))
+    ∷ (Next, codes "received", Number (received_of i g))
+    ∷ (Next, codes "refused", Number (refused_of i g)) ∷ []
 
-abbrev pub node_end : Bool → Text
-node_end is_json = if is_json then codes "}\n" else codes "\n"
-
--- the counts of node i
-abbrev pub node_tallies : {S M : Type 0} → Bool → ClusterState S M → ℕ → Text
-node_tallies is_json g i =
-    tally is_json (codes ": ") (codes "sections") (entries_of i g)
-    ++ tally is_json (codes ", ") (codes "sent") (sent_of i g)
-    ++ tally is_json (codes ", ") (codes "received") (received_of i g)
-    ++ tally is_json (codes ", ") (codes "refused") (refused_of i g)
-
-abbrev pub node_text : {S M : Type 0} → Bool → Fields → ClusterState S M → ℕ → Text
-node_text is_json p g i =
-    node_head is_json p i ++ node_tallies is_json g i ++ node_end is_json
-
--- the texts of all nodes, in the order of the plan
-abbrev pub nodes_text : {S M : Type 0} → Bool → Fields → ClusterState S M → Text
-nodes_text is_json p g = texts_from (λ i name. node_text is_json p g i) 0 p.nodes
+abbrev pub node_rows : {S M : Type 0} → ClusterState S M → ℕ → List Row
+node_rows g zero = []
+node_rows g (suc n) = node_rows g n ++ rows_of_node g n

@@ -6,9 +6,9 @@ use Rattle.mx_plan.specs.Fields.{Fields}
 use Rattle.mx_plan.specs.Events.{events_at}
 use Rattle.mx_format.specs.Parts.{maekawa_parts, maekawa_words, raymond_parts, raymond_words, ricart_parts, ricart_words, word_by}
 use Rattle.mx_cli.specs.Printing.{IsReport, Report}
-use Rattle.mx_commands.specs.Jobs.{where_read}
-use Rattle.mx_commands.specs.Runs.{Texts}
-use Rattle.mx_commands.specs.Sinks.{TextsBy, report_by}
+use Rattle.mx_driver.specs.Jobs.{where_read}
+use Rattle.mx_driver.specs.Runs.{Texts}
+use Rattle.mx_driver.specs.Sinks.{TextsBy, report_by}
 use Rattle.mx_count.specs.Counted.{counts_text}
 use Rattle.mx_count.specs.declared.counted_run.EventSource.{EventSource}
 use Rattle.mx_count.specs.declared.counted_run.EventSource.TheVariants.{Given}

@@ -7,7 +7,7 @@ ghost use Rattle.mx_count.specs.Printed.{IsCount, count_texts};
 
 use crate::counted_run::{EventSource, Options, add_counts};
 use mx_cli::{Command, Stop, print};
-use mx_commands::{Sink, drive};
+use mx_driver::{Sink, drive};
 use mx_format::Letter;
 use mx_io::Output;
 use mx_network::Cluster;

@@ -1,60 +1,28 @@
-//! The names under which parcels and refusals are counted.
+//! Which parcels, and which refusals, are counted together.
 
-ghost use Rattle.std.specs.Prelude.{◌≡◌, ◌||◌, map};
-ghost use Rattle.std.specs.Str.{bytes_eq};
+ghost use Rattle.std.specs.Prelude.{◌≡◌};
 ghost use Rattle.mx_format.specs.Parts.{word_by};
-ghost use Rattle.mx_count.specs.Kinds.{cause_names, gossip_names, is_in, is_refused_under, is_under, letter_names, other_names, refused_names};
+ghost use Rattle.mx_count.specs.Kinds.{is_between, is_gossip, is_in, is_kind, is_own, is_refused_for, place_of};
 
 use mx_format::Letter;
 use mx_member::{Parcel, SentParcel};
-use mx_network::Outcome;
+use mx_network::{Cause, Entry, Outcome};
 use mx_stamps::NodeId;
 
+/// Parcels that are counted together.
 #[derive(Clone, Copy)]
 pub(crate) enum Group<'a> {
-    Named(&'a str),
+    /// The letters from one node to another.
+    Letters,
+    /// Those of them with this word.
+    Kind(&'a str),
+    /// The letters from a node to itself.
+    Own,
+    Gossip,
+    Want,
+    Base,
+    Records,
     SentBy(NodeId),
-}
-
-pub(crate) fn letter_names() -> &'static [&'static str]
-    ensures { map (λ name. name.now) result.now ≡ letter_names }
-{
-    &["letters"]
-}
-
-pub(crate) fn other_names() -> &'static [&'static str]
-    ensures { map (λ name. name.now) result.now ≡ other_names }
-{
-    &["own", "gossip"]
-}
-
-pub(crate) fn gossip_names() -> &'static [&'static str]
-    ensures { map (λ name. name.now) result.now ≡ gossip_names }
-{
-    &["want", "base", "records"]
-}
-
-pub(crate) fn refused_names() -> &'static [&'static str]
-    ensures { map (λ name. name.now) result.now ≡ refused_names }
-{
-    &["refused"]
-}
-
-pub(crate) fn cause_names() -> &'static [&'static str]
-    ensures { map (λ name. name.now) result.now ≡ cause_names }
-{
-    &[
-        "not idle",
-        "stamps spent",
-        "not waiting",
-        "not granted",
-        "numbers spent",
-        "not inside",
-        "no register",
-        "gap",
-        "full",
-        "below",
-    ]
 }
 
 pub(crate) fn is_in<M: Letter>(group: &Group<'_>, sent: &SentParcel<'_, M>) -> bool
@@ -62,35 +30,87 @@ pub(crate) fn is_in<M: Letter>(group: &Group<'_>, sent: &SentParcel<'_, M>) -> b
         (sent.now.from, sent.now.to, sent.now.parcel.now) }
 {
     match group {
-        Group::Named(name) => is_under(*name, sent),
+        Group::Letters => is_between(sent),
+        Group::Kind(word) => is_kind(*word, sent),
+        Group::Own => is_own(sent),
+        Group::Gossip => is_gossip(sent.parcel),
+        Group::Want => matches!(sent.parcel, Parcel::Want(_)),
+        Group::Base => matches!(sent.parcel, Parcel::Base(_)),
+        Group::Records => matches!(sent.parcel, Parcel::Records(_)),
         Group::SentBy(node) => sent.from.get() == node.get(),
     }
 }
 
-fn is_under<M: Letter>(name: &str, sent: &SentParcel<'_, M>) -> bool
-    ensures { result ≡ is_under (word_by M.parts) name.now
-        (sent.now.from, sent.now.to, sent.now.parcel.now) }
+pub(crate) fn is_between<M>(sent: &SentParcel<'_, M>) -> bool
+    ensures { result ≡ is_between sent.now.from sent.now.to sent.now.parcel.now }
 {
     match sent.parcel {
-        Parcel::Guard(_) if sent.from.get() == sent.to.get() => name == "own",
-        Parcel::Guard(letter) => is_either(name, "letters", letter.parts().word),
-        Parcel::Want(_) => is_either(name, "gossip", "want"),
-        Parcel::Base(_) => is_either(name, "gossip", "base"),
-        Parcel::Records(_) => is_either(name, "gossip", "records"),
+        Parcel::Guard(_) => sent.from.get() != sent.to.get(),
+        _ => false,
     }
 }
 
-fn is_either(name: &str, one: &str, other: &str) -> bool
-    ensures { result ≡ (bytes_eq name.now one.now || bytes_eq name.now other.now) }
+fn is_kind<M: Letter>(word: &str, sent: &SentParcel<'_, M>) -> bool
+    ensures { result ≡ is_kind (word_by M.parts) word.now sent.now.from sent.now.to
+        sent.now.parcel.now }
 {
-    name == one || name == other
+    match sent.parcel {
+        Parcel::Guard(letter) => { sent.from.get() != sent.to.get() && word == letter.parts().word }
+        _ => false,
+    }
 }
 
-pub(crate) fn is_refused_under(name: &str, outcome: &Outcome) -> bool
-    ensures { result ≡ is_refused_under name.now outcome.now }
+fn is_own<M>(sent: &SentParcel<'_, M>) -> bool
+    ensures { result ≡ is_own sent.now.from sent.now.to sent.now.parcel.now }
 {
-    match outcome {
-        Outcome::Refused(cause) => is_either(name, "refused", cause.words()),
+    match sent.parcel {
+        Parcel::Guard(_) => sent.from.get() == sent.to.get(),
         _ => false,
+    }
+}
+
+fn is_gossip<M>(parcel: &Parcel<M>) -> bool
+    ensures { result ≡ is_gossip parcel.now }
+{
+    !matches!(parcel, Parcel::Guard(_))
+}
+
+pub(crate) const CAUSES: [Cause; 10] = [
+    Cause::NotIdle,
+    Cause::StampsSpent,
+    Cause::NotWaiting,
+    Cause::NotGranted,
+    Cause::NumbersSpent,
+    Cause::NotInside,
+    Cause::NoRegister,
+    Cause::Gap(0),
+    Cause::Full,
+    Cause::Below(0),
+];
+
+/// Whether the event was refused for this cause, whatever its number.
+pub(crate) fn is_refused_for(cause: &Cause, entry: &Entry) -> bool
+    ensures { result ≡ is_refused_for cause.now entry.now.outcome }
+{
+    match &entry.outcome {
+        Outcome::Refused(other) => place_of(other) == place_of(cause),
+        _ => false,
+    }
+}
+
+fn place_of(cause: &Cause) -> u8
+    ensures { result ≡ place_of cause.now }
+{
+    match cause {
+        Cause::NotIdle => 0,
+        Cause::StampsSpent => 1,
+        Cause::NotWaiting => 2,
+        Cause::NotGranted => 3,
+        Cause::NumbersSpent => 4,
+        Cause::NotInside => 5,
+        Cause::NoRegister => 6,
+        Cause::Gap(_) => 7,
+        Cause::Full => 8,
+        Cause::Below(_) => 9,
     }
 }

@@ -5,12 +5,14 @@
 mod count_command;
 mod counted_run;
 mod kinds;
+mod lines;
 mod measures;
-mod node_counts;
-mod parcel_counts;
-mod refusal_counts;
+mod node_rows;
+mod objects;
+mod parcel_rows;
+mod refusal_rows;
+mod rows;
 mod spread;
-mod tallies;
 mod waits;
 
 pub use count_command::{Count, print_counts};

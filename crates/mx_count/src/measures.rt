@@ -4,11 +4,11 @@ ghost use Rattle.std.specs.Prelude.{◌≡◌, ◌<◌, ◌≤◌, ◌++◌, ◌
 ghost use Rattle.std.specs.Option.{option_map_or};
 ghost use Rattle.mx_count.specs.NodeCounts.{is_entry};
 ghost use Rattle.mx_count.specs.Waits.{ends_wait};
-ghost use Rattle.mx_count.specs.Measures.{delay_end, delay_from, delivers_letter, end_from, is_between, is_letter, letters_in, letters_until, measured, response_end, response_from};
+ghost use Rattle.mx_count.specs.Measures.{delay_end, delay_from, delivers_letter, end_from, is_letter, letters_in, letters_until, measured, response_end, response_from};
 
-use crate::node_counts::{is_entry, is_entry_of};
+use crate::kinds::is_between;
+use crate::node_rows::{is_entry, is_entry_of};
 use crate::waits::end_in;
-use mx_member::{Parcel, SentParcel};
 use mx_network::{Cluster, Entry, Event, Outcome};
 use mx_nodelaws::Exclusion;
 use mx_stamps::NodeId;
@@ -81,15 +81,6 @@ fn is_letter<C: Exclusion>(cluster: &Cluster<C>, number: u64) -> bool
     match cluster.sent_parcel(number) {
         Some(sent) => is_between(&sent),
         None => false,
-    }
-}
-
-fn is_between<M>(sent: &SentParcel<'_, M>) -> bool
-    ensures { result ≡ is_between sent.now.from sent.now.to sent.now.parcel.now }
-{
-    match sent.parcel {
-        Parcel::Guard(_) => sent.from.get() != sent.to.get(),
-        _ => false,
     }
 }
 

@@ -5,12 +5,12 @@ use Rattle.mx_io.specs.Told.{Telling}
 use Rattle.mx_cli.specs.Frames.{Runs, alone, both}
 use Rattle.mx_cli.specs.Reports.{Declines, ReportsUsage, Seen}
 use Rattle.mx_cli.specs.Requests.{Request, check, count, draw, explain, explore, judge, live, misfit, picture, picture_trace, play, replay, script}
-use Rattle.mx_commands.specs.Commands.{IsCheck}
-use Rattle.mx_commands.specs.Viewed.{IsReplayed, has_options}
+use Rattle.mx_driver.specs.Commands.{IsCheck}
+use Rattle.mx_driver.specs.Viewed.{IsReplayed, has_options}
 use Rattle.mx_count.specs.Printed.{IsCount}
 use Rattle.mx_explain.specs.Explained.{Explains}
-use Rattle.mx_explore.specs.Drawn.{IsDraw}
-use Rattle.mx_explore.specs.Explored.{IsExplored}
+use Rattle.mx_draw.specs.Drawn.{IsDraw}
+use Rattle.mx_draw.specs.Explored.{IsExplored}
 use Rattle.mx_judge.specs.Judged.{IsJudgement}
 use Rattle.mx_picture.specs.Pictures.{IsPictured}
 use Rattle.mx_picture.specs.TracePictures.{IsTracePictured}

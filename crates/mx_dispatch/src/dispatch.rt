@@ -10,10 +10,10 @@ ghost use Rattle.mx_scripts.specs.Printed.{IsOnText};
 ghost use Rattle.mx_dispatch.specs.Program.{Does};
 
 use mx_cli::{Command, Files, Names, Request, front, parse, refuse, report_misfit};
-use mx_commands::{Check, Replay};
 use mx_count::Count;
+use mx_draw::{Draw, Explore};
+use mx_driver::{Check, Replay};
 use mx_explain::explain;
-use mx_explore::{Draw, Explore};
 use mx_io::{Output, Source};
 use mx_judge::Judge;
 use mx_picture::{Picture, TracePicture};

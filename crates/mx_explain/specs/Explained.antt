@@ -7,7 +7,7 @@ use Rattle.mx_cli.specs.Frames.{FailsAtOnce, Files, IsReportOf, PrintsReport, al
 use Rattle.mx_cli.specs.Printing.{Course, End, Report, comes_to, has_fault, has_line, has_status, is_refused, is_short}
 use Rattle.mx_cli.specs.Reports.{Seen}
 use Rattle.mx_cli.specs.Requests.{text_of}
-use Rattle.mx_commands.specs.Commands.{IsCheck, IsReplay}
+use Rattle.mx_driver.specs.Commands.{IsCheck, IsReplay}
 use Rattle.mx_scripts.specs.Printed.{IsScript}
 use Rattle.mx_explain.specs.Reports.{AreShown, last_line, nothing_at_fault}
 use Rattle.mx_explain.specs.declared.explanation.Asked.{Asked}

@@ -4,13 +4,13 @@ ghost use Rattle.std.specs.Prelude.{false};
 ghost use Rattle.mx_cli.specs.Frames.{alone, both};
 ghost use Rattle.mx_cli.specs.Printing.{Prints, null_output};
 ghost use Rattle.mx_cli.specs.Words.{names_of};
-ghost use Rattle.mx_commands.specs.Commands.{IsCheck, IsReplay};
+ghost use Rattle.mx_driver.specs.Commands.{IsCheck, IsReplay};
 ghost use Rattle.mx_explain.specs.Explained.{IsAsked, IsReportFor, IsTextReport};
 
 use crate::explanation::Asked;
 use crate::notes::Notes;
 use mx_cli::{Files, Named, Names, Stop, fetch_both, run_files, stop_for};
-use mx_commands::{Check, NullOutput, observe};
+use mx_driver::{Check, NullOutput, observe};
 use mx_io::Source;
 use mx_plan::{Plan, read_events};
 use mx_scripts::run_script;

@@ -1,12 +1,12 @@
 //! What a run notes of its events, until there is a report.
 
-ghost use Rattle.mx_commands.specs.Runs.{silent};
+ghost use Rattle.mx_driver.specs.Runs.{silent};
 
 use crate::location::Part;
 use crate::report::{MAX_LINES, Report, ReportResult};
 use crate::spot::offset_of;
 use mx_cli::Fault;
-use mx_commands::{Sink, stuck_in, stuck_nodes};
+use mx_driver::{Sink, stuck_in, stuck_nodes};
 use mx_events::Event;
 use mx_format::{EventText, OutcomeText, Waiter, add_facts_line, add_stuck};
 use mx_knowledge::Knowledge;

@@ -1,7 +1,6 @@
 -- Entries of items, one after another.
 use Rattle.std.proofs.Common.{◌≡◌, ◌∙◌, ◌⊎◌, ℕ, ◌+◌, ◌<◌, ◌≤◌, List, ◌∷◌, length, map, drop, get_or, ap, inl, inr, refl, subst, sym, add-one, drop-cons, Option, Some, None, false, Result, Ok, Err}
 use Rattle.std.proofs.lemmas.List.{drop_all}
-use Rattle.mx_trace.specs.declared.outcome.Entry.{Entry}
 use Rattle.std.specs.List.{list_all}
 use Rattle.serde_json.specs.Data.{Data}
 use Rattle.mx_plan.specs.Text.{Text}
@@ -9,24 +8,26 @@ use Rattle.mx_plan.specs.Fields.{Fields}
 use Rattle.mx_plan.specs.Values.{value_of}
 use Rattle.mx_judge.specs.Entries.{item_of}
 use Rattle.mx_judge.specs.Listed.{Listed}
-use Rattle.mx_judge.specs.Traces.{Answers, Gives, Refuses, entries_from, go_on, is_blank, line_item, with_item}
+use Rattle.mx_judge.specs.Members.{Answers}
+use Rattle.mx_judge.specs.declared.entry_reader.Item.{Item}
+use Rattle.mx_judge.specs.Traces.{Gives, Refuses, entries_from, go_on, is_blank, is_marked, line_item, with_item}
 use Rattle.mx_judge.specs.declared.faults.ItemFault.{ItemFault}
 use Rattle.mx_judge.specs.declared.faults.ItemFault.TheVariants as item
 use Rattle.mx_judge.specs.declared.faults.TraceFault.{TraceFault}
 use Rattle.mx_judge.specs.declared.faults.TraceFault.TheVariants.{Memory}
 
 -- a line that is not blank, read as JSON or not
-pub line_read : (p : Fields) (line : Text) (d : Data) → list_all is_blank line ≡ false → value_of line ≡ Some d → item_of p d ≡ line_item p line
+pub line_read : (p : Fields) (line : Text) (d : Data) → list_all is_blank line ≡ false → is_marked line ≡ false → value_of line ≡ Some d → item_of p d ≡ line_item p line
 unfolding line_item
-line_read p line d marked is = rw (marked, is) refl
+line_read p line d full plain is = rw (full, plain, is) refl
 
-pub line_unread : (p : Fields) (line : Text) (fault : ItemFault) → list_all is_blank line ≡ false
+pub line_unread : (p : Fields) (line : Text) (fault : ItemFault) → list_all is_blank line ≡ false → is_marked line ≡ false
     → (fault ≡ item.Memory) ⊎ ((fault ≡ item.NotJson) × (value_of line ≡ None)) → Answers (line_item p line) (Err fault)
 unfolding line_item
-line_unread p line fault marked (inl memory) = inr (ap Err memory)
-line_unread p line fault marked (inr none) = inl (rw (marked, none.1) (ap Err none.0))
+line_unread p line fault full plain (inl memory) = inr (ap Err memory)
+line_unread p line fault full plain (inr none) = inl (rw (full, plain, none.1) (ap Err none.0))
 
-module _ {X A : Type 0} (view : X → A) (item : A → Result (Option Entry) ItemFault) (name : ℕ → ItemFault → TraceFault) (xs : List X) where
+module _ {X A : Type 0} (view : X → A) (item : A → Result (Option Item) ItemFault) (name : ℕ → ItemFault → TraceFault) (xs : List X) where
   -- this trace, and the entries of the items from the k-th on
   abbrev pub rest : Listed → ℕ → Result Listed TraceFault
   rest t k = entries_from name t (k + 1) (map item (map view (drop k xs)))
@@ -59,16 +60,16 @@ gives_refused name k wanted found fault memory named (inr is) = inr (ap (name k)
 
 -- ---- an item that is read, unless memory runs out
 
-no_memory : (k : ℕ) (t more : Listed) (read : Result (Option Entry) ItemFault) → read ≡ Err item.Memory → with_item k t read ≡ Ok more → ⊥
+no_memory : (k : ℕ) (t more : Listed) (read : Result (Option Item) ItemFault) → read ≡ Err item.Memory → with_item k t read ≡ Ok more → ⊥
 no_memory k t more read is added =
     let refused : with_item k t read ≡ Err item.Memory = ap (with_item k t) is in cc
 
-pub added : (k : ℕ) (t more : Listed) (read wanted : Result (Option Entry) ItemFault) → Answers wanted read → with_item k t read ≡ Ok more → with_item k t wanted ≡ Ok more
-added k t more read wanted (inl is) h = subst (λ (r : Result (Option Entry) ItemFault). with_item k t r ≡ Ok more) is h
+pub added : (k : ℕ) (t more : Listed) (read wanted : Result (Option Item) ItemFault) → Answers wanted read → with_item k t read ≡ Ok more → with_item k t wanted ≡ Ok more
+added k t more read wanted (inl is) h = subst (λ (r : Result (Option Item) ItemFault). with_item k t r ≡ Ok more) is h
 added k t more read wanted (inr is) h = absurd (no_memory k t more read is h)
 
-pub refused : (k : ℕ) (t : Listed) (read wanted : Result (Option Entry) ItemFault) (fault : ItemFault) → Answers wanted read → Refuses (with_item k t read) fault → Refuses (with_item k t wanted) fault
-refused k t read wanted fault (inl is) h = subst (λ (r : Result (Option Entry) ItemFault). Refuses (with_item k t r) fault) is h
+pub refused : (k : ℕ) (t : Listed) (read wanted : Result (Option Item) ItemFault) (fault : ItemFault) → Answers wanted read → Refuses (with_item k t read) fault → Refuses (with_item k t wanted) fault
+refused k t read wanted fault (inl is) h = subst (λ (r : Result (Option Item) ItemFault). Refuses (with_item k t r) fault) is h
 refused k t read wanted fault (inr is) (inr h) = inr h
 refused k t read wanted fault (inr is) (inl h) =
     let out : with_item k t read ≡ Err item.Memory = ap (with_item k t) is in

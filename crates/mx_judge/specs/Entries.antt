@@ -1,4 +1,4 @@
--- The entry in an object: an event with its outcome.
+-- What is in an object: an event with its outcome, or a message.
 use Rattle.std.specs.Prelude.{◌||◌, List, [], ◌∷◌, Bool, Option, Some, None, Result, Ok, Err, codes, is_some, if◌then◌else◌}
 use Rattle.std.specs.Option.{ok_or, option_map_or}
 use Rattle.serde_json.specs.Data.{Data}
@@ -15,14 +15,16 @@ use Rattle.mx_events.specs.declared.event.Event.{Event}
 use Rattle.mx_events.specs.declared.kind.EventKind.{EventKind}
 use Rattle.mx_trace.specs.declared.outcome.Entry.{Entry}
 use Rattle.mx_judge.specs.Members.{and_then, has_member, number_at, text_at}
+use Rattle.mx_judge.specs.Messages.{message_of}
 use Rattle.mx_judge.specs.Outcomes.{outcome_of}
+use Rattle.mx_judge.specs.declared.entry_reader.Item.{Item}
+use Rattle.mx_judge.specs.declared.entry_reader.Item.TheVariants as in_trace
 use Rattle.mx_judge.specs.declared.members.Member.{Member}
 use Rattle.mx_judge.specs.declared.members.Member.TheVariants as member
 use Rattle.mx_judge.specs.declared.faults.ItemFault.{ItemFault}
 use Rattle.mx_judge.specs.declared.faults.ItemFault.TheVariants.{NoOutcome, NotEvent, Wrong}
 
--- the object is that of a parcel, a node, a run that stands still or a verdict; it is passed over if
--- it has no `act`
+-- the object is that of a message, a node, a run that stands still or a verdict
 abbrev pub is_passed_over : Data → Bool
 is_passed_over d =
     has_member (codes "kind") d || has_member (codes "phase") d || has_member (codes "stuck") d
@@ -74,10 +76,18 @@ module _ (p : Fields) (d : Data) where
       and_then event_in
       (λ e. and_then (outcome_of e d) (λ outcome. Ok (record { event = e; outcome = outcome })))
 
-  -- the entry of an object that has `act`; none, of an object that is passed over; or a fault
-  unfoldable pub item_of : Result (Option Entry) ItemFault
+  abbrev pub event_item : Result (Option Item) ItemFault
+  event_item = and_then entry_of (λ entry. Ok (Some (in_trace.Event entry)))
+
+  abbrev pub message_item : Result (Option Item) ItemFault
+  message_item = and_then (message_of p d) (λ message. Ok (Some (in_trace.Message message)))
+
+  -- the entry of an object that has `act`, or else the message of one that has `kind`; none, of an
+  -- object that is passed over; or a fault
+  unfoldable pub item_of : Result (Option Item) ItemFault
   item_of =
-      if has_member (codes "act") d then and_then entry_of (λ entry. Ok (Some entry))
+      if has_member (codes "act") d then event_item
+      else if has_member (codes "kind") d then message_item
       else if is_passed_over d then Ok None
       else if is_bare_event d then Err NoOutcome
       else Err NotEvent

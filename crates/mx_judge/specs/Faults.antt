@@ -18,10 +18,12 @@ list_fault k item.Memory = Memory
 list_fault k fault = Item k fault
 
 abbrev pub item_text : ItemFault → Text
+item_text item.Mark = codes "a byte order mark"
 item_text item.NotJson = codes "not json"
 item_text item.NotEvent = codes "no event"
 item_text item.NoOutcome = codes "an event without outcome, as in a file of events"
 item_text (item.Wrong m) = key_of m ++ codes ": " ++ message_of m
+item_text item.NoSender = codes "a message before the first event"
 item_text item.TooMany = codes "more than 1000000 events"
 item_text item.Memory = codes "out of memory"
 

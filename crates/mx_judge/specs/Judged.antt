@@ -7,11 +7,11 @@ use Rattle.mx_explorer.specs.Verdict.{IsFirstBroken, IsSoundTrace}
 use Rattle.mx_explorer.specs.declared.verdict.Clause.{Clause}
 use Rattle.mx_explorer.specs.declared.verdict.Verdict.{Verdict}
 use Rattle.mx_explorer.specs.declared.verdict.Verdict.TheVariants.{Sound, Broken}
-use Rattle.mx_commands.specs.VerdictLines.{clause_text, verdict_line, verdict_status}
+use Rattle.mx_driver.specs.VerdictLines.{clause_text, verdict_line, verdict_status}
 use Rattle.mx_cli.specs.Printing.{IsWhole, Report, ends, has_line}
 use Rattle.mx_format.specs.Lines.{texts_from}
 use Rattle.mx_format.specs.Members.{number_member, word_member, word_start}
-use Rattle.mx_judge.specs.EntryJson.{entry_json}
+use Rattle.mx_judge.specs.EntryJson.{sending_json}
 use Rattle.mx_judge.specs.Faults.{trace_line}
 use Rattle.mx_judge.specs.Listed.{Listed, place_of}
 use Rattle.mx_judge.specs.Reasons.{entered_in, reason_for}
@@ -71,9 +71,9 @@ module _ (word : Text) (t : Listed) (reason : Text) where
   verdict_object verdict =
       verdict_start verdict ++ counts_members t.entries ++ reason_members verdict ++ codes "}\n"
 
-  -- an object for each entry, and then that of the verdict
+  -- an object for each entry and each message, and then that of the verdict
   abbrev pub judged_json : Fields → Verdict → Text
-  judged_json p verdict = texts_from (entry_json p) 0 t.entries ++ verdict_object verdict
+  judged_json p verdict = texts_from (sending_json p t) 0 t.entries ++ verdict_object verdict
 
   abbrev pub judged_text : Bool → Fields → Verdict → Text
   judged_text is_json p verdict = if is_json then judged_json p verdict else judged_lines verdict
@@ -84,8 +84,8 @@ judgement_text is_json p word t verdict =
     judged_text word t (reason_for p t.entries verdict) is_json p verdict
 
 -- the counts, the line of the verdict and, if the trace is broken, why, with status 0 or 4; as
--- JSON, an object for each event, and one for the verdict. Or the line of the fault of a text that
--- lists no trace
+-- JSON, an object for each event and each message, and one for the verdict. Or the line of the fault
+-- of a text that lists no trace
 abbrev pub IsJudged : Bool → Fields → Text → Result Listed TraceFault → Report → Type 0
 IsJudged is_json p word (Ok t) r =
     (verdict : Verdict) × IsVerdictOf t.entries verdict

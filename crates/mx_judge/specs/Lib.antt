@@ -1,11 +1,12 @@
--- Members: the members of an event's object. Faults: the faults of a trace, and the line for each.
--- Outcomes, Entries: the outcome and the entry in an object. Listed: a trace with the places of its
--- entries. Traces: the trace in a text. Scenes: what the sections before an event say of it.
--- Reasons: why an event breaks a rule, in words. EntryJson: entries as JSON. Judged: what is
--- printed.
+-- Members: the members of objects. Faults: the faults of a trace, and the line for each. Outcomes,
+-- Messages, Entries: the outcome, the message and the entry in an object. Listed: a trace with the
+-- places of its entries. Traces: the trace in a text. Scenes: what the sections before an event say
+-- of it. Reasons: why an event breaks a rule, in words. EntryJson: entries and messages as JSON.
+-- Judged: what is printed.
 pub mod Members
 pub mod Faults
 pub mod Outcomes
+pub mod Messages
 pub mod Entries
 pub mod Listed
 pub mod Traces

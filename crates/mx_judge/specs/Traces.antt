@@ -1,5 +1,5 @@
 -- The trace in a text.
-use Rattle.std.specs.Prelude.{◌≡◌, ◌⊎◌, ◌||◌, ◌&&◌, ◌==◌, ◌+◌, ◌++◌, ℕ, List, [], ◌∷◌, Bool, false, not, length, map, nat_lt, codes, if◌then◌else◌, Option, Some, None, Result, Ok, Err}
+use Rattle.std.specs.Prelude.{◌≡◌, ◌⊎◌, ◌||◌, ◌&&◌, ◌==◌, ◌+◌, ℕ, List, [], ◌∷◌, Bool, false, not, length, map, nat_lt, codes, if◌then◌else◌, Option, Some, None, Result, Ok, Err}
 use Rattle.std.specs.List.{find, list_all, slice_split}
 use Rattle.std.specs.Option.{option_map_or}
 use Rattle.serde_json.specs.Data.{Data}
@@ -13,17 +13,16 @@ use Rattle.mx_cli.specs.declared.stop.Stop.{Stop}
 use Rattle.mx_cli.specs.declared.stop.Stop.TheVariants as stop
 use Rattle.mx_judge.specs.Entries.{is_passed_over, item_of}
 use Rattle.mx_judge.specs.Faults.{line_fault, list_fault, trace_line}
-use Rattle.mx_judge.specs.Listed.{Listed, listed, nothing}
+use Rattle.mx_judge.specs.Listed.{Listed, listed, nothing, with_message, with_one}
 use Rattle.mx_judge.specs.Members.{has_member}
+use Rattle.mx_judge.specs.Messages.{Sent}
+use Rattle.mx_judge.specs.declared.entry_reader.Item.{Item}
+use Rattle.mx_judge.specs.declared.entry_reader.Item.TheVariants.{Event, Message}
 use Rattle.mx_judge.specs.declared.faults.ItemFault.{ItemFault}
 use Rattle.mx_judge.specs.declared.faults.ItemFault.TheVariants as item
 use Rattle.mx_judge.specs.declared.faults.TraceFault.{TraceFault}
 use Rattle.mx_judge.specs.declared.faults.TraceFault.TheVariants.{NotJson, Plan, Memory}
 use Rattle.mx_judge.specs.declared.trace.Trace.{Trace}
-
--- the result is `wanted`, or memory ran out
-abbrev pub Answers : {T : Type 0} → Result T ItemFault → Result T ItemFault → Type 0
-Answers wanted r = (r ≡ wanted) ⊎ (r ≡ Err item.Memory)
 
 -- `wanted` is this fault, or the fault is that memory ran out
 abbrev pub Refuses : {T : Type 0} → Result T ItemFault → ItemFault → Type 0
@@ -45,26 +44,37 @@ Reads wanted (Err end) =
 abbrev pub is_blank : ℕ → Bool
 is_blank b = b == 32 || b == 9 || b == 10 || b == 13
 
--- the entry of a line; none, if the line is blank or its object is passed over; or a fault
-unfoldable pub line_item : Fields → Text → Result (Option Entry) ItemFault
+-- the text begins with the byte order mark of UTF-8
+abbrev pub is_marked : Text → Bool
+is_marked (a ∷ b ∷ c ∷ rest) = a == 239 && b == 187 && c == 191
+is_marked _ = false
+
+-- the entry or the message of a line; none, if the line is blank or its object is passed over; or a
+-- fault
+unfoldable pub line_item : Fields → Text → Result (Option Item) ItemFault
 line_item p line =
     if list_all is_blank line then Ok None
+    else if is_marked line then Err item.Mark
     else option_map_or (item_of p) (value_of line) (Err item.NotJson)
 
--- this trace, with the entry of the k-th line or item after it
-abbrev pub with_one : ℕ → Listed → Entry → Listed
-with_one k t entry =
-    record { entries = t.entries ++ entry ∷ []; places = t.places ++ k ∷ [] }
-
--- this trace, and then the entry of the k-th line or item, if it has one; a fault, if there are too
--- many
-abbrev pub with_entry : ℕ → Listed → Option Entry → Result Listed ItemFault
-with_entry k t None = Ok t
-with_entry k t (Some entry) =
+-- this trace, and then the entry of the k-th line or item; a fault, if there are too many
+abbrev pub with_entry : ℕ → Listed → Entry → Result Listed ItemFault
+with_entry k t entry =
     if nat_lt (length t.entries) MAX_EVENTS then Ok (with_one k t entry) else Err item.TooMany
 
-abbrev pub with_item : ℕ → Listed → Result (Option Entry) ItemFault → Result Listed ItemFault
-with_item k t (Ok entry) = with_entry k t entry
+-- this trace, whose newest entry sends this message too; a fault, if it has no entry
+abbrev pub with_sent : Listed → Sent → Result Listed ItemFault
+with_sent t message =
+    if length t.entries == 0 then Err item.NoSender else Ok (with_message t message)
+
+-- this trace, and then what the k-th line or item has, if it has something
+abbrev pub with_any : ℕ → Listed → Option Item → Result Listed ItemFault
+with_any k t None = Ok t
+with_any k t (Some (Event entry)) = with_entry k t entry
+with_any k t (Some (Message message)) = with_sent t message
+
+abbrev pub with_item : ℕ → Listed → Result (Option Item) ItemFault → Result Listed ItemFault
+with_item k t (Ok item) = with_any k t item
 with_item k t (Err fault) = Err fault
 
 -- continues if the k-th item had no fault; otherwise returns the fault with this number
@@ -75,7 +85,7 @@ go_on name k (Err fault) f = Err (name k fault)
 
 -- this trace, and then the entries of these items, the first with the number k; or the first fault
 unfoldable pub entries_from : (ℕ → ItemFault → TraceFault) → Listed → ℕ
-    → List (Result (Option Entry) ItemFault) → Result Listed TraceFault
+    → List (Result (Option Item) ItemFault) → Result Listed TraceFault
 entries_from name t k [] = Ok t
 entries_from name t k (i ∷ items) =
     go_on name k (with_item k t i) (λ more. entries_from name more (k + 1) items)

@@ -1,9 +1,13 @@
-//! The entries of a trace as JSON.
+//! The entries and the messages of a trace as JSON.
 
 ghost use Rattle.std.specs.Prelude.{◌≡◌, ◌++◌, OnOk, string_bytes};
-ghost use Rattle.mx_format.specs.Lines.{texts_from};
+ghost use Rattle.mx_format.specs.Lines.{each_text, texts_from};
 ghost use Rattle.mx_judge.specs.EntryJson as spec;
+ghost use Rattle.mx_judge.specs.Listed.{listed};
+ghost use Rattle.mx_judge.specs.Messages.{message_json};
 
+use crate::message::{Message, add_message};
+use crate::trace::Trace;
 use mx_events::Event;
 use mx_format::json::{add_number, add_word, start_number};
 use mx_format::{add_event_json, name_of};
@@ -12,17 +16,39 @@ use mx_stamps::NodeId;
 use mx_trace::{Entry, Outcome};
 use std::alloc::AllocError;
 
-/// Appends the lines of the entries of a trace, each an object of JSON.
-pub(crate) fn add_entries(
+/// Appends the lines of the entries of a trace, each an object of JSON, with the messages of each.
+pub(crate) fn add_entries(plan: &Plan, trace: &Trace, text: &mut String) -> Result<(), AllocError>
+    ensures { OnOk result (string_bytes text.new ≡ string_bytes text.old
+        ++ texts_from (spec.sending_json plan.now (listed trace.now)) 0 trace.now.entries.items) }
+{
+    let entries = trace.entries.as_slice();
+    for (index, entry) in entries.iter().enumerate() {
+        add_sending(plan, trace, index, entry, text)?;
+    }
+    Ok(())
+}
+
+/// Appends the line of an entry, and those of the messages that it sends.
+fn add_sending(
     plan: &Plan,
-    entries: &[Entry],
+    trace: &Trace,
+    index: usize,
+    entry: &Entry,
     text: &mut String,
 ) -> Result<(), AllocError>
-    ensures { OnOk result (string_bytes text.new
-        ≡ string_bytes text.old ++ texts_from (spec.entry_json plan.now) 0 entries.now) }
+    ensures { OnOk result (string_bytes text.new ≡ string_bytes text.old
+        ++ spec.sending_json plan.now (listed trace.now) index entry.now) }
 {
-    for (index, entry) in entries.iter().enumerate() {
-        add_entry(plan, index as u64, entry, text)?;
+    add_entry(plan, index as u64, entry, text)?;
+    add_messages(plan, trace.sent_by(index), text)
+}
+
+fn add_messages(plan: &Plan, messages: &[Message], text: &mut String) -> Result<(), AllocError>
+    ensures { OnOk result (string_bytes text.new
+        ≡ string_bytes text.old ++ each_text (message_json plan.now) messages.now) }
+{
+    for message in messages {
+        add_message(plan, message, text)?;
     }
     Ok(())
 }

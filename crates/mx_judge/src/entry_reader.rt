@@ -1,29 +1,39 @@
-//! Reading an entry of a trace from a JSON object.
+//! Reading an entry of a trace, or a message, from a JSON object.
 
 ghost use Rattle.std.specs.Prelude.{◌≡◌, map};
 ghost use Rattle.serde_json.specs.View.{view};
 ghost use Rattle.mx_plan.specs.Values.{list_in};
 ghost use Rattle.mx_judge.specs.Entries as spec;
+ghost use Rattle.mx_judge.specs.Members.{Answers};
 
 use crate::faults::ItemFault;
 use crate::members::{Member, has_member, number_at, text_at};
+use crate::message::{Message, message_in};
 use crate::outcome_reader::outcome_in;
 use mx_events::{Argument, ArgumentKind, Event, EventKind};
 use mx_journal::Receipt;
 use mx_plan::Plan;
 use mx_trace::{Boxed, Entry};
 use serde_json::Value;
+use std::alloc::Global;
+
+/// What an object of a trace has.
+#[derive(Drop)]
+pub(crate) enum Item {
+    Event(Entry),
+    Message(Message),
+}
 
 #[tactic(auto, unfolding(crate::specs::Entries::item_of))]
-pub(crate) fn item_in(
-    plan: &Plan,
-    value: &Value,
-    room: Boxed<Receipt>,
-) -> Result<Option<Entry>, ItemFault>
-    ensures { result ≡ spec.item_of plan.now (view value.now) }
+pub(crate) fn item_in(alloc: Global, plan: &Plan, value: &Value) -> Result<Option<Item>, ItemFault>
+    ensures { Answers (spec.item_of plan.now (view value.now)) result }
 {
     if has_member(value, "act") {
-        return Ok(Some(entry_in(plan, value, room)?));
+        let room = Boxed::new(alloc, Receipt::default())?;
+        return Ok(Some(Item::Event(entry_in(plan, value, room)?)));
+    }
+    if has_member(value, "kind") {
+        return Ok(Some(Item::Message(message_in(alloc, plan, value)?)));
     }
     if is_passed_over(value) {
         return Ok(None);

@@ -6,12 +6,14 @@ ghost use Rattle.mx_judge.specs.Faults.{item_text, line_fault, list_fault, trace
 
 use crate::members::Member;
 use mx_cli::{Stop, stop_with};
-use std::alloc::Global;
+use std::alloc::{AllocError, Global};
 use std::fmt;
 
 /// The fault of a line of a trace, or of an item of an array.
 #[derive(Clone, Copy)]
 pub(crate) enum ItemFault {
+    /// It begins with a byte order mark.
+    Mark,
     /// It is not valid JSON, or not valid UTF-8.
     NotJson,
     /// It is not an object of an event, a parcel, a node or a verdict.
@@ -19,6 +21,8 @@ pub(crate) enum ItemFault {
     /// It is an event without an outcome.
     NoOutcome,
     Wrong(Member),
+    /// It is a message, and no event is before it.
+    NoSender,
     /// There are 1,000,000 events before it.
     TooMany,
     Memory,
@@ -29,15 +33,28 @@ impl fmt::Display for ItemFault {
 
     fn fmt<W: fmt::Write>(&self, f: &mut fmt::Formatter<W>) -> fmt::Result {
         match self {
+            ItemFault::Mark => f.write_str("a byte order mark"),
             ItemFault::NotJson => f.write_str("not json"),
             ItemFault::NotEvent => f.write_str("no event"),
             ItemFault::NoOutcome => {
                 f.write_str("an event without outcome, as in a file of events")
             }
             ItemFault::Wrong(member) => write!(f, "{}: {}", member.key(), member.message()),
+            ItemFault::NoSender => f.write_str("a message before the first event"),
             ItemFault::TooMany => f.write_str("more than 1000000 events"),
             ItemFault::Memory => f.write_str("out of memory"),
         }
+    }
+}
+
+impl From<AllocError> for ItemFault {
+    ghost use Rattle.std.specs.Prelude.{◌≡◌};
+    ghost use Rattle.mx_judge.specs.declared.faults.ItemFault.TheVariants.{Memory};
+
+    ghost from_gives = { λ _ fault. fault ≡ Memory };
+
+    fn from(_e: AllocError) -> ItemFault {
+        ItemFault::Memory
     }
 }
 

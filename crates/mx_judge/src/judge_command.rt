@@ -9,7 +9,7 @@ use crate::judgement::judgement_of;
 use crate::trace::Trace;
 use crate::trace_reader::{place_word, trace_in};
 use mx_cli::{Command, Stop, print};
-use mx_commands::verdict_status;
+use mx_driver::verdict_status;
 use mx_explorer::judge;
 use mx_io::Output;
 use mx_plan::Plan;

@@ -1,14 +1,14 @@
 //! What is printed of a trace and its verdict.
 
 ghost use Rattle.std.specs.Prelude.{◌≡◌, ◌++◌, IfOk, OnOk, string_bytes};
-ghost use Rattle.mx_commands.specs.VerdictLines.{clause_text};
+ghost use Rattle.mx_driver.specs.VerdictLines.{clause_text};
 ghost use Rattle.mx_judge.specs.Listed.{listed};
 ghost use Rattle.mx_judge.specs.Judged as spec;
 
 use crate::entry_json::add_entries;
 use crate::reasons::{entered_in, reason_for};
 use crate::trace::Trace;
-use mx_commands::VerdictLine;
+use mx_driver::VerdictLine;
 use mx_explorer::{Clause, Verdict};
 use mx_format::json::{add_number, add_word, start_word};
 use mx_plan::Plan;
@@ -65,7 +65,7 @@ impl Judged<'_> {
             is_json plan.now verdict) }
     {
         if is_json {
-            add_entries(plan, self.trace.entries.as_slice(), text)?;
+            add_entries(plan, self.trace, text)?;
             self.add_object(verdict, text)
         } else {
             self.add_lines(verdict, text)

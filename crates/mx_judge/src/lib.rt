@@ -8,6 +8,7 @@ mod faults;
 mod judge_command;
 mod judgement;
 mod members;
+mod message;
 mod outcome_reader;
 mod reasons;
 mod scene;
@@ -16,6 +17,7 @@ mod trace_reader;
 
 pub use judge_command::Judge;
 pub use judgement::{clause_word, judgement_of};
+pub use message::{Message, Parts};
 pub use reasons::reason_for;
 pub use trace::Trace;
 pub use trace_reader::{place_word, trace_in};

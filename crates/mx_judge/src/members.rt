@@ -1,4 +1,4 @@
-//! The members of the object of an event.
+//! The members of the objects of events and messages.
 
 ghost use Rattle.std.specs.Prelude.{◌≡◌};
 ghost use Rattle.serde_json.specs.View.{view};
@@ -12,6 +12,8 @@ pub(crate) enum Member {
     Act,
     Node,
     From,
+    To,
+    Of,
     Register,
     Value,
     Upto,
@@ -20,6 +22,12 @@ pub(crate) enum Member {
     Number,
     Count,
     Cause,
+    Kind,
+    Stamp,
+    Hop,
+    Top,
+    Grant,
+    Last,
 }
 
 impl Member {
@@ -30,6 +38,8 @@ impl Member {
             Member::Act => "act",
             Member::Node => "node",
             Member::From => "from",
+            Member::To => "to",
+            Member::Of => "of",
             Member::Register => "register",
             Member::Value => "value",
             Member::Upto => "upto",
@@ -38,6 +48,12 @@ impl Member {
             Member::Number => "number",
             Member::Count => "count",
             Member::Cause => "cause",
+            Member::Kind => "kind",
+            Member::Stamp => "stamp",
+            Member::Hop => "hop",
+            Member::Top => "top",
+            Member::Grant => "grant",
+            Member::Last => "last",
         }
     }
 
@@ -46,11 +62,11 @@ impl Member {
     {
         match self {
             Member::Act | Member::Cause => "no such word",
-            Member::Node | Member::From => "no such node",
+            Member::Node | Member::From | Member::To | Member::Of => "no such node",
             Member::Register => "no such register",
             Member::Outcome => "not one of its act",
-            Member::Value | Member::Upto | Member::Parcel | Member::Number | Member::Count =>
-                "not a number",
+            Member::Kind => "not a text",
+            _ => "not a number",
         }
     }
 }

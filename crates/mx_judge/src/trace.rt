@@ -1,12 +1,11 @@
 //! A trace, with the place of each event in its text.
 
-ghost use Rattle.std.specs.Prelude.{◌≡◌, ◌++◌, [], ◌∷◌, IfErr, OnOk};
-ghost use Rattle.mx_judge.specs.Listed.{listed, nothing, place_of};
-ghost use Rattle.mx_judge.specs.Traces.{with_one};
+ghost use Rattle.std.specs.Prelude.{◌≡◌, OnOk};
+ghost use Rattle.mx_judge.specs.Listed.{listed, nothing, place_of, sent_by, start_of, with_message, with_one};
 
-use crate::faults::ItemFault;
+use crate::message::Message;
 use mx_trace::Entry;
-use std::alloc::Global;
+use std::alloc::{AllocError, Global};
 
 /// A trace that is read from a text.
 #[derive(Drop)]
@@ -14,6 +13,10 @@ pub struct Trace {
     pub entries: Vec<Entry>,
     /// For each entry the number of its line or, in an array, of its item, from 1 on.
     pub places: Vec<u64>,
+    /// The messages that the events send, in order.
+    pub messages: Vec<Message>,
+    /// For each entry how many messages stand before it.
+    pub starts: Vec<usize>,
 }
 
 impl Trace {
@@ -23,29 +26,28 @@ impl Trace {
         Trace {
             entries: Vec::new(alloc),
             places: Vec::new(alloc),
+            messages: Vec::new(alloc),
+            starts: Vec::new(alloc),
         }
     }
 
     /// Appends an entry, the one of this line or item.
-    pub(crate) fn push(&mut self, place: u64, entry: Entry) -> Result<(), ItemFault>
-        ensures ok { OnOk result (listed self.new ≡ with_one place (listed self.old) entry) }
-        ensures err { IfErr result (λ fault. fault ≡ ItemFault.Memory) }
+    pub(crate) fn push(&mut self, place: u64, entry: Entry) -> Result<(), AllocError>
+        ensures { OnOk result (listed self.new ≡ with_one place (listed self.old) entry) }
     {
-        match self.entries.push(entry) {
-            Ok(()) => self.push_place(place),
-            Err(_) => Err(ItemFault::Memory),
-        }
+        let start = self.messages.len();
+        self.places.push(place)?;
+        self.starts.push(start)?;
+        self.entries.push(entry)?;
+        Ok(())
     }
 
-    fn push_place(&mut self, place: u64) -> Result<(), ItemFault>
-        ensures ok { OnOk result (self.new.places.items ≡ self.old.places.items ++ place ∷ []) }
-        ensures stays { self.new.entries ≡ self.old.entries }
-        ensures err { IfErr result (λ fault. fault ≡ ItemFault.Memory) }
+    /// Appends a message, which the newest entry sends.
+    pub(crate) fn send(&mut self, message: Message) -> Result<(), AllocError>
+        ensures { OnOk result (listed self.new ≡ with_message (listed self.old) message) }
     {
-        match self.places.push(place) {
-            Ok(()) => Ok(()),
-            Err(_) => Err(ItemFault::Memory),
-        }
+        self.messages.push(message)?;
+        Ok(())
     }
 
     /// Returns the number of the line or item of the entry with this index, or 0 if there is no such
@@ -56,6 +58,31 @@ impl Trace {
         match self.places.get(index as usize) {
             Some(place) => *place,
             None => 0,
+        }
+    }
+
+    /// Returns the messages that the entry with this index sends; none, if there is no such entry.
+    pub fn sent_by(&self, index: usize) -> &[Message]
+        ensures { result.now ≡ sent_by (listed self.now) index }
+    {
+        if index >= self.starts.len() {
+            return &[];
+        }
+        match self
+            .messages
+            .get(self.start_of(index)..self.start_of(index + 1))
+        {
+            Some(messages) => messages,
+            None => &[],
+        }
+    }
+
+    fn start_of(&self, index: usize) -> usize
+        ensures { result ≡ start_of (listed self.now) index }
+    {
+        match self.starts.get(index) {
+            Some(start) => *start,
+            None => self.messages.len(),
         }
     }
 }

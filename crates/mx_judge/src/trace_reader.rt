@@ -1,4 +1,4 @@
-//! Reading a trace: an entry for each line, or for each item of an array.
+//! Reading a trace: an entry or a message for each line, or for each item of an array.
 
 ghost use Rattle.std.specs.Prelude.{◌≡◌, ◌⊎◌, Some, None, Ok, IfOk, IfErr, OnOk, map, option_map};
 ghost use Rattle.std.specs.List.{list_all};
@@ -7,17 +7,16 @@ ghost use Rattle.mx_plan.specs.Values.{value_of};
 ghost use Rattle.mx_judge.specs.Entries.{item_of};
 ghost use Rattle.mx_judge.specs.Faults.{line_fault, list_fault};
 ghost use Rattle.mx_judge.specs.Listed.{listed, nothing};
+ghost use Rattle.mx_judge.specs.Members.{Answers};
 ghost use Rattle.mx_judge.specs.Traces as spec;
 
-use crate::entry_reader::{is_passed_over, item_in, items_in};
+use crate::entry_reader::{Item, is_passed_over, item_in, items_in};
 use crate::faults::{ItemFault, TraceFault, stop_at};
 use crate::members::has_member;
 use crate::trace::Trace;
 use mx_cli::{Stop, split_line};
-use mx_journal::Receipt;
 use mx_plan::Plan;
 use mx_stamps::MAX_EVENTS;
-use mx_trace::{Boxed, Entry};
 use serde_json::Value;
 use std::alloc::{AllocError, Global};
 
@@ -94,6 +93,16 @@ fn is_blank(byte: u8) -> bool
     byte == b' ' || byte == b'\t' || byte == b'\n' || byte == b'\r'
 }
 
+/// Returns whether a text begins with the byte order mark of UTF-8.
+fn is_marked(text: &[u8]) -> bool
+    ensures { result ≡ spec.is_marked text.now }
+{
+    match text {
+        [a, b, c, ..] => *a == 0xef && *b == 0xbb && *c == 0xbf,
+        _ => false,
+    }
+}
+
 fn is_blank_line(line: &[u8]) -> bool
     ensures { result ≡ list_all spec.is_blank line.now }
 {
@@ -118,7 +127,7 @@ fn read_items(alloc: Global, items: &[Value], plan: &Plan) -> Result<Trace, Trac
     let mut trace = Trace::new(alloc);
     for (index, value) in items.iter().enumerate() {
         let number = index as u64 + 1;
-        if let Err(fault) = add_item(&mut trace, number, read_item(alloc, plan, value)) {
+        if let Err(fault) = add_item(&mut trace, number, item_in(alloc, plan, value)) {
             return Err(TraceFault::of_item(number, fault));
         }
     }
@@ -145,14 +154,17 @@ fn read_lines(alloc: Global, text: &[u8], plan: &Plan) -> Result<Trace, TraceFau
 }
 
 #[tactic(auto, unfolding(crate::specs::Traces::line_item))]
-fn line_in(alloc: Global, plan: &Plan, line: &[u8]) -> Result<Option<Entry>, ItemFault>
-    ensures { spec.Answers (spec.line_item plan.now line.now) result }
+fn line_in(alloc: Global, plan: &Plan, line: &[u8]) -> Result<Option<Item>, ItemFault>
+    ensures { Answers (spec.line_item plan.now line.now) result }
 {
     if is_blank_line(line) {
         return Ok(None);
     }
+    if is_marked(line) {
+        return Err(ItemFault::Mark);
+    }
     match parse(alloc, line) {
-        Ok(value) => read_item(alloc, plan, &value),
+        Ok(value) => item_in(alloc, plan, &value),
         Err(fault) => Err(fault),
     }
 }
@@ -170,20 +182,11 @@ fn parse(alloc: Global, text: &[u8]) -> Result<Value, ItemFault>
     }
 }
 
-fn read_item(alloc: Global, plan: &Plan, value: &Value) -> Result<Option<Entry>, ItemFault>
-    ensures { spec.Answers (item_of plan.now (view value.now)) result }
-{
-    match Boxed::new(alloc, Receipt::default()) {
-        Ok(room) => item_in(plan, value, room),
-        Err(_) => Err(ItemFault::Memory),
-    }
-}
-
-/// Appends the entry of a line or an item, if it has one.
+/// Appends what a line or an item has, if it has something.
 fn add_item(
     trace: &mut Trace,
     number: u64,
-    item: Result<Option<Entry>, ItemFault>,
+    item: Result<Option<Item>, ItemFault>,
 ) -> Result<(), ItemFault>
     ensures ok { OnOk result
         (spec.with_item number (listed trace.old) item ≡ Ok (listed trace.new)) }
@@ -191,7 +194,9 @@ fn add_item(
 {
     match item? {
         None => Ok(()),
-        Some(_) if trace.entries.len() >= MAX_EVENTS => Err(ItemFault::TooMany),
-        Some(entry) => trace.push(number, entry),
+        Some(Item::Event(_)) if trace.entries.len() >= MAX_EVENTS => Err(ItemFault::TooMany),
+        Some(Item::Event(entry)) => Ok(trace.push(number, entry)?),
+        Some(Item::Message(_)) if trace.entries.is_empty() => Err(ItemFault::NoSender),
+        Some(Item::Message(message)) => Ok(trace.send(message)?),
     }
 }

@@ -7,7 +7,7 @@ use Rattle.mx_events.specs.declared.event.Event.{Event}
 use Rattle.mx_explorer.specs.declared.verdict.Clause.{Clause}
 use Rattle.mx_explorer.specs.declared.verdict.Verdict.{Verdict}
 use Rattle.mx_explorer.specs.declared.verdict.Verdict.TheVariants.{Sound, Broken}
-use Rattle.mx_commands.specs.VerdictLines.{clause_text}
+use Rattle.mx_driver.specs.VerdictLines.{clause_text}
 use Rattle.mx_judge.specs.Listed.{Listed, place_of}
 use Rattle.mx_judge.specs.Reasons.{reason_at}
 use Rattle.mx_picture.specs.declared.marked.Marked.{Marked}

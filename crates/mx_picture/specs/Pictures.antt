@@ -13,7 +13,7 @@ use Rattle.mx_cli.specs.Printing.{End, IsWhole, Report, ends, has_fault, has_sta
 use Rattle.mx_cli.specs.Requests.{Part}
 use Rattle.mx_cli.specs.declared.faults.Fault.{Fault}
 use Rattle.mx_cli.specs.declared.faults.Fault.TheVariants.{BadText}
-use Rattle.mx_commands.specs.Jobs.{run_by}
+use Rattle.mx_driver.specs.Jobs.{run_by}
 use Rattle.mx_picture.specs.Drawn.{IsPicture}
 use Rattle.mx_picture.specs.declared.part.Part.{Part as Shown}
 

@@ -3,15 +3,15 @@
 ghost use Rattle.std.specs.Prelude.{◌≡◌, length};
 ghost use Rattle.mx_cli.specs.Printing.{Prints, sight};
 ghost use Rattle.mx_cli.specs.Requests.{part_of, text_of};
-ghost use Rattle.mx_commands.specs.Jobs.{run_by};
-ghost use Rattle.mx_commands.specs.Runs.{AllNameNodes};
+ghost use Rattle.mx_driver.specs.Jobs.{run_by};
+ghost use Rattle.mx_driver.specs.Runs.{AllNameNodes};
 ghost use Rattle.mx_picture.specs.Pictures.{IsDrawn, IsPictured, end_of_run, node_in, part_in};
 
 use crate::drawing::Drawing;
 use crate::page::page_of;
 use crate::part::Part;
 use mx_cli::{Command, Fault, PicturePart, Stop, print};
-use mx_commands::observe;
+use mx_driver::observe;
 use mx_io::Output;
 use mx_network::Event;
 use mx_plan::{Place, Plan, PlanFault, read_events};

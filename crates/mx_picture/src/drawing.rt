@@ -1,14 +1,14 @@
 //! Draws a run: a `Drawing` is a sink that gives each event shown a row, with its parcels.
 
 ghost use Rattle.std.specs.Prelude.{◌<◌, length};
-ghost use Rattle.mx_commands.specs.Runs.{silent};
+ghost use Rattle.mx_driver.specs.Runs.{silent};
 
 use crate::omissions::{is_shown, pass_over};
 use crate::parcels::{draw_delivery, draw_sent};
 use crate::part::Part;
 use crate::rows::Rows;
 use crate::side::Side;
-use mx_commands::{Sink, newest};
+use mx_driver::{Sink, newest};
 use mx_format::Letter;
 use mx_network::{Cluster, Entry, Event};
 use mx_nodelaws::Exclusion;

@@ -14,7 +14,7 @@ use crate::part::Part;
 use crate::trace_drawing::draw_trace;
 use crate::trace_page::trace_page;
 use mx_cli::{Command, PicturePart, Stop, print};
-use mx_commands::verdict_status;
+use mx_driver::verdict_status;
 use mx_explorer::{Verdict, judge};
 use mx_io::Output;
 use mx_judge::{Trace, judgement_of, place_word, trace_in};

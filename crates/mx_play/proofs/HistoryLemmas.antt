@@ -15,8 +15,8 @@ use Rattle.mx_scripts.specs.States.{Brings, IsAllowed, RunState}
 use Rattle.mx_scripts.specs.declared.state.SessionEvent.{SessionEvent}
 use Rattle.mx_scripts.specs.declared.state.SessionEvent.TheVariants.{Happens, IsLost, LinksChange}
 use Rattle.mx_scripts.specs.Told.{IsBroughtTo, IsTold}
-use Rattle.mx_commands.specs.Runs.{text_of}
-use Rattle.mx_commands.proofs.RunLemmas.{grows, has_newest}
+use Rattle.mx_driver.specs.Runs.{text_of}
+use Rattle.mx_driver.proofs.RunLemmas.{grows, has_newest}
 use Rattle.mx_play.specs.Histories.{CanLead, Leads, Makes, events_in, made_text}
 use Rattle.mx_play.specs.Printed.{lost_text}
 use Rattle.mx_play.specs.Sessions.{AddsOne}

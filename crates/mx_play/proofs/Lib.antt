@@ -3,13 +3,12 @@ pub mod HistoryLemmas
 pub mod SessionLemmas
 mod SessionLineLemmas
 mod TypedLemmas
-mod LineTurnLemmas
 mod LinePlanLemmas
+pub mod StopLemmas
+pub mod PlaysLemmas
 mod ReportLemmas
-pub mod TurnLemmas
+pub mod ExecutionLemmas
 pub mod PlayedLemmas
 mod CommandLemmas
 pub mod ExpectationLemmas
-mod WordLemmas
-mod SameLineLemmas
 mod RequestLemmas

@@ -1,5 +1,5 @@
 -- Sessions that were played, of what was read.
-use Rattle.std.proofs.Common.{◌++◌, List, [], Option, Some, None, subst}
+use Rattle.std.proofs.Common.{◌≡◌, ◌++◌, List, [], Option, Some, None, IfSome, subst}
 use Rattle.std.specs.Io.KnownBytes.{Appends, Keeps}
 use Rattle.mx_nodelaws.specs.Core.{Core}
 use Rattle.mx_knowledge.specs.Facts.{Known}
@@ -17,46 +17,43 @@ use Rattle.mx_format.specs.LetterTexts.{ricart_text, maekawa_text, raymond_text}
 use Rattle.mx_cli.specs.Reports.{Seen}
 use Rattle.mx_cli.proofs.OutputLemmas.{Appends-keeps, Appends-trans}
 use Rattle.mx_stamps.proofs.Lists.{append_nil}
-use Rattle.mx_commands.specs.Runs.{closing_text}
-use Rattle.mx_play.specs.Commands.{Turn}
+use Rattle.mx_driver.specs.Runs.{closing_text}
 use Rattle.mx_play.specs.Lines.{AreLeft}
-use Rattle.mx_play.specs.LineTurns.{AreTurns}
 use Rattle.mx_play.specs.Played.{IsPlayedBy}
-use Rattle.mx_play.specs.Turns.{IsPlayed}
+use Rattle.mx_play.specs.Plays.{IsPlayed}
 
 module _ {H S M : Type 0} (core : Core H S M) (letter_text : Fields → M → Text) (knows : S → List Known) (p : Fields) (shape : H) (script : Text) (a b c : Seen) where
   played_keeps : (lines : Option (List Text)) → IsPlayed core letter_text knows p shape script lines a b → Keeps b.out c.out → Appends b.err c.err [] → IsPlayed core letter_text knows p shape script lines a c
   played_keeps lines x same none = record {
-    turns = x.turns;
+    others = x.others;
     are = x.are;
+    next = x.next;
     last = x.last;
     text = x.text;
-    takes = x.takes;
+    told = x.told;
+    plays = x.plays;
     replays = x.replays;
     over = x.over;
     printed = Appends-keeps a.out b.out c.out (x.text ++ closing_text core letter_text p x.last.state.cluster) x.printed same;
-    told = x.told;
-    reported = x.reported;
     reports = subst (λ (l : Text). Appends a.err c.err l) (append_nil x.told) (Appends-trans a.err b.err c.err x.told [] x.reports none);
   }
 
-  left_are : (lines rest : Option (List Text)) (turns : List Turn) → AreLeft lines rest → AreTurns p script rest turns → AreTurns p script lines turns
-  left_are None rest turns left x =
-      record { scripted = x.scripted; others = x.others; all = x.all; first = x.first; ended = x.ended; next = λ goes. tt }
-  left_are (Some known) rest turns left x = subst (λ (l : Option (List Text)). AreTurns p script l turns) left x
+  left_are : (lines rest : Option (List Text)) (others : List Text) → AreLeft lines rest → IfSome rest (λ known. others ≡ known) → IfSome lines (λ known. others ≡ known)
+  left_are None rest others left x = tt
+  left_are (Some known) rest others left x = subst (λ (r : Option (List Text)). IfSome r (λ l. others ≡ l)) left x
 
   played_left : (lines rest : Option (List Text)) → AreLeft lines rest → IsPlayed core letter_text knows p shape script rest a b → IsPlayed core letter_text knows p shape script lines a b
   played_left lines rest left x = record {
-    turns = x.turns;
-    are = left_are lines rest x.turns left x.are;
+    others = x.others;
+    are = left_are lines rest x.others left x.are;
+    next = x.next;
     last = x.last;
     text = x.text;
-    takes = x.takes;
+    told = x.told;
+    plays = x.plays;
     replays = x.replays;
     over = x.over;
     printed = x.printed;
-    told = x.told;
-    reported = x.reported;
     reports = x.reports;
   }
 

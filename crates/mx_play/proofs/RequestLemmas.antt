@@ -1,11 +1,13 @@
 -- What requests do.
-use Rattle.std.proofs.Common.{ℕ, List, Option, inr}
+use Rattle.std.proofs.Common.{ℕ, Bool, List, Option, inr}
 use Rattle.mx_plan.specs.Text.{Text}
 use Rattle.mx_io.specs.Told.{Telling}
 use Rattle.mx_cli.specs.Reports.{Declines, RunsOut, Seen}
 use Rattle.mx_cli.specs.Requests.{Request, play}
 use Rattle.mx_cli.proofs.ClosedLemmas.{not_five}
 use Rattle.mx_play.specs.Played.{PlaysAs}
+use Rattle.mx_play.specs.Reasons.{HasReason}
+use Rattle.mx_play.proofs.StopLemmas.{five_is_one}
 
 module _ (told : Text → Option Telling) (lines : Option (List Text)) (old new : Seen) (status : ℕ) (memory : RunsOut old new status) where
   declines : Declines old new status
@@ -19,3 +21,7 @@ module _ (told : Text → Option Telling) (lines : Option (List Text)) (old new 
     status_is = inr (inr memory.0);
   }
   short_plays _ = declines
+
+  pub short_stops : (left : Option ℕ) (takes_out takes_err : Bool) (request : Request) → HasReason told lines left request takes_out takes_err status
+  short_stops left takes_out takes_err (play plan first) = λ out err can one. five_is_one status memory.0 one
+  short_stops left takes_out takes_err _ = tt

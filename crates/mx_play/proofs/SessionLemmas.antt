@@ -10,7 +10,7 @@ use Rattle.mx_lines.specs.declared.line.Line.{Line}
 use Rattle.mx_lines.specs.declared.orders.Order.{Order}
 use Rattle.mx_plan.specs.Text.{Text}
 use Rattle.mx_plan.specs.Fields.{Fields}
-use Rattle.mx_commands.proofs.RunLemmas.{members_at_rest}
+use Rattle.mx_driver.proofs.RunLemmas.{members_at_rest}
 use Rattle.mx_scripts.specs.Lines.{Performs, Repeats}
 use Rattle.mx_scripts.specs.Played.{AreOver}
 use Rattle.mx_scripts.specs.Scripts.{IsOver}
@@ -21,7 +21,7 @@ use Rattle.mx_scripts.specs.declared.state.SessionEvent.TheVariants.{Happens, Is
 use Rattle.mx_scripts.proofs.LineLemmas.{next_drawn}
 use Rattle.mx_play.specs.Histories.{CanLead, Leads, Makes, events_in, first_state}
 use Rattle.mx_play.specs.Sessions.{AddsOne, IsSession, SessionState, at_start, undone_in}
-use Rattle.mx_play.specs.Turns.{IsDone, IsRedone, IsUndone}
+use Rattle.mx_play.specs.Executions.{IsDone, IsRedone, IsUndone}
 use Rattle.mx_play.specs.declared.printed_events.PrintedEvents.{PrintedEvents}
 use Rattle.mx_play.specs.declared.undo.Undone.{Undone}
 use Rattle.mx_play.proofs.HistoryLemmas.{Adds, leads_append, leads_members, leads_one, leads_prefix, leads_split, makes_leads, told_adds}

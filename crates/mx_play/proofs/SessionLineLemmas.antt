@@ -39,14 +39,14 @@ first_line (b ∷ bs) some = line_split b bs
 
 -- the first line was read into an empty buffer
 pub reads_line : (bs first rest empty buffer : Text) → (bs ≡ [] → ⊥) → first ≡ before_first (λ b. b == 10) bs → rest ≡ after_first (λ b. b == 10) bs → length first ≤ MAX_LINE
-    → empty ≡ [] → buffer ≡ empty ++ first → ReadsNext (lines_of bs) Line buffer (Some (lines_of rest))
+    → empty ≡ [] → buffer ≡ empty ++ first → ReadsNext (Some (lines_of bs)) Line buffer (Some (lines_of rest))
 reads_line bs first rest empty buffer some is after short none got =
     let lines : lines_of bs ≡ first ∷ lines_of rest = first_line bs some ∙ ap₂ (λ (l r : Text). l ∷ lines_of r) (sym is) (sym after) in
-    subst (λ (l : List Text). ReadsNext l Line buffer (Some (lines_of rest))) (sym lines) ((short, got ∙ ap (λ (l : Text). l ++ first) none), refl)
+    let whole : buffer ≡ first = got ∙ ap (λ (l : Text). l ++ first) none in
+    subst (λ (l : Text). ReadsNext (Some (lines_of bs)) Line l (Some (lines_of rest))) (sym whole) (short, (lines_of rest, lines, refl))
 
 -- the first line is too long
 pub reads_long : (bs first rest buffer : Text) → (bs ≡ [] → ⊥) → first ≡ before_first (λ b. b == 10) bs → rest ≡ after_first (λ b. b == 10) bs → MAX_LINE < length first
-    → ReadsNext (lines_of bs) TooLong buffer (Some (lines_of rest))
+    → ReadsNext (Some (lines_of bs)) TooLong buffer (Some (lines_of rest))
 reads_long bs first rest buffer some is after long =
-    let lines : lines_of bs ≡ first ∷ lines_of rest = first_line bs some ∙ ap₂ (λ (l r : Text). l ∷ lines_of r) (sym is) (sym after) in
-    subst (λ (l : List Text). ReadsNext l TooLong buffer (Some (lines_of rest))) (sym lines) (long, refl)
+    (first, long, (lines_of rest, first_line bs some ∙ ap₂ (λ (l r : Text). l ∷ lines_of r) (sym is) (sym after), refl))

@@ -6,10 +6,10 @@ use Rattle.std.specs.Io.KnownBytes.{Consumes, IsAtEnd, Keeps, prepend_known}
 use Rattle.std.proofs.KnownBytes.{Consumes-kept, Consumes-nil, Consumes-trans}
 use Rattle.mx_stamps.proofs.Lists.{append_nil}
 use Rattle.mx_plan.specs.Text.{Text}
-use Rattle.mx_play.specs.Lines.{ReadsNext, before_lines, lines_of}
+use Rattle.mx_play.specs.Lines.{IsFirst, ReadsNext, before_lines, lines_of}
 use Rattle.mx_play.specs.TypedLines.{AddsByte, Bytes, HasNoFeed, Holds, IsTaking, TakesByte, TakesOn, read_of}
 use Rattle.mx_play.specs.declared.line_sources.LineRead.{LineRead}
-use Rattle.mx_play.specs.declared.line_sources.LineRead.TheVariants.{End, Unreadable}
+use Rattle.mx_play.specs.declared.line_sources.LineRead.TheVariants.{End}
 use Rattle.mx_play.specs.declared.line_sources.TheConstants.{MAX_LINE}
 use Rattle.mx_play.specs.declared.typed_lines.ByteRead.{ByteRead}
 use Rattle.mx_play.specs.declared.typed_lines.ByteRead.TheVariants as byte_read
@@ -37,23 +37,25 @@ no_feed_more (a ∷ taken) b x y = (x.0, no_feed_more taken b x.1 y)
 
 -- ---- a line that was read
 
-held_line : (is_long : Bool) (buffer taken : Text) (rest : List Text) → Holds is_long buffer taken → ReadsNext (taken ∷ rest) (read_of is_long) buffer (Some rest)
-held_line false buffer taken rest x = ((x.1, x.0), refl)
-held_line true buffer taken rest x = (x.1, refl)
+held_read : (is_long : Bool) (buffer taken : Text) (lines rest : Option (List Text)) → Holds is_long buffer taken → IsFirst taken lines rest → ReadsNext lines (read_of is_long) buffer rest
+held_read false buffer taken lines rest x first =
+    (subst (λ (l : Text). length l ≤ MAX_LINE) (sym x.0) x.1, subst (λ (l : Text). IsFirst l lines rest) (sym x.0) first)
+held_read true buffer taken lines rest x first = (taken, x.1, first)
+
+abbrev lines_in : Bytes → Option (List Text)
+lines_in bytes = option_map lines_of bytes
 
 -- a line feed ends it
-line_ended : (is_long : Bool) (buffer taken : Text) (all left next : List ℕ) → HasNoFeed taken → all ≡ taken ++ left → left ≡ 10 ∷ next → Holds is_long buffer taken
-    → ReadsNext (lines_of all) (read_of is_long) buffer (Some (lines_of next))
-line_ended is_long buffer taken all left next inner is feed holds =
-    let lines : lines_of all ≡ taken ∷ lines_of next = ap lines_of (is ∙ ap (λ (l : Text). taken ++ l) feed) ∙ line_then taken next inner in
-    subst (λ (l : List Text). ReadsNext l (read_of is_long) buffer (Some (lines_of next))) (sym lines) (held_line is_long buffer taken (lines_of next) holds)
+feed_first : (first now new : Bytes) (taken : Text) → HasNoFeed taken → Consumes first now taken → Consumes now new (10 ∷ []) → IsFirst taken (lines_in first) (lines_in new)
+feed_first None now new taken inner x feed = tt
+feed_first (Some all) None new taken inner x feed = absurd x
+feed_first (Some all) (Some left) None taken inner x feed = absurd feed
+feed_first (Some all) (Some left) (Some next) taken inner x feed =
+    (lines_of next, ap lines_of (x ∙ ap (λ (l : Text). taken ++ l) feed) ∙ line_then taken next inner, refl)
 
-pub feed_read : (first now new : Bytes) (is_long : Bool) (buffer : Text) → IsTaking first now is_long buffer → Consumes now new (10 ∷ [])
-    → IfSome (option_map lines_of first) (λ lines. ReadsNext lines (read_of is_long) buffer (option_map lines_of new))
-feed_read None now new is_long buffer x feed = tt
-feed_read (Some all) None new is_long buffer x feed = absurd x.consumed
-feed_read (Some all) (Some left) None is_long buffer x feed = absurd feed
-feed_read (Some all) (Some left) (Some next) is_long buffer x feed = line_ended is_long buffer x.taken all left next x.inner x.consumed feed x.holds
+pub feed_read : (first now new : Bytes) (is_long : Bool) (buffer : Text) → IsTaking first now is_long buffer → Consumes now new (10 ∷ []) → ReadsNext (lines_in first) (read_of is_long) buffer (lines_in new)
+feed_read first now new is_long buffer x feed =
+    held_read is_long buffer x.taken (lines_in first) (lines_in new) x.holds (feed_first first now new x.taken x.inner x.consumed feed)
 
 -- the end of the bytes ends it
 short_buffer : (is_long : Bool) (taken : Text) → Holds is_long [] taken → taken ≡ []
@@ -64,38 +66,35 @@ some_taken : (is_long : Bool) (buffer : Text) → (buffer ≡ [] → ⊥) → Ho
 some_taken false buffer some x = some x.0
 some_taken true buffer some x = omega (arith, x.1)
 
-end_line : (is_long : Bool) (buffer taken : Text) → HasNoFeed taken → Holds is_long buffer taken → (buffer ≡ [] → ⊥) → ReadsNext (lines_of taken) (read_of is_long) buffer (Some [])
-end_line is_long buffer [] inner x some = absurd (some_taken is_long buffer some x)
-end_line is_long buffer (b ∷ bs) inner x some =
-    subst (λ (l : List Text). ReadsNext l (read_of is_long) buffer (Some [])) (sym (last_line b bs inner)) (held_line is_long buffer (b ∷ bs) [] x)
-
 all_taken : (all taken left new : List ℕ) → all ≡ taken ++ left → new ≡ left → new ≡ [] → all ≡ taken
 all_taken all taken left new is same end = is ∙ ap (λ (l : List ℕ). taken ++ l) (sym same ∙ end) ∙ append_nil taken
 
-pub end_read : (first now new : Bytes) (is_long : Bool) (buffer : Text) → IsTaking first now is_long buffer → Keeps now new → IsAtEnd new → (buffer ≡ [] → ⊥)
-    → IfSome (option_map lines_of first) (λ lines. ReadsNext lines (read_of is_long) buffer (option_map lines_of new))
-end_read None now new is_long buffer x same end some = tt
-end_read (Some all) None new is_long buffer x same end some = absurd x.consumed
-end_read (Some all) (Some left) None is_long buffer x same end some = absurd same
-end_read (Some all) (Some left) (Some new) is_long buffer x same end some =
-    let whole : all ≡ x.taken = all_taken all x.taken left new x.consumed same end in
-    subst (λ (l : List ℕ). ReadsNext (lines_of all) (read_of is_long) buffer (Some (lines_of l))) (sym end)
-    (subst (λ (l : List ℕ). ReadsNext (lines_of l) (read_of is_long) buffer (Some [])) (sym whole) (end_line is_long buffer x.taken x.inner x.holds some))
+one_line : (taken : Text) → HasNoFeed taken → (taken ≡ [] → ⊥) → lines_of taken ≡ taken ∷ []
+one_line [] inner some = absurd (some refl)
+one_line (b ∷ bs) inner some = last_line b bs inner
 
-pub none_read : (first now new : Bytes) (is_long : Bool) (buffer : Text) → IsTaking first now is_long buffer → Keeps now new → IsAtEnd new → buffer ≡ []
-    → IfSome (option_map lines_of first) (λ lines. ReadsNext lines End buffer (option_map lines_of new))
-none_read None now new is_long buffer x same end none = tt
-none_read (Some all) None new is_long buffer x same end none = absurd x.consumed
-none_read (Some all) (Some left) None is_long buffer x same end none = absurd same
-none_read (Some all) (Some left) (Some new) is_long buffer x same end none =
-    let empty : x.taken ≡ [] = short_buffer is_long x.taken (subst (λ (l : Text). Holds is_long l x.taken) none x.holds) in
-    let whole : all ≡ [] = all_taken all x.taken left new x.consumed same end ∙ empty in
-    subst (λ (l : List ℕ). ReadsNext (lines_of all) End buffer (Some (lines_of l))) (sym end)
-    (subst (λ (l : List ℕ). ReadsNext (lines_of l) End buffer (Some [])) (sym whole) (refl, none, refl))
+end_first : (first now new : Bytes) (taken : Text) → HasNoFeed taken → (taken ≡ [] → ⊥) → Consumes first now taken → Keeps now new → IsAtEnd new → IsFirst taken (lines_in first) (lines_in new)
+end_first None now new taken inner some x same end = tt
+end_first (Some all) None new taken inner some x same end = absurd x
+end_first (Some all) (Some left) None taken inner some x same end = absurd same
+end_first (Some all) (Some left) (Some new) taken inner some x same end =
+    ([], ap lines_of (all_taken all taken left new x same end) ∙ one_line taken inner some, ap (λ (l : Text). Some (lines_of l)) end)
 
-pub unread : (first now : Bytes) (buffer : Text) → IfSome (option_map lines_of first) (λ lines. ReadsNext lines Unreadable buffer (option_map lines_of now))
-unread None now buffer = tt
-unread (Some all) now buffer = tt
+end_read : (first now new : Bytes) (is_long : Bool) (buffer : Text) → IsTaking first now is_long buffer → Keeps now new → IsAtEnd new → (buffer ≡ [] → ⊥) → ReadsNext (lines_in first) (read_of is_long) buffer (lines_in new)
+end_read first now new is_long buffer x same end some =
+    held_read is_long buffer x.taken (lines_in first) (lines_in new) x.holds
+    (end_first first now new x.taken x.inner (λ none. some_taken is_long buffer some (subst (λ (l : Text). Holds is_long buffer l) none x.holds)) x.consumed same end)
+
+none_left : (first now new : Bytes) (taken : Text) → taken ≡ [] → Consumes first now taken → Keeps now new → IsAtEnd new → IfSome (lines_in first) (λ known. (known ≡ []) × (lines_in new ≡ Some []))
+none_left None now new taken none x same end = tt
+none_left (Some all) None new taken none x same end = absurd x
+none_left (Some all) (Some left) None taken none x same end = absurd same
+none_left (Some all) (Some left) (Some new) taken none x same end =
+    (ap lines_of (all_taken all taken left new x same end ∙ none), ap (λ (l : Text). Some (lines_of l)) end)
+
+pub none_read : (first now new : Bytes) (is_long : Bool) (buffer : Text) → IsTaking first now is_long buffer → Keeps now new → IsAtEnd new → buffer ≡ [] → ReadsNext (lines_in first) End buffer (lines_in new)
+none_read first now new is_long buffer x same end none =
+    (none, none_left first now new x.taken (short_buffer is_long x.taken (subst (λ (l : Text). Holds is_long l x.taken) none x.holds)) x.consumed same end)
 
 -- ---- a byte more
 
@@ -147,9 +146,8 @@ pub byte_on : (read : Option LineRead) (first now new : Bytes) (is_long is_long'
 byte_on None first now new is_long is_long' b buffer buffer' consumed adds x = taking_more first now new is_long is_long' b buffer buffer' x consumed adds.0 adds.1
 byte_on (Some read) first now new is_long is_long' b buffer buffer' consumed adds x =
     let feed = subst (λ (c : ℕ). Consumes now new (c ∷ [])) adds.0 consumed in
-    subst (λ (r : LineRead). IfSome (option_map lines_of first) (λ lines. ReadsNext lines r buffer' (option_map lines_of new))) (sym adds.1)
-    (subst (λ (l : Text). IfSome (option_map lines_of first) (λ lines. ReadsNext lines (read_of is_long) l (option_map lines_of new))) (sym adds.2)
-    (feed_read first now new is_long buffer x feed))
+    subst (λ (r : LineRead). ReadsNext (lines_in first) r buffer' (lines_in new)) (sym adds.1)
+    (subst (λ (l : Text). ReadsNext (lines_in first) (read_of is_long) l (lines_in new)) (sym adds.2) (feed_read first now new is_long buffer x feed))
 
 pub bytes_on : {E : Type 0} (r : Result (Option LineRead) E) (now new : Bytes) (is_long is_long' : Bool) (b : ℕ) (buffer buffer' : Text) → Consumes now new (b ∷ [])
     → IfOk r (λ read. AddsByte b is_long buffer read is_long' buffer') → IfOk r (λ read. (first : Bytes) → IsTaking first now is_long buffer → TakesOn read first new is_long' buffer')
@@ -166,9 +164,9 @@ none_counted buffer count counts some empty =
 
 -- how the end of the bytes ends a line
 pub end_as : (first now new : Bytes) (is_long is_empty : Bool) (count : ℕ) (buffer : Text) (read : LineRead) → IsTaking first now is_long buffer → Keeps now new × IsAtEnd new → count ≡ length buffer
-    → is_empty ≡ (count == 0) → is_empty ≡ false → read ≡ read_of is_long → IfSome (option_map lines_of first) (λ lines. ReadsNext lines read buffer (option_map lines_of new))
+    → is_empty ≡ (count == 0) → is_empty ≡ false → read ≡ read_of is_long → ReadsNext (lines_in first) read buffer (lines_in new)
 end_as first now new is_long is_empty count buffer read x end counts tests some is =
-    subst (λ (r : LineRead). IfSome (option_map lines_of first) (λ lines. ReadsNext lines r buffer (option_map lines_of new))) (sym is)
+    subst (λ (r : LineRead). ReadsNext (lines_in first) r buffer (lines_in new)) (sym is)
     (end_read first now new is_long buffer x end.0 end.1 (λ empty. none_counted buffer count counts (sym tests ∙ some) empty))
 
 -- ---- bytes that were read ahead

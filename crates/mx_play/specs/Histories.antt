@@ -4,7 +4,7 @@ use Rattle.mx_nodelaws.specs.Core.{Core}
 use Rattle.mx_events.specs.declared.event.Event.{Event}
 use Rattle.mx_plan.specs.Text.{Text}
 use Rattle.mx_plan.specs.Fields.{Fields}
-use Rattle.mx_commands.specs.Runs.{at_rest, text_of}
+use Rattle.mx_driver.specs.Runs.{at_rest, text_of}
 use Rattle.mx_scripts.specs.States.{Brings, IsAllowed, RunState, before_any}
 use Rattle.mx_scripts.specs.declared.state.SessionEvent.{SessionEvent}
 use Rattle.mx_scripts.specs.declared.state.SessionEvent.TheVariants.{Happens, IsLost, LinksChange}

@@ -4,11 +4,12 @@ pub mod Cuts
 pub mod Histories
 pub mod SessionScripts
 pub mod Views
-pub mod Commands
 pub mod Lines
+pub mod Commands
 pub mod TypedLines
-pub mod SameLines
-pub mod LineTurns
 pub mod Sessions
-pub mod Turns
+pub mod Executions
+pub mod Plays
+pub mod Stops
 pub mod Played
+pub mod Reasons

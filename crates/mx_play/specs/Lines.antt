@@ -1,5 +1,5 @@
 -- The lines of a session.
-use Rattle.std.specs.Prelude.{ℕ, ◌≡◌, ◌≤◌, ◌<◌, ◌==◌, ⊤, Bool, true, false, List, [], ◌∷◌, Option, Some, IfSome, length, option_map, if◌then◌else◌}
+use Rattle.std.specs.Prelude.{ℕ, ◌≡◌, ◌≤◌, ◌<◌, ◌==◌, ⊤, Bool, true, false, List, [], ◌∷◌, Option, Some, None, IfSome, length, option_map, if◌then◌else◌}
 use Rattle.mx_plan.specs.Text.{Text}
 use Rattle.mx_play.specs.declared.line_sources.LineRead.{LineRead}
 use Rattle.mx_play.specs.declared.line_sources.LineRead.TheVariants.{Line, TooLong, End, Unreadable}
@@ -24,19 +24,21 @@ abbrev pub after_line : List Text → List Text
 after_line [] = []
 after_line (line ∷ lines) = lines
 
--- the line was read into the buffer, or is too long
-abbrev pub ReadsLine : Text → LineRead → Text → Type 0
-ReadsLine line Line buffer = (length line ≤ MAX_LINE) × (buffer ≡ line)
-ReadsLine line TooLong buffer = MAX_LINE < length line
-ReadsLine line End buffer = ⊥
-ReadsLine line Unreadable buffer = ⊥
+-- if the lines are known, this line is the first of them, and the others are still to come
+abbrev pub IsFirst : Text → Option (List Text) → Option (List Text) → Type 0
+IsFirst line None rest = ⊤
+IsFirst line (Some lines) rest =
+    (others : List Text) × (lines ≡ line ∷ others) × (rest ≡ Some others)
 
--- the first of these lines was read, and the others are still to come; or there are no lines, and
--- the end was read; or they could not be read
-abbrev pub ReadsNext : List Text → LineRead → Text → Option (List Text) → Type 0
+-- the first of these lines was read into the buffer, or is too long; or the end was read, since
+-- there are no lines; or they could not be read
+abbrev pub ReadsNext : Option (List Text) → LineRead → Text → Option (List Text) → Type 0
+ReadsNext lines Line buffer rest = (length buffer ≤ MAX_LINE) × IsFirst buffer lines rest
+ReadsNext lines TooLong buffer rest =
+    (line : Text) × (MAX_LINE < length line) × IsFirst line lines rest
+ReadsNext lines End buffer rest =
+    (buffer ≡ []) × IfSome lines (λ known. (known ≡ []) × (rest ≡ Some []))
 ReadsNext lines Unreadable buffer rest = ⊤
-ReadsNext [] read buffer rest = (read ≡ End) × (buffer ≡ []) × (rest ≡ Some [])
-ReadsNext (line ∷ lines) read buffer rest = ReadsLine line read buffer × (rest ≡ Some lines)
 
 -- the lines of a session, of those that come: all, or all but the first, if that is the plan
 abbrev pub session_lines : Bool → Option (List Text) → Option (List Text)

@@ -17,7 +17,7 @@ use Rattle.mx_cli.specs.Reports.{Declines, Seen}
 use Rattle.mx_cli.specs.Requests.{Request, play}
 use Rattle.mx_io.specs.Told.{Telling}
 use Rattle.mx_play.specs.Lines.{first_of, session_lines}
-use Rattle.mx_play.specs.Turns.{IsPlayed}
+use Rattle.mx_play.specs.Plays.{IsPlayed}
 
 -- a session was played in the cluster of the plan, by its algorithm: the lines of a script, and then
 -- those that come

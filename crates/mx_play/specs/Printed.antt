@@ -57,6 +57,10 @@ AreAsides text = (which : List Bool) × (text ≡ asides which)
 abbrev pub GetsAsides : Held → Held → Type 0
 GetsAsides out out' = (text : Text) × AreAsides text × Appends out out' text
 
+-- an output got what is reported of line k, which has this fault or none
+abbrev pub GetsReport : ℕ → Option InputFault → Held → Held → Type 0
+GetsReport k fault out out' = (text : Text) × IsReported k fault text × Appends out out' text
+
 -- ---- losses, and undos
 
 -- parcel k is lost

@@ -1,5 +1,5 @@
 -- Lines that are typed, or come through a pipe: how their bytes become lines.
-use Rattle.std.specs.Prelude.{ℕ, ◌≡◌, ◌≤◌, ◌<◌, ◌-◌, ◌==◌, ◌⊎◌, ⊤, Bool, true, false, List, [], ◌∷◌, ◌++◌, Option, Some, None, IfSome, drop, length, option_map, take}
+use Rattle.std.specs.Prelude.{ℕ, ◌≡◌, ◌≤◌, ◌<◌, ◌-◌, ◌==◌, ◌⊎◌, ⊤, Bool, true, false, List, [], ◌∷◌, ◌++◌, Option, Some, None, drop, length, option_map, take}
 use Rattle.std.specs.Io.KnownBytes.{Consumes, IsAtEnd, Keeps, prepend_known}
 use Rattle.mx_plan.specs.Text.{Text}
 use Rattle.mx_play.specs.Lines.{ReadsNext, lines_of}
@@ -66,5 +66,4 @@ AddsByte byte is_long buffer None is_long' buffer' =
 abbrev pub TakesOn : Option LineRead → Bytes → Bytes → Bool → Text → Type 0
 TakesOn None first now is_long buffer = IsTaking first now is_long buffer
 TakesOn (Some read) first now is_long buffer =
-    IfSome (option_map lines_of first)
-    (λ lines. ReadsNext lines read buffer (option_map lines_of now))
+    ReadsNext (option_map lines_of first) read buffer (option_map lines_of now)

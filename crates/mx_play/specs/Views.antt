@@ -15,7 +15,7 @@ use Rattle.mx_format.specs.FactTexts.{facts_line}
 use Rattle.mx_format.specs.NodeTexts.{member_line}
 use Rattle.mx_format.specs.ParcelTexts.{parcel_line}
 use Rattle.mx_format.specs.StuckTexts.{stuck_text}
-use Rattle.mx_commands.specs.Standstill.{stuck_nodes}
+use Rattle.mx_driver.specs.Standstill.{stuck_nodes}
 use Rattle.mx_scripts.specs.Fates.{is_under_way}
 use Rattle.mx_scripts.specs.States.{RunState}
 use Rattle.mx_play.specs.Cuts.{cut_lines, is_to}

@@ -1,12 +1,14 @@
 //! `play`, from the words of a command line to the exit status.
 
-ghost use Rattle.std.specs.Prelude.{◌≡◌, false, IfSome};
+ghost use Rattle.std.specs.Prelude.{◌≡◌, ◌≢◌, false, true, IfSome};
 ghost use Rattle.mx_cli.specs.Table.{mx_app};
 ghost use Rattle.mx_cli.specs.Words.{texts_of};
 ghost use Rattle.mx_cli.specs.Requests.{AskNothing, request_asked, request_of, text_of};
 ghost use Rattle.mx_cli.specs.Reports.{Answers, Declines, seen};
 ghost use Rattle.mx_cli.specs.Frames.{IsRunStatus};
 ghost use Rattle.mx_play.specs.Played.{HasPlayed, IsPlayedBy, PlaysAs};
+ghost use Rattle.mx_play.specs.Reasons.{CanBeRead, HasReason};
+ghost use Rattle.mx_play.specs.Stops.{AreReadable};
 
 use crate::line_sources::Lines;
 use crate::session_by_plan::run_by_plan;
@@ -32,6 +34,9 @@ pub fn play<S: Source, L: Lines, O: Output, E: Output>(
         (seen O.Output E.Output out.old err.old) (seen O.Output E.Output out.new err.new) result }
     ensures other { AskNothing (texts_of words.entry.now) → Declines
         (seen O.Output E.Output out.old err.old) (seen O.Output E.Output out.new err.new) result }
+    ensures stops { IfSome (request_asked (texts_of words.entry.now)) (λ request.
+        HasReason (S.told source.old) (L.rest lines.old) (L.readable lines.old) request
+        (O.takes_all out.old) (E.takes_all err.old) result) }
 {
     match parse(alloc, words) {
         Ok(Some(request)) => carry_out(alloc, &request, source, lines, out, err),
@@ -48,8 +53,10 @@ fn carry_out<S: Source, L: Lines, O: Output, E: Output>(
     out: &mut O,
     err: &mut E,
 ) -> u8
-    ensures { PlaysAs (S.told source.old) (L.rest lines.old) (request_of request.now)
+    ensures played { PlaysAs (S.told source.old) (L.rest lines.old) (request_of request.now)
         (seen O.Output E.Output out.old err.old) (seen O.Output E.Output out.new err.new) result }
+    ensures stops { HasReason (S.told source.old) (L.rest lines.old) (L.readable lines.old)
+        (request_of request.now) (O.takes_all out.old) (E.takes_all err.old) result }
 {
     match request {
         Request::Play { plan, script } => {
@@ -74,6 +81,9 @@ fn play_plan<S: Source, L: Lines, O: Output, E: Output>(
         (seen O.Output E.Output out.old err.old) (seen O.Output E.Output out.new err.new) }
     ensures passed { result ≡ 0 → O.keeps_back out.new ≡ false }
     ensures status { IsRunStatus result }
+    ensures stops { O.takes_all out.old ≡ true → E.takes_all err.old ≡ true
+        → CanBeRead (S.told source.old) (L.rest lines.old) (L.readable lines.old)
+        plan.now (text_of script.entry) → result ≢ 1 }
 {
     match fetch_start(alloc, plan, script, source, lines) {
         Ok(start) => play_and_close(alloc, plan, &start, lines, out, err),
@@ -97,6 +107,8 @@ fn play_and_close<L: Lines, O: Output, E: Output>(
         (seen O.Output E.Output out.new err.new) start.now.plan.shape }
     ensures passed { result ≡ 0 → O.keeps_back out.new ≡ false }
     ensures status { IsRunStatus result }
+    ensures stops { O.takes_all out.old ≡ true → E.takes_all err.old ≡ true
+        → AreReadable (L.readable lines.old) → result ≢ 1 }
 {
     let names = Names { plan, events: "-" };
     let ended = run_by_plan(alloc, start, lines, out, err);

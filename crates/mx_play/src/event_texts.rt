@@ -4,14 +4,14 @@ ghost use Rattle.std.specs.Prelude.{◌≡◌, ◌<◌, ◌≤◌, [], ◌∷◌
 ghost use Rattle.mx_network.specs.Step.{ClusterState};
 ghost use Rattle.mx_trace.specs.declared.outcome.Entry.{Entry};
 ghost use Rattle.mx_format.specs.LetterTexts.{letter_text};
-ghost use Rattle.mx_commands.specs.Runs.{text_of};
+ghost use Rattle.mx_driver.specs.Runs.{text_of};
 ghost use Rattle.mx_scripts.specs.States.{Brings, RunState};
 ghost use Rattle.mx_scripts.specs.Told.{IsBroughtTo};
 ghost use Rattle.mx_play.specs.Histories.{made_text};
 ghost use Rattle.mx_play.specs.Printed.{lost_line, lost_text};
 
 use crate::cuts::add_change;
-use mx_commands::{Sink, View};
+use mx_driver::{Sink, View};
 use mx_format::{Letter, add_parcel, name_of};
 use mx_knowledge::Knowledge;
 use mx_member::SentParcel;

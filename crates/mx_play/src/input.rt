@@ -1,12 +1,13 @@
 //! What the lines of a session ask for.
 
-ghost use Rattle.std.specs.Prelude.{◌≡◌, IfOk, IfSome, OnOk};
-ghost use Rattle.mx_play.specs.Commands.{IsInput};
-ghost use Rattle.mx_play.specs.LineTurns.{Means, MeansText, ReadsInput, is_end};
+ghost use Rattle.std.specs.Prelude.{◌≡◌, ◌≤◌, true, IfErr, IfOk, IfSome, OnOk, length};
+ghost use Rattle.std.specs.Str.{IsUtf8};
+ghost use Rattle.mx_play.specs.Commands.{IsInput, IsInputOf, ReadsInput, is_end};
 ghost use Rattle.mx_play.specs.Printed.{GetsAsides};
+ghost use Rattle.mx_play.specs.Stops.{LeavesFewer, OnlyMemory};
 
 use crate::input_fault::InputFault;
-use crate::line_sources::{LineRead, Lines};
+use crate::line_sources::{LineRead, Lines, MAX_LINE};
 use mx_cli::{Fault, Named, Stop};
 use mx_io::{Output, OutputFault};
 use mx_lines::{SessionCommand, read_command, words_in};
@@ -31,9 +32,14 @@ pub(crate) fn read_input<L: Lines, E: Output>(
     err: &mut E,
 ) -> Result<Input, Stop>
     ensures over { IfOk result (IsInput plan.now) }
-    ensures reads { IfSome (L.rest lines.old) (λ known. IfOk result (λ input.
-        ReadsInput plan.now known input line.new.items (L.rest lines.new))) }
+    ensures reads { IfOk result (λ input.
+        ReadsInput plan.now (L.rest lines.old) input line.new.items (L.rest lines.new)) }
     ensures asks { OnOk result (GetsAsides (E.written err.old) (E.written err.new)) }
+    ensures left { IfSome (L.readable lines.old) (λ n. IfOk result (λ input.
+        LeavesFewer n input (L.readable lines.new))) }
+    ensures stops { IfSome (L.readable lines.old) (λ _.
+        E.takes_all err.old ≡ true → OnlyMemory result) }
+    ensures stays { E.takes_all err.new ≡ E.takes_all err.old }
 {
     prompt(lines, err)?;
     match lines.next(line)? {
@@ -45,7 +51,10 @@ pub(crate) fn read_input<L: Lines, E: Output>(
 }
 
 pub(crate) fn greet<L: Lines, E: Output>(lines: &L, err: &mut E) -> Result<(), OutputFault>
-    ensures { OnOk result (GetsAsides (E.written err.old) (E.written err.new)) }
+    ensures asks { OnOk result (GetsAsides (E.written err.old) (E.written err.new)) }
+    ensures takes { IfErr result (λ fault.
+        E.takes_all err.old ≡ true → fault ≡ OutputFault.Memory) }
+    ensures stays { E.takes_all err.new ≡ E.takes_all err.old }
 {
     if lines.are_typed() {
         return err.put(b"help lists all lines, end ends the session\n");
@@ -54,7 +63,10 @@ pub(crate) fn greet<L: Lines, E: Output>(lines: &L, err: &mut E) -> Result<(), O
 }
 
 fn prompt<L: Lines, E: Output>(lines: &L, err: &mut E) -> Result<(), OutputFault>
-    ensures { OnOk result (GetsAsides (E.written err.old) (E.written err.new)) }
+    ensures asks { OnOk result (GetsAsides (E.written err.old) (E.written err.new)) }
+    ensures takes { IfErr result (λ fault.
+        E.takes_all err.old ≡ true → fault ≡ OutputFault.Memory) }
+    ensures stays { E.takes_all err.new ≡ E.takes_all err.old }
 {
     if lines.are_typed() {
         err.put(b"> ")?;
@@ -65,7 +77,8 @@ fn prompt<L: Lines, E: Output>(lines: &L, err: &mut E) -> Result<(), OutputFault
 
 fn input_in(alloc: Global, plan: &Plan, line: &[u8]) -> Result<Input, AllocError>
     ensures over { IfOk result (IsInput plan.now) }
-    ensures means { IfOk result (Means plan.now line.now) }
+    ensures means { IfOk result (λ input. length line.now ≤ MAX_LINE
+        → IsInputOf plan.now line.now input line.now) }
 {
     match str::from_utf8(line) {
         Ok(text) => input_in_text(alloc, plan, text),
@@ -75,7 +88,8 @@ fn input_in(alloc: Global, plan: &Plan, line: &[u8]) -> Result<Input, AllocError
 
 fn input_in_text(alloc: Global, plan: &Plan, text: &str) -> Result<Input, AllocError>
     ensures over { IfOk result (IsInput plan.now) }
-    ensures means { IfOk result (MeansText plan.now text.now) }
+    ensures means { IfOk result (λ input. length text.now ≤ MAX_LINE → IsUtf8 text.now
+        → IsInputOf plan.now text.now input text.now) }
 {
     let words = words_in(alloc, text)?;
     match read_command(plan, words.as_slice()) {

@@ -24,5 +24,5 @@ mod undo;
 mod views;
 
 pub use command::play;
-pub use line_sources::{LineRead, Lines, reads_as_script};
+pub use line_sources::{LineRead, Lines};
 pub use typed_lines::Typed;

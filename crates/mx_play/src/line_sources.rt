@@ -1,7 +1,6 @@
-ghost use Rattle.std.specs.Prelude.{List, Option, Some, None, ℕ, IfOk, IfSome};
-ghost use Rattle.std.specs.Str.Lines.{lines};
+ghost use Rattle.std.specs.Prelude.{List, Option, Some, None, ℕ, IfOk, IfSome, length};
 ghost use Rattle.mx_play.specs.Lines.{ReadsNext, lines_of};
-ghost use Rattle.mx_play.specs.SameLines.{AreSameLines};
+ghost use Rattle.mx_play.specs.Stops.{CountsDown};
 
 use mx_cli::split_line;
 use std::alloc::AllocError;
@@ -26,10 +25,15 @@ pub trait Lines {
     // the lines that are still to come, if they are known
     ghost rest: { Self → Option (List (List ℕ)) } = { λ _. None };
 
+    // how many lines are left at most, if it is known that each can be read
+    ghost readable: { Self → Option ℕ } = { λ _. None };
+
     /// Replaces `line` by the next line, without its line feed. The last line may lack one.
     fn next(&mut self, line: &mut Vec<u8>) -> Result<LineRead, AllocError>
-        ensures { IfSome (rest self.old) (λ lines. IfOk result (λ read.
-            ReadsNext lines read line.new.items (rest self.new))) };
+        ensures reads { IfOk result (λ read.
+            ReadsNext (rest self.old) read line.new.items (rest self.new)) }
+        ensures counts { IfSome (readable self.old) (λ n. IfOk result (λ read.
+            CountsDown n read (readable self.new))) };
 
     /// Whether the lines are typed at a terminal. If they are, a prompt asks for each.
     fn are_typed(&self) -> bool;
@@ -42,6 +46,8 @@ pub(crate) struct Listed<'a> {
 
 impl Lines for Listed<'_> {
     ghost rest = { λ l. Some (lines_of l.rest.now) };
+
+    ghost readable = { λ l. Some (length l.rest.now) };
 
     fn next(&mut self, line: &mut Vec<u8>) -> Result<LineRead, AllocError> {
         line.clear();
@@ -61,11 +67,3 @@ impl Lines for Listed<'_> {
         false
     }
 }
-
-/// Proves that a session reads the lines of a script with the same words as the command `script`,
-/// which uses std's `lines`. The lines differ only in a carriage return at their end, which a
-/// session keeps. Does nothing.
-#[tactic(auto, using(crate::proofs::SameLineLemmas::same_lines))]
-pub fn reads_as_script(script: &str)
-    ensures { AreSameLines (lines_of script.now) (lines script.now) }
-{}

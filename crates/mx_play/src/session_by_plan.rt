@@ -1,8 +1,9 @@
 //! A session in the cluster of a plan, by the plan's algorithm.
 
-ghost use Rattle.std.specs.Prelude.{◌≡◌, IfOk};
+ghost use Rattle.std.specs.Prelude.{◌≡◌, true, IfOk};
 ghost use Rattle.mx_cli.specs.Reports.{seen};
 ghost use Rattle.mx_play.specs.Played.{IsPlayedBy};
+ghost use Rattle.mx_play.specs.Stops.{AreReadable, OnlyMemory};
 
 use crate::line_sources::Lines;
 use crate::session::{Setting, first_session};
@@ -26,6 +27,10 @@ pub(crate) fn run_by_plan<L: Lines, O: Output, E: Output>(
         (L.rest lines.old) (seen O.Output E.Output out.old err.old)
         (seen O.Output E.Output out.new err.new) start.now.plan.shape) }
     ensures zero { IfOk result (λ status. status ≡ 0) }
+    ensures stops { O.takes_all out.old ≡ true → E.takes_all err.old ≡ true
+        → AreReadable (L.readable lines.old) → OnlyMemory result }
+    ensures stays { (O.takes_all out.new ≡ O.takes_all out.old)
+        × (E.takes_all err.new ≡ E.takes_all err.old) }
 {
     let plan = &start.plan;
     let script = start.text.as_slice();

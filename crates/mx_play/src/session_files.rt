@@ -5,6 +5,8 @@ ghost use Rattle.mx_cli.specs.Reading.{is_dash};
 ghost use Rattle.mx_cli.specs.Requests.{text_of};
 ghost use Rattle.mx_play.specs.Lines.{AreLeft, session_lines};
 ghost use Rattle.mx_play.specs.Played.{IsLinePlan, IsPlanNamed, IsScriptOf, told_of_script};
+ghost use Rattle.mx_play.specs.Stops.{AreReadable, OnlyMemory};
+ghost use Rattle.mx_play.specs.Reasons.{CanBeRead, IsLineStated, IsPlanStated, IsStated};
 
 use crate::line_sources::{LineRead, Lines};
 use mx_cli::{Fault, Named, PlanAndText, Stop, fetch, fetch_plan, plan_in};
@@ -26,6 +28,10 @@ pub(crate) fn fetch_start<S: Source, L: Lines>(
         (L.rest lines.new)) }
     ensures script { IfOk result (λ start. IsScriptOf
         (told_of_script (S.told source.old) (text_of script.entry)) start.text.items) }
+    ensures stops { CanBeRead (S.told source.old) (L.rest lines.old) (L.readable lines.old)
+        plan.now (text_of script.entry) → OnlyMemory result }
+    ensures readable { AreReadable (L.readable lines.old)
+        → IfOk result (λ _. AreReadable (L.readable lines.new)) }
 {
     let plan = plan_of(alloc, plan, source, lines)?;
     let text = script_of(alloc, script, source)?;
@@ -41,6 +47,11 @@ fn plan_of<S: Source, L: Lines>(
     ensures named { IfOk result (IsPlanNamed (S.told source.old) name.now (L.rest lines.old)) }
     ensures left { IfOk result (λ _.
         AreLeft (session_lines (is_dash name.now) (L.rest lines.old)) (L.rest lines.new)) }
+    ensures stops { AreReadable (L.readable lines.old)
+        → IsPlanStated (is_dash name.now) (S.told source.old name.now) (L.rest lines.old)
+        → OnlyMemory result }
+    ensures readable { AreReadable (L.readable lines.old)
+        → IfOk result (λ _. AreReadable (L.readable lines.new)) }
     ensures stays { S.told source.new ≡ S.told source.old }
 {
     if is_dash(name) {
@@ -54,6 +65,10 @@ fn first_plan<L: Lines>(alloc: Global, lines: &mut L) -> Result<Plan, Stop>
     ensures plan { IfOk result (IsLinePlan (L.rest lines.old)) }
     ensures left { IfOk result (λ _.
         AreLeft (session_lines true (L.rest lines.old)) (L.rest lines.new)) }
+    ensures stops { AreReadable (L.readable lines.old)
+        → IsLineStated (L.rest lines.old) → OnlyMemory result }
+    ensures readable { AreReadable (L.readable lines.old)
+        → IfOk result (λ _. AreReadable (L.readable lines.new)) }
 {
     let mut line = Vec::new(alloc);
     match lines.next(&mut line)? {
@@ -67,8 +82,10 @@ fn first_plan<L: Lines>(alloc: Global, lines: &mut L) -> Result<Plan, Stop>
 /// Returns the bytes of the script. There are none if no script is named, or if it is `-`, standard
 /// input, since its lines are read later.
 fn script_of<S: Source>(alloc: Global, name: Option<&str>, source: &mut S) -> Result<Vec<u8>, Stop>
-    ensures { IfOk result (λ text. IsScriptOf (told_of_script (S.told source.old)
+    ensures script { IfOk result (λ text. IsScriptOf (told_of_script (S.told source.old)
         (text_of name.entry)) text.items) }
+    ensures stops { IsStated (told_of_script (S.told source.old) (text_of name.entry))
+        → OnlyMemory result }
 {
     let Some(name) = name else {
         return Ok(Vec::new(alloc));

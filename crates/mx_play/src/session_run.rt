@@ -1,13 +1,16 @@
 //! A run of a session: its lines are read, executed and printed, one after another.
 
-ghost use Rattle.std.specs.Prelude.{◌≡◌, [], Some, false, length, string_bytes, IfOk, OnOk};
+ghost use Rattle.std.specs.Prelude.{◌≡◌, ◌≤◌, ◌+◌, Some, false, true, length, string_bytes, IfOk, IfSome, OnOk};
 ghost use Rattle.std.specs.Io.KnownBytes.{Appends};
+ghost use Rattle.mx_plan.specs.Text.{Text};
 ghost use Rattle.mx_format.specs.LetterTexts.{letter_text};
 ghost use Rattle.mx_cli.specs.Reports.{seen};
-ghost use Rattle.mx_commands.specs.Runs.{closing_text};
-ghost use Rattle.mx_play.specs.Commands.{IsInput};
+ghost use Rattle.mx_driver.specs.Runs.{closing_text};
+ghost use Rattle.mx_play.specs.Commands.{IsInput, IsInputOf, is_end};
+ghost use Rattle.mx_play.specs.Plays.{ArePlayed, Does, IsPlayed};
+ghost use Rattle.mx_play.specs.Printed.{GetsReport};
 ghost use Rattle.mx_play.specs.Sessions.{IsSession, at_start};
-ghost use Rattle.mx_play.specs.Turns.{HasRun, HasTurned, IsPlayed, PrintsTurn, Reports, RunsOn, TakesTurn};
+ghost use Rattle.mx_play.specs.Stops.{AreReadable, HaveNumbers, OnlyMemory};
 
 use crate::commands::execute;
 use crate::input::{Input, greet, is_end, read_input};
@@ -21,6 +24,13 @@ use mx_io::Output;
 use mx_knowledge::Knowledge;
 use mx_nodelaws::Exclusion;
 use std::alloc::AllocError;
+
+/// What a line comes to: what is printed, and its fault.
+#[derive(Drop)]
+struct Turn {
+    text: String,
+    fault: Option<InputFault>,
+}
 
 pub(crate) fn run_session<C: Exclusion + Knowledge, L: Lines, O: Output, E: Output>(
     setting: &Setting<'_, C>,
@@ -39,41 +49,24 @@ where
         setting.now.plan.now setting.now.shape.now script.now (L.rest lines.old)
         (seen O.Output E.Output out.old err.old) (seen O.Output E.Output out.new err.new)) }
     ensures zero { IfOk result (λ status. status ≡ 0) }
+    ensures stops { O.takes_all out.old ≡ true → E.takes_all err.old ≡ true
+        → AreReadable (L.readable lines.old) → OnlyMemory result }
+    ensures stays { (O.takes_all out.new ≡ O.takes_all out.old)
+        × (E.takes_all err.new ≡ E.takes_all err.old) }
 {
     let mut listed = Listed { rest: script };
-    let next = run_lines(setting, 1, &mut listed, session, out, err)?;
-    run_rest(setting, next, lines, session, out, err)?;
-    finish(setting, session, out)
-}
-
-fn run_rest<C: Exclusion + Knowledge, L: Lines, O: Output, E: Output>(
-    setting: &Setting<'_, C>,
-    next: Option<u64>,
-    lines: &mut L,
-    session: &mut Session<C>,
-    out: &mut O,
-    err: &mut E,
-) -> Result<(), Stop>
-where
-    C::Msg: Letter,
-    requires { IsSession C.core setting.now.plan.now setting.now.shape.now session.old }
-    ensures run { OnOk result (RunsOn C.core (letter_text C.Msg.parts) C.knows
-        setting.now.plan.now setting.now.shape.now next (L.rest lines.old)
-        session.old session.new
-        (seen O.Output E.Output out.old err.old) (seen O.Output E.Output out.new err.new)) }
-    ensures is { OnOk result
-        (IsSession C.core setting.now.plan.now setting.now.shape.now session.new) }
-{
-    match next {
+    match run_lines(setting, 1, &mut listed, session, out, err)? {
         Some(number) => {
             greet(lines, err)?;
             run_lines(setting, number, lines, session, out, err)?;
-            Ok(())
+            finish(setting, session, out)
         }
-        None => Ok(()),
+        None => finish(setting, session, out),
     }
 }
 
+/// Runs lines to their end, or to the first that ends the session; `first` is the number of the
+/// first of them. Returns the number of the line after them, if the session goes on.
 fn run_lines<C: Exclusion + Knowledge, L: Lines, O: Output, E: Output>(
     setting: &Setting<'_, C>,
     first: u64,
@@ -85,12 +78,18 @@ fn run_lines<C: Exclusion + Knowledge, L: Lines, O: Output, E: Output>(
 where
     C::Msg: Letter,
     requires { IsSession C.core setting.now.plan.now setting.now.shape.now session.old }
-    ensures run { IfOk result (λ next. HasRun C.core (letter_text C.Msg.parts) C.knows
+    ensures run { IfOk result (λ next. ArePlayed C.core (letter_text C.Msg.parts) C.knows
         setting.now.plan.now setting.now.shape.now first (L.rest lines.old) next
         session.old session.new
         (seen O.Output E.Output out.old err.old) (seen O.Output E.Output out.new err.new)) }
     ensures is { IfOk result (λ _.
         IsSession C.core setting.now.plan.now setting.now.shape.now session.new) }
+    ensures left { IfSome (L.readable lines.old) (λ n. IfOk result (λ next.
+        IfSome next (λ k. k ≤ first + n))) }
+    ensures stops { O.takes_all out.old ≡ true → E.takes_all err.old ≡ true
+        → HaveNumbers first (L.readable lines.old) → OnlyMemory result }
+    ensures stays { (O.takes_all out.new ≡ O.takes_all out.old)
+        × (E.takes_all err.new ≡ E.takes_all err.old) }
 {
     let mut line = Vec::new(setting.alloc);
     for number in first..u64::MAX {
@@ -98,7 +97,9 @@ where
         if let Input::Eof = input {
             return Ok(Some(number));
         }
-        turn(setting, number, &input, line.as_slice(), session, out, err)?;
+        let turn = execute_input(setting, &input, line.as_slice(), session)?;
+        print(&turn, out)?;
+        report(setting, number, &turn.fault, line.as_slice(), session, err)?;
         if is_end(&input) {
             return Ok(None);
         }
@@ -106,89 +107,50 @@ where
     Err(Stop::Fault(Fault::CannotRead(Named::Events)))
 }
 
-fn turn<C: Exclusion + Knowledge, O: Output, E: Output>(
-    setting: &Setting<'_, C>,
-    number: u64,
-    input: &Input,
-    line: &[u8],
-    session: &mut Session<C>,
-    out: &mut O,
-    err: &mut E,
-) -> Result<(), Stop>
-where
-    C::Msg: Letter,
-    requires is { IsSession C.core setting.now.plan.now setting.now.shape.now session.old }
-    requires input { IsInput setting.now.plan.now input.now }
-    ensures turned { OnOk result (TakesTurn C.core (letter_text C.Msg.parts) C.knows
-        setting.now.plan.now setting.now.shape.now number input.now line.now
-        session.old session.new
-        (seen O.Output E.Output out.old err.old) (seen O.Output E.Output out.new err.new)) }
-    ensures is { OnOk result
-        (IsSession C.core setting.now.plan.now setting.now.shape.now session.new) }
-    ensures passed { OnOk result (O.keeps_back out.new ≡ false) }
-{
-    let fault = execute_and_print(setting, input, line, session, out)?;
-    report(setting, number, &fault, line, session, err)
-}
-
-fn execute_and_print<C: Exclusion + Knowledge, O: Output>(
-    setting: &Setting<'_, C>,
-    input: &Input,
-    line: &[u8],
-    session: &mut Session<C>,
-    out: &mut O,
-) -> Result<Option<InputFault>, Stop>
-where
-    C::Msg: Letter,
-    requires is { IsSession C.core setting.now.plan.now setting.now.shape.now session.old }
-    requires input { IsInput setting.now.plan.now input.now }
-    ensures turned { IfOk result (λ fault. PrintsTurn C.core (letter_text C.Msg.parts) C.knows
-        setting.now.plan.now setting.now.shape.now input.now line.now fault
-        session.old session.new (O.written out.old) (O.written out.new)) }
-    ensures is { IfOk result (λ _.
-        IsSession C.core setting.now.plan.now setting.now.shape.now session.new) }
-    ensures passed { IfOk result (λ _. O.keeps_back out.new ≡ false) }
-{
-    let mut text = String::new(setting.alloc);
-    let fault = execute_input(setting, input, line, session, &mut text)?;
-    print(text.as_str(), out)?;
-    Ok(fault)
-}
-
 fn execute_input<C: Exclusion + Knowledge>(
     setting: &Setting<'_, C>,
     input: &Input,
     line: &[u8],
     session: &mut Session<C>,
-    text: &mut String,
-) -> Result<Option<InputFault>, AllocError>
+) -> Result<Turn, AllocError>
 where
     C::Msg: Letter,
     requires is { IsSession C.core setting.now.plan.now setting.now.shape.now session.old }
     requires input { IsInput setting.now.plan.now input.now }
-    requires empty { string_bytes text.old ≡ [] }
-    ensures turned { IfOk result (λ fault. HasTurned C.core (letter_text C.Msg.parts) C.knows
-        setting.now.plan.now setting.now.shape.now input.now line.now fault
-        session.old session.new (string_bytes text.new)) }
+    ensures does { IfOk result (λ turn. (from : Text)
+        → IsInputOf setting.now.plan.now from input.now line.now
+        → Does C.core (letter_text C.Msg.parts) C.knows setting.now.plan.now setting.now.shape.now
+        from turn.fault (is_end input.now) session.old session.new (string_bytes turn.text)) }
     ensures is { IfOk result (λ _.
         IsSession C.core setting.now.plan.now setting.now.shape.now session.new) }
 {
+    let mut text = String::new(setting.alloc);
     match input {
-        Input::Command(command) => execute(setting, command, line, session, text),
-        Input::Fault(fault) => Ok(Some(*fault)),
-        Input::Eof => Ok(None),
+        Input::Command(command) => {
+            let fault = execute(setting, command, line, session, &mut text)?;
+            Ok(Turn { text, fault })
+        }
+        Input::Fault(fault) => {
+            let fault = Some(*fault);
+            Ok(Turn { text, fault })
+        }
+        Input::Eof => Ok(Turn { text, fault: None }),
     }
 }
 
-fn print<O: Output>(text: &str, out: &mut O) -> Result<(), Stop>
-    ensures printed { OnOk result (Appends (O.written out.old) (O.written out.new) text.now) }
+fn print<O: Output>(turn: &Turn, out: &mut O) -> Result<(), Stop>
+    ensures printed { OnOk result
+        (Appends (O.written out.old) (O.written out.new) (string_bytes turn.now.text)) }
     ensures passed { OnOk result (O.keeps_back out.new ≡ false) }
+    ensures stops { O.takes_all out.old ≡ true → OnlyMemory result }
+    ensures stays { O.takes_all out.new ≡ O.takes_all out.old }
 {
-    out.put(text.as_bytes())?;
+    out.put(turn.text.as_bytes())?;
     out.flush()?;
     Ok(())
 }
 
+/// Reports the fault of a line, if it has one.
 fn report<C: Exclusion, E: Output>(
     setting: &Setting<'_, C>,
     number: u64,
@@ -197,26 +159,14 @@ fn report<C: Exclusion, E: Output>(
     session: &Session<C>,
     err: &mut E,
 ) -> Result<(), Stop>
-    ensures { OnOk result
-        (Reports number fault.now (E.written err.old) (E.written err.new)) }
+    ensures reports { OnOk result
+        (GetsReport number fault.now (E.written err.old) (E.written err.new)) }
+    ensures stops { E.takes_all err.old ≡ true → OnlyMemory result }
+    ensures stays { E.takes_all err.new ≡ E.takes_all err.old }
 {
-    match fault {
-        Some(fault) => report_fault(setting, number, fault, line, session, err),
-        None => Ok(()),
-    }
-}
-
-fn report_fault<C: Exclusion, E: Output>(
-    setting: &Setting<'_, C>,
-    number: u64,
-    fault: &InputFault,
-    line: &[u8],
-    session: &Session<C>,
-    err: &mut E,
-) -> Result<(), Stop>
-    ensures { OnOk result
-        (Reports number (Some fault.now) (E.written err.old) (E.written err.new)) }
-{
+    let Some(fault) = fault else {
+        return Ok(());
+    };
     let trace = trace_of(&session.state);
     let message = message_about(setting.alloc, setting.plan, fault, line, trace)?;
     let said = InputFaultLine {
@@ -242,6 +192,8 @@ where
         (closing_text C.core (letter_text C.Msg.parts) setting.now.plan.now
         session.now.state.cluster)) }
     ensures zero { IfOk result (λ status. status ≡ 0) }
+    ensures stops { O.takes_all out.old ≡ true → OnlyMemory result }
+    ensures stays { O.takes_all out.new ≡ O.takes_all out.old }
 {
     let mut text = String::new(setting.alloc);
     let status = add_end(setting.alloc, setting.plan, &session.state, &mut text)?;

@@ -4,7 +4,7 @@ ghost use Rattle.std.specs.Prelude.{◌≡◌, ◌++◌, length, string_bytes, O
 ghost use Rattle.mx_play.specs.Views.{node_shown, standing_lines};
 
 use crate::session::Setting;
-use mx_commands::node_at;
+use mx_driver::node_at;
 use mx_format::{add_facts_line, add_member_line};
 use mx_knowledge::Knowledge;
 use mx_member::Member;

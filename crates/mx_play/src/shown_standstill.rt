@@ -7,7 +7,7 @@ ghost use Rattle.mx_scripts.specs.Fates.{is_under_way};
 ghost use Rattle.mx_play.specs.Views.{has_under_way, stuck_shown};
 
 use crate::session::Setting;
-use mx_commands::stuck_nodes;
+use mx_driver::stuck_nodes;
 use mx_format::add_stuck;
 use mx_knowledge::Knowledge;
 use mx_nodelaws::Exclusion;

@@ -4,7 +4,7 @@ ghost use Rattle.std.specs.Prelude.{◌≡◌, ◌∷◌, ◌++◌, [], IfNone, 
 ghost use Rattle.mx_play.specs.Histories.{CanLead, Leads, first_state};
 ghost use Rattle.mx_play.specs.Printed.{if_done, steps_line};
 ghost use Rattle.mx_play.specs.Sessions.{IsSession};
-ghost use Rattle.mx_play.specs.Turns.{HasRedone, HasUndone, redone_text, undone_text};
+ghost use Rattle.mx_play.specs.Executions.{HasRedone, HasUndone, redone_text, undone_text};
 
 use crate::input_fault::InputFault;
 use crate::session::{Session, Setting, first_state};

@@ -1,6 +1,6 @@
 //! The hint for a reader at a terminal: which command shows the place of a fault and its reason.
 
-use mx_cli::{Request, is_explained, parse, write_line};
+use mx_cli::{Request, parse, write_line};
 use mx_io::Output;
 use std::alloc::Global;
 use std::fmt;
@@ -32,9 +32,6 @@ impl fmt::Display for Hint<'_> {
 /// Writes the hint for a fault of the command line `words`: the `explain` command for its files.
 /// Writes nothing if one of them is standard input (`-`), or if the command has no hint.
 pub(crate) fn tell_hint<E: Output>(alloc: Global, words: &[&str], err: &mut E) {
-    if !words.first().is_some_and(|name| is_explained(name)) {
-        return;
-    }
     let Ok(Some(request)) = parse(alloc, words) else {
         return;
     };
@@ -46,28 +43,23 @@ pub(crate) fn tell_hint<E: Output>(alloc: Global, words: &[&str], err: &mut E) {
     }
 }
 
-/// Returns the hint for the files that a request names.
+/// Returns the hint for the files that a request names. `draw`, `play`, `judge` and `explain` have
+/// none, and `explain` reads no trace.
 fn hint_for<'a>(request: &Request<'a>) -> Option<Hint<'a>> {
     let (plan, second) = match request {
-        Request::Check { plan, .. } | Request::Explore { plan, .. } | Request::Draw { plan, .. } =>
-            (*plan, None),
+        Request::Check { plan, .. } | Request::Explore { plan, .. } => (*plan, None),
         Request::Live(run) => (run.plan, None),
-        Request::Play { plan, script } => (*plan, *script),
         Request::Replay { names, .. }
         | Request::Script(names)
         | Request::Picture { names, .. }
-        | Request::Count { names, .. }
-        | Request::Judge { names, .. } => (names.plan, Some(names.events)),
-        Request::Explain { plan, second, .. } => (*plan, *second),
-        // `explain` reads no trace
-        Request::PictureTrace(..) | Request::Misfit(_) => return None,
+        | Request::Count { names, .. } => (names.plan, Some(names.events)),
+        _ => return None,
     };
     let is_script = match request {
         Request::Script(_) => true,
         Request::Replay { is_script, .. }
         | Request::Picture { is_script, .. }
-        | Request::Count { is_script, .. }
-        | Request::Explain { is_script, .. } => *is_script,
+        | Request::Count { is_script, .. } => *is_script,
         _ => false,
     };
     Some(Hint {

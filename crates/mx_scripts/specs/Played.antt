@@ -15,7 +15,7 @@ use Rattle.mx_plan.specs.Fields.{Fields}
 use Rattle.mx_plan.specs.declared.shape.Shape.{Shape}
 use Rattle.mx_plan.specs.declared.shape.Shape.TheVariants.{Ricart, Maekawa, Raymond}
 use Rattle.mx_explorer.specs.Drawn.{IsDrawn}
-use Rattle.mx_commands.specs.Runs.{at_rest}
+use Rattle.mx_driver.specs.Runs.{at_rest}
 use Rattle.mx_scripts.specs.Files.{file_text}
 
 abbrev pub events_of : List Entry → List Event

@@ -12,7 +12,7 @@ use Rattle.mx_plan.specs.Fields.{Fields}
 use Rattle.mx_plan.specs.declared.shape.Shape.{Shape}
 use Rattle.mx_plan.specs.declared.shape.Shape.TheVariants.{Ricart, Maekawa, Raymond}
 use Rattle.mx_lines.specs.declared.errors.LineFault.TheVariants.{NotText}
-use Rattle.mx_commands.specs.Runs.{at_rest}
+use Rattle.mx_driver.specs.Runs.{at_rest}
 use Rattle.mx_scripts.specs.Files.{file_text}
 use Rattle.mx_scripts.specs.Lines.{DoesAll, StopsBy}
 use Rattle.mx_scripts.specs.Played.{IsFileOf, events_of}

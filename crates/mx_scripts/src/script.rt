@@ -14,7 +14,7 @@ use crate::line_failure::{LineFailure, refused_line};
 use crate::recorder::Recorder;
 use crate::state::{SessionEvent, State};
 use mx_cli::{Stop, stop_with};
-use mx_commands::by_shape;
+use mx_driver::by_shape;
 use mx_lines::{Line, LineFault, Order, ScriptLine, read_line, words_in};
 use mx_maekawa::Maekawa;
 use mx_nodelaws::Exclusion;

@@ -1,11 +1,11 @@
 ghost use Rattle.std.specs.Prelude.{◌≡◌, IfErr, IfOk, IsTrue, OnOk};
-ghost use Rattle.mx_commands.specs.Runs.{at_rest};
+ghost use Rattle.mx_driver.specs.Runs.{at_rest};
 ghost use Rattle.mx_scripts.specs.Fates.{can_pass, is_under_way};
 ghost use Rattle.mx_scripts.specs.States.{Brings, IsAllowed, IsNotApplied, before_any};
 
 use crate::in_flight::InFlight;
 use crate::line_failure::LineFailure;
-use mx_commands::start;
+use mx_driver::start;
 use mx_lines::LinkChange;
 use mx_network::{Cluster, Entry, Event};
 use mx_nodelaws::Exclusion;

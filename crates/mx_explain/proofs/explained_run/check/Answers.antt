@@ -1,7 +1,7 @@
 use Rattle.std.proofs.Common.{false, subst}
 use Rattle.mx_cli.specs.Frames.{Files}
 use Rattle.mx_cli.specs.Printing.{Prints, null_output}
-use Rattle.mx_commands.specs.Commands.{IsCheck}
+use Rattle.mx_driver.specs.Commands.{IsCheck}
 use Rattle.mx_explain.specs.Explained.{IsReportFor}
 use Rattle.mx_explain.proofs.explained_run.check.Goals as goal
 

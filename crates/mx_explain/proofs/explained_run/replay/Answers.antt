@@ -3,11 +3,11 @@ use Rattle.mx_events.specs.declared.event.Event.{Event}
 use Rattle.mx_cli.specs.Printing.{IsReport, Prints, null_output, stop_at}
 use Rattle.mx_cli.proofs.FrameLemmas.{prints_as}
 use Rattle.mx_cli.proofs.ReadLemmas.{err_is}
-use Rattle.mx_commands.specs.Commands.{IsReplay}
-use Rattle.mx_commands.specs.Jobs.{run_by}
-use Rattle.mx_commands.specs.Runs.{AllNameNodes}
-use Rattle.mx_commands.proofs.EventLemmas.{events_named}
-use Rattle.mx_commands.proofs.ReplayLemmas.{is_replay, no_replay}
+use Rattle.mx_driver.specs.Commands.{IsReplay}
+use Rattle.mx_driver.specs.Jobs.{run_by}
+use Rattle.mx_driver.specs.Runs.{AllNameNodes}
+use Rattle.mx_driver.proofs.EventLemmas.{events_named}
+use Rattle.mx_driver.proofs.ReplayLemmas.{is_replay, no_replay}
 use Rattle.mx_explain.proofs.explained_run.replay.Goals as goal
 
 pub observe-requires : goal.observe-requires

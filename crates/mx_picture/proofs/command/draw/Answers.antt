@@ -3,7 +3,7 @@ use Rattle.std.specs.Option.{option_map_or}
 use Rattle.mx_cli.specs.Printing.{Prints, has_fault, sight}
 use Rattle.mx_cli.specs.Requests.{part_of, text_of}
 use Rattle.mx_cli.specs.declared.faults.Fault.{Fault}
-use Rattle.mx_commands.specs.Jobs.{run_by}
+use Rattle.mx_driver.specs.Jobs.{run_by}
 use Rattle.mx_picture.specs.Pictures.{IsDrawn, end_of_run}
 use Rattle.mx_picture.proofs.PictureLemmas.{fault_drawn, part_fault}
 use Rattle.mx_picture.proofs.command.draw.Goals as goal

@@ -3,7 +3,7 @@ use Rattle.mx_cli.specs.Printing.{sight}
 use Rattle.mx_cli.specs.declared.stop.Stop.TheVariants as stop
 use Rattle.mx_cli.proofs.FrameLemmas.{memory_prints, whole_prints}
 use Rattle.mx_cli.proofs.ReadLemmas.{err_is}
-use Rattle.mx_commands.specs.Jobs.{run_by}
+use Rattle.mx_driver.specs.Jobs.{run_by}
 use Rattle.mx_picture.specs.Pictures.{IsDrawn}
 use Rattle.mx_picture.proofs.PictureLemmas.{run_drawn, run_stops}
 use Rattle.mx_picture.proofs.command.print_picture.Goals as goal

@@ -1,9 +1,11 @@
+use Rattle.std.proofs.Common.{◌∙◌}
 use Rattle.std.specs.Prelude.{codes}
 use Rattle.mx_plan.specs.Text.{Text}
 use Rattle.mx_cli.specs.Reports.{seen}
 use Rattle.mx_cli.proofs.ClosedLemmas.{closed_done, closed_passed, closed_status}
 use Rattle.mx_play.proofs.PlayedLemmas.{by_keeps}
 use Rattle.mx_play.proofs.ReportLemmas.{closed_told}
+use Rattle.mx_play.proofs.StopLemmas.{closed_well}
 use Rattle.mx_play.proofs.command.play_and_close.Goals as goal
 
 pub returns : goal.returns
@@ -20,5 +22,7 @@ returns g c =
       played = λ zero. by_keeps p c.args.start.now.text.items (seen g.O.Output g.E.Output c.args.out.now c.args.err.now) old new (g.L.Lines.rest c.args.lines.now) p.shape
           (closed_done names t u old new c.close.result run c.run_by_plan-ended.ensures.played closes zero) closes.0 (closed_told names t u old new c.close.result run closes zero);
       passed = λ zero. closed_passed names t u old new c.close.result run closes zero;
+      stops = λ takes_out takes_err readable one.
+          closed_well names t u old new c.close.result (c.run_by_plan-ended.ensures.stays.0 ∙ takes_out) run (c.run_by_plan-ended.ensures.stops takes_out takes_err readable) c.run_by_plan-ended.ensures.zero closes one;
       status = closed_status names t u old new c.close.result run c.run_by_plan-ended.ensures.zero closes;
     }

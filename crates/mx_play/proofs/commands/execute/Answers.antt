@@ -4,7 +4,7 @@ use Rattle.mx_plan.specs.Text.{Text}
 use Rattle.mx_format.specs.LetterTexts.{letter_text}
 use Rattle.mx_play.specs.Sessions.{SessionState}
 use Rattle.mx_play.specs.Views.{mark_line}
-use Rattle.mx_play.proofs.TurnLemmas.{executed_expect, executed_line, executed_redo, executed_undo}
+use Rattle.mx_play.proofs.ExecutionLemmas.{executed_expect, executed_line, executed_redo, executed_undo}
 use Rattle.mx_play.proofs.ExpectationLemmas.{whatever}
 use Rattle.mx_play.proofs.commands.execute.Goals as goal
 

@@ -2,7 +2,7 @@ use Rattle.std.proofs.Common.{◌≡◌, ◌∙◌, ◌+◌, ◌++◌, ◌∷◌
 use Rattle.std.proofs.lemmas.List.{length-append}
 use Rattle.mx_trace.specs.declared.outcome.Entry.{Entry}
 use Rattle.mx_format.specs.LetterTexts.{letter_text}
-use Rattle.mx_commands.specs.Runs.{text_of}
+use Rattle.mx_driver.specs.Runs.{text_of}
 use Rattle.mx_play.proofs.event_texts.add_newest.Goals as goal
 
 pub event-requires : goal.event-requires

@@ -10,14 +10,21 @@ pub returns-in-Ok-clause-over : goal.returns-in-Ok-clause-over
 returns-in-Ok-clause-over c = input_over c.args.plan.now (texts_of c.as_slice.result.now) c.in-Ok.command c.in-Ok.ensures
 
 pub returns-in-Ok-clause-means : goal.returns-in-Ok-clause-means
-returns-in-Ok-clause-means c = (
-  c.in_ok-words.words.items,
-  c.in_ok-words.ensures,
-  subst (λ (l : List (Bor Text)). command_of (known_of c.args.plan.now) (texts_of l) ≡ Ok c.in-Ok.command) c.as_slice.ensures.value (sym c.in-Ok.ensures),
+returns-in-Ok-clause-means c = λ short utf8. (
+  refl,
+  (
+    short,
+    utf8,
+    (
+      c.in_ok-words.words.items,
+      c.in_ok-words.ensures,
+      subst (λ (l : List (Bor Text)). command_of (known_of c.args.plan.now) (texts_of l) ≡ Ok c.in-Ok.command) c.as_slice.ensures.value (sym c.in-Ok.ensures),
+    ),
+  ),
 )
 
 pub returns-clause-means : goal.returns-clause-means
-returns-clause-means c = (
+returns-clause-means c = λ short utf8. (
   c.in-Err.error,
   (
     c.in_ok-words.words.items,

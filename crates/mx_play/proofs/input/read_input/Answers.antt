@@ -1,8 +1,9 @@
-use Rattle.std.proofs.Common.{IfSome, List, ℕ, subst}
+use Rattle.std.proofs.Common.{List, length, subst, ◌≤◌, ℕ}
+use Rattle.mx_play.specs.Commands.{IsInputOf}
 use Rattle.mx_play.specs.Lines.{ReadsNext}
-use Rattle.mx_play.specs.LineTurns.{Means}
 use Rattle.mx_play.specs.declared.line_sources.LineRead.{LineRead}
-use Rattle.mx_play.proofs.LinePlanLemmas.{line_input}
+use Rattle.mx_play.specs.declared.line_sources.TheConstants.{MAX_LINE}
+use Rattle.mx_play.proofs.LinePlanLemmas.{read_line}
 use Rattle.mx_play.proofs.input.read_input.Goals as goal
 
 pub returns-in_ok-input_in-in-Line-clause-reads : goal.returns-in_ok-input_in-in-Line-clause-reads
@@ -12,6 +13,6 @@ returns-in_ok-input_in-in-Line-clause-reads g c =
     let lines = g.L.Lines.rest c.args.lines.now in
     let left = g.L.Lines.rest c.next.new.self in
     let buffer = c.next.new.line.items in
-    line_input p left buffer lines of
-    (subst (λ (r : LineRead). IfSome lines (λ known. ReadsNext known r buffer left)) c.in-Line.is c.in_ok-next.ensures)
-    (subst (λ (l : List ℕ). Means p l of) c.as_slice.ensures.value c.in_ok-input_in-in-Line.ensures.means)
+    read_line p lines left buffer of
+    (subst (λ (r : LineRead). ReadsNext lines r buffer left) c.in-Line.is c.in_ok-next.ensures.reads)
+    (subst (λ (l : List ℕ). length l ≤ MAX_LINE → IsInputOf p l of l) c.as_slice.ensures.value c.in_ok-input_in-in-Line.ensures.means)

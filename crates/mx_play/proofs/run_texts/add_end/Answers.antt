@@ -1,8 +1,8 @@
 use Rattle.std.proofs.Common.{◌∙◌, ◌++◌, ap, arith, length, string_bytes}
 use Rattle.mx_format.specs.LetterTexts.{letter_text}
 use Rattle.mx_network.specs.Step.{ClusterState}
-use Rattle.mx_commands.specs.Runs.{closing_text}
-use Rattle.mx_commands.specs.VerdictLines.{verdict_status}
+use Rattle.mx_driver.specs.Runs.{closing_text}
+use Rattle.mx_driver.specs.VerdictLines.{verdict_status}
 use Rattle.mx_play.proofs.run_texts.add_end.Goals as goal
 
 pub add_closing-requires : goal.add_closing-requires

@@ -1,20 +1,13 @@
-use Rattle.std.proofs.Common.{None, Some, refl, rules, string_bytes}
-use Rattle.mx_format.specs.LetterTexts.{letter_text}
-use Rattle.mx_play.specs.Commands.{rests}
-use Rattle.mx_play.proofs.TurnLemmas.{turned_on_ok}
+use Rattle.std.proofs.Common.{Some, inl, inr, refl, rules}
 use Rattle.mx_play.proofs.session_run.execute_input.Goals as goal
 
+pub returns-in_ok-fault-in-Command-clause-does : goal.returns-in_ok-fault-in-Command-clause-does
+returns-in_ok-fault-in-Command-clause-does g c = rw c.in-Command.is (λ from x.
+    inl (c.in-Command.command, x.1, rw x.0 at c.in_ok-fault-in-Command.ensures.executed, refl))
+
 pub execute-requires : goal.execute-requires
-execute-requires g c = (first_of (search rules, search (rules, c.requires-raw)), (c.requires.is, (rw c.in-Command.is at c.requires.input, c.requires.empty)))
+execute-requires g c =
+    (first_of (search rules, search (rules, c.requires-raw)), (c.requires.is, (rw c.in-Command.is at c.requires.input, c.new-text.ensures.bytes)))
 
-pub returns-in-Fault-clause-turned : goal.returns-in-Fault-clause-turned
-returns-in-Fault-clause-turned g c = rw c.in-Fault.is (record { turn = rests (Some c.in-Fault.fault); is = refl; faulty = refl; takes = record { same = refl; printed = c.requires.empty } })
-
-pub returns-in-Eof-clause-turned : goal.returns-in-Eof-clause-turned
-returns-in-Eof-clause-turned g c = rw c.in-Eof.is (record { turn = rests None; is = refl; faulty = refl; takes = record { same = refl; printed = c.requires.empty } })
-
-pub returns-in-Command-clause-turned : goal.returns-in-Command-clause-turned
-returns-in-Command-clause-turned g c =
-    let s = c.args.setting.now in
-    rw c.in-Command.is (turned_on_ok g.C.Exclusion.core (letter_text g.C.Msg.Letter.parts) g.C.Knowledge.knows s.plan.now s.shape.now c.execute.result c.in-Command.command c.args.line.now
-    c.args.session.now c.execute.new.session (string_bytes c.execute.new.text) c.execute.ensures.executed)
+pub returns-in-Fault-clause-does : goal.returns-in-Fault-clause-does
+returns-in-Fault-clause-does g c = rw c.in-Fault.is (λ from x. inr (c.in-Fault.fault, x, refl, refl, record { same = refl; printed = c.new-text.ensures.bytes }))

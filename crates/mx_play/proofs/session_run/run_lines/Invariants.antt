@@ -1,7 +1,9 @@
+use Rattle.std.proofs.Common.{◌≡◌}
 use Rattle.mx_format.specs.LetterTexts.{letter_text}
 use Rattle.mx_cli.specs.Reports.{seen}
 use Rattle.mx_play.specs.Sessions.{IsSession}
-use Rattle.mx_play.proofs.TurnLemmas.{Running}
+use Rattle.mx_play.proofs.PlaysLemmas.{Running}
+use Rattle.mx_play.proofs.StopLemmas.{Left}
 use Rattle.mx_play.proofs.session_run.run_lines.Given as goal
 
 abbrev pub invariant-loop-number : goal.invariant-loop-number
@@ -10,4 +12,7 @@ invariant-loop-number g l = record {
       (g.L.Lines.rest l.initial.lines) (g.L.Lines.rest l.lines) l.initial.session l.session
       (seen g.O.Output g.E.Output l.initial.out l.initial.err) (seen g.O.Output g.E.Output l.out l.err);
   is : IsSession g.C.Exclusion.core l.setting.plan.now l.setting.shape.now l.session;
+  left : Left l.first l.number (g.L.Lines.readable l.initial.lines) (g.L.Lines.readable l.lines);
+  out_stays : g.O.Output.takes_all l.out ≡ g.O.Output.takes_all l.initial.out;
+  err_stays : g.E.Output.takes_all l.err ≡ g.E.Output.takes_all l.initial.err;
 }

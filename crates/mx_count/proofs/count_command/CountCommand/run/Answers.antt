@@ -2,9 +2,9 @@ use Rattle.std.proofs.Common.{◌≡◌, ℕ, List, ap, arith, length, subst, sy
 use Rattle.mx_events.specs.declared.event.Event.{Event}
 use Rattle.mx_cli.specs.Printing.{IsReport, Prints, sight}
 use Rattle.mx_cli.proofs.FrameLemmas.{prints_as}
-use Rattle.mx_commands.specs.Runs.{AllNameNodes}
-use Rattle.mx_commands.specs.Sinks.{report_by}
-use Rattle.mx_commands.proofs.EventLemmas.{events_named}
+use Rattle.mx_driver.specs.Runs.{AllNameNodes}
+use Rattle.mx_driver.specs.Sinks.{report_by}
+use Rattle.mx_driver.proofs.EventLemmas.{events_named}
 use Rattle.mx_count.specs.Printed.{IsCount, count_report, counts_by}
 use Rattle.mx_count.proofs.PrintedLemmas.{is_count, no_count}
 use Rattle.mx_count.proofs.count_command.CountCommand.run.Goals as goal

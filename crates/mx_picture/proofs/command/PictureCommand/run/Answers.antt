@@ -3,8 +3,8 @@ use Rattle.mx_events.specs.declared.event.Event.{Event}
 use Rattle.mx_cli.specs.Printing.{Prints, sight}
 use Rattle.mx_cli.specs.Requests.{part_of}
 use Rattle.mx_cli.proofs.FrameLemmas.{prints_as}
-use Rattle.mx_commands.specs.Runs.{AllNameNodes}
-use Rattle.mx_commands.proofs.EventLemmas.{events_named}
+use Rattle.mx_driver.specs.Runs.{AllNameNodes}
+use Rattle.mx_driver.proofs.EventLemmas.{events_named}
 use Rattle.mx_picture.specs.Pictures.{IsDrawn, IsPictured, end_of_run}
 use Rattle.mx_picture.proofs.PictureLemmas.{listed, unlisted}
 use Rattle.mx_picture.proofs.command.PictureCommand.run.Goals as goal

@@ -13,8 +13,8 @@ loop-step-preserved g c =
     subst (λ (o : Option LineRead). TakesOn o first (to_come g.R.Read.remaining c.step.new.self) c.step.new.is_long c.step.new.line.items) c.in-None.is
     (c.in_ok-read.ensures first c.loop-step.invariant)
 
-pub returns-in-Some : goal.returns-in-Some
-returns-in-Some g c =
+pub returns-in-Some-clause-reads : goal.returns-in-Some-clause-reads
+returns-in-Some-clause-reads g c =
     let first = to_come g.R.Read.remaining c.args.self.now in
     subst (λ (o : Option LineRead). TakesOn o first (to_come g.R.Read.remaining c.step.new.self) c.step.new.is_long c.step.new.line.items) c.in-Some.is
     (c.in_ok-read.ensures first c.loop-step.invariant)

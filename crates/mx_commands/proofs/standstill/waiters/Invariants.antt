@@ -1,8 +1,0 @@
-use Rattle.std.proofs.Common.{◌≡◌, ◌++◌, drop}
-use Rattle.mx_commands.specs.Standstill.{waiters_from}
-use Rattle.mx_commands.proofs.standstill.waiters.Given as goal
-
-abbrev pub invariant-loop-index : goal.invariant-loop-index
-invariant-loop-index g l =
-    let from = waiters_from g.C.Exclusion.core g.C.Knowledge.knows in
-    l.waiters.items ++ from l.index (drop l.index l.members) ≡ from 0 l.members
