@@ -26,6 +26,8 @@ mod settled_stations;
 #[cfg(test)]
 mod shapes;
 #[cfg(test)]
+mod single_calls;
+#[cfg(test)]
 mod sizes;
 #[cfg(test)]
 mod station_calls;
