@@ -17,7 +17,8 @@ class Session:
     def __init__(self, plan):
         self.plan = plan
         self.names = plan["nodes"]
-        # of each line that was done, what happened: events, ["lost", k], ["cut", a, b], ["cut", a], ["heal"]
+        # of each line that was done, what happened: events, ["lost", k], ["cut", a, b], ["cut", a], ["heal", ..] of
+        # as many nodes, or ["heal"]
         self.done = []
         self.undone = []  # what each undo took back, the last one last
         self.begin()
@@ -36,15 +37,10 @@ class Session:
             self.gone.add(happening[1])
             self.put.append(f"lost {self.parcel_line(happening[1])}")
             return
-        if happening[0] == "cut":
-            node, *others = happening[1:]
-            for other in others or range(len(self.names)):
-                self.cut.add(frozenset((node, other)))
-            self.put.append(" ".join(["cut", *(self.names[end] for end in happening[1:])]))
-            return
-        if happening[0] == "heal":
-            self.cut.clear()
-            self.put.append("heal")
+        if happening[0] in ("cut", "heal"):
+            links = set(self.cut) if len(happening) == 1 else self.links_of(*happening[1:])
+            self.cut = self.cut | links if happening[0] == "cut" else self.cut - links
+            self.put.append(" ".join([happening[0], *(self.names[end] for end in happening[1:])]))
             return
         if happening[0] == "deliver":
             number = happening[1]
@@ -58,6 +54,9 @@ class Session:
         self.cluster.happen(len(self.events), happening)
         self.outcome = self.put[before].split(": ", 1)[1]
         self.events.append(happening)
+
+    def links_of(self, node, *others):
+        return {frozenset((node, other)) for other in others or range(len(self.names))}
 
     def begin_again(self):
         self.begin()
@@ -86,16 +85,19 @@ class Session:
         word, *others = words
         if word in ("deliver", "lose") and others[0] == "all" and len(others) in (1, 3):
             yield from self.happenings_of_all(word, others[1:])
-        elif word == "cut":
-            yield ["cut", *(self.names.index(name) for name in others)]
+        elif word in ("cut", "heal"):
+            yield [word, *(self.names.index(name) for name in others)]
         elif word == "partition":
             yield from self.happenings_of_partition(others)
-        elif word == "heal":
-            yield ["heal"]
         elif word == "deliver" and len(words) == 2:
             yield ["deliver", int(others[0])]
         elif word == "deliver":
             yield ["deliver", self.oldest(*others)]
+        elif word == "lose" and len(words) == 2:
+            if int(others[0]) >= len(self.cluster.parcels):
+                raise Fault("no such parcel")
+            if int(others[0]) not in self.gone:
+                yield ["lost", int(others[0])]
         elif word == "lose":
             yield ["lost", self.oldest(*others)]
         elif word == "again":

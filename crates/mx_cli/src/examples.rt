@@ -41,10 +41,13 @@ neither delivered nor lost:
   deliver N M    the oldest from N to M is delivered
   deliver all    all are delivered, the oldest first, and those sent meanwhile, until none is left
   lose N M       the oldest from N to M is lost
+  lose K         parcel K is lost
   lose all       all are lost
   again N M      the one from N to M that was delivered last is delivered once more
   cut N M        the link between N and M is cut: `deliver` finds no parcel on it
   cut N          all links of N are cut
+  heal N M       the link between N and M heals
+  heal N         all links of N heal
   heal           all links heal
   partition N .. | M ..
                  every link between the two sides of | is cut

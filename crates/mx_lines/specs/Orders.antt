@@ -4,7 +4,7 @@ use Rattle.std.specs.Prelude.{◌==◌, ℕ, ◌+◌, List, [], ◌∷◌, Optio
 use Rattle.std.specs.Option.{option_map_or}
 use Rattle.std.specs.Str.{bytes_eq}
 use Rattle.mx_plan.specs.Text.{Text}
-use Rattle.mx_events.specs.Arguments.{event_of, node_in}
+use Rattle.mx_events.specs.Arguments.{event_of, node_in, number_in}
 use Rattle.mx_lines.specs.Names.{Known}
 use Rattle.mx_lines.specs.Numbers.{number_of}
 use Rattle.mx_lines.specs.Refusals.{and_then, refused}
@@ -19,7 +19,7 @@ use Rattle.mx_lines.specs.declared.errors.Expected.TheVariants as expected
 use Rattle.mx_lines.specs.declared.errors.LineError.{LineError}
 use Rattle.mx_lines.specs.declared.errors.LineFault.TheVariants as fault
 use Rattle.mx_lines.specs.declared.orders.Order.{Order}
-use Rattle.mx_lines.specs.declared.orders.Order.TheVariants.{Happens, Arrives, AllArrive, IsLost, AllAreLost, ArrivesAgain, LinksChange, Parts}
+use Rattle.mx_lines.specs.declared.orders.Order.TheVariants.{Happens, Arrives, AllArrive, IsLost, ParcelIsLost, AllAreLost, ArrivesAgain, LinksChange, Parts}
 use Rattle.mx_lines.specs.declared.orders.LinkChange.TheVariants as change
 use Rattle.mx_lines.specs.declared.orders.Scope.TheVariants as scope
 use Rattle.mx_lines.specs.declared.verbs.Verb.{Verb}
@@ -59,6 +59,7 @@ order_between verb.Lose from to = IsLost from to
 order_between verb.LoseLink from to = AllAreLost (scope.Link from to)
 order_between verb.Again from to = ArrivesAgain from to
 order_between verb.CutLink from to = LinksChange (change.Cut from to)
+order_between verb.HealLink from to = LinksChange (change.HealLink from to)
 order_between _ from to = Arrives from to
 
 -- the order of a verb between the two nodes in its arguments
@@ -67,14 +68,27 @@ between verb (from ∷ to ∷ []) =
     option_and_then (λ node. option_map (order_between verb node) (node_in to)) (node_in from)
 between _ _ = None
 
+-- the order of a verb with this argument
+abbrev pub order_of_one : Verb → Argument → Option Order
+order_of_one verb.LoseParcel argument = option_map ParcelIsLost (number_in argument)
+order_of_one verb.HealNode argument =
+    option_map (λ node. LinksChange (change.HealNode node)) (node_in argument)
+order_of_one _ argument =
+    option_map (λ node. LinksChange (change.CutAll node)) (node_in argument)
+
+-- the same, if it has just one argument
+abbrev pub with_one : Verb → List Argument → Option Order
+with_one verb (argument ∷ []) = order_of_one verb argument
+with_one _ _ = None
+
 abbrev pub order_by : Verb → List Argument → Option Order
 order_by (verb.Event kind) arguments = option_map Happens (event_of kind arguments)
 order_by verb.DeliverAll arguments = Some (AllArrive scope.All)
 order_by verb.LoseAll arguments = Some (AllAreLost scope.All)
 order_by verb.Heal arguments = Some (LinksChange change.Heal)
-order_by verb.CutNode (node ∷ []) =
-    option_map (λ number. LinksChange (change.CutAll number)) (node_in node)
-order_by verb.CutNode _ = None
+order_by verb.CutNode arguments = with_one verb.CutNode arguments
+order_by verb.HealNode arguments = with_one verb.HealNode arguments
+order_by verb.LoseParcel arguments = with_one verb.LoseParcel arguments
 order_by verb arguments = between verb arguments
 
 -- what a verb asks for with these arguments; a wrong number is an error of the word at this place

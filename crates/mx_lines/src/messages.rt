@@ -172,9 +172,11 @@ fn expected_text(expected: Expected) -> &'static str {
         Expected::Sides => "nodes, | and nodes after the word",
         Expected::Outcome => "an outcome after the word",
         Expected::Arguments(Verb::Event(kind)) => arguments_text(kind),
-        Expected::Arguments(Verb::Lose) => "all, or two nodes after the word",
+        Expected::Arguments(Verb::Lose) => {
+            "all, the number of a parcel, or two nodes after the word"
+        }
         Expected::Arguments(Verb::CutNode) => "a node or two after the word",
-        Expected::Arguments(Verb::Heal) => "nothing after the word",
+        Expected::Arguments(Verb::HealNode) => "nothing, a node or two after the word",
         Expected::Arguments(_) => "two nodes after the word",
         Expected::OwnArguments(OwnWord::Show) => "a node or nothing after the word",
         Expected::OwnArguments(OwnWord::Undo) => "a number or nothing after the word",

@@ -1,5 +1,5 @@
 ghost use Rattle.std.specs.Prelude.{◌≡◌, ◌≤◌};
-ghost use Rattle.mx_lines.specs.Orders.{argument_at, number_at, order_at, order_before, order_between, order_by, order_from, order_of, order_with};
+ghost use Rattle.mx_lines.specs.Orders.{argument_at, number_at, order_at, order_before, order_between, order_by, order_from, order_of, order_of_one, order_with};
 ghost use Rattle.mx_lines.specs.Names.{texts_of};
 
 use crate::errors::{Expected, LineError, LineFault, refuse};
@@ -23,6 +23,8 @@ pub enum Order {
     AllArrive(Scope),
     /// The oldest parcel under way from the first node to the second is lost.
     IsLost(NodeId, NodeId),
+    /// The parcel of this number is lost, if it is under way.
+    ParcelIsLost(u64),
     /// All parcels of the scope that are under way are lost.
     AllAreLost(Scope),
     /// The parcel from the first node to the second that was delivered last is delivered again.
@@ -48,6 +50,10 @@ pub enum LinkChange {
     Cut(NodeId, NodeId),
     /// All links of the node are cut, that to itself too.
     CutAll(NodeId),
+    /// The link between both nodes heals, both ways.
+    HealLink(NodeId, NodeId),
+    /// All links of the node heal, that to itself too.
+    HealNode(NodeId),
     /// No link is cut any more.
     Heal,
 }
@@ -147,14 +153,24 @@ fn order_by(verb: Verb, arguments: &[Argument]) -> Option<Order>
         Verb::DeliverAll => Some(Order::AllArrive(Scope::All)),
         Verb::LoseAll => Some(Order::AllAreLost(Scope::All)),
         Verb::Heal => Some(Order::LinksChange(LinkChange::Heal)),
-        Verb::CutNode => match arguments {
-            [node] => Some(Order::LinksChange(LinkChange::CutAll(node.node()?))),
+        Verb::CutNode | Verb::HealNode | Verb::LoseParcel => match arguments {
+            [argument] => order_of_one(verb, argument),
             _ => None,
         },
         _ => match arguments {
             [from, to] => Some(order_between(verb, from.node()?, to.node()?)),
             _ => None,
         },
+    }
+}
+
+fn order_of_one(verb: Verb, argument: &Argument) -> Option<Order>
+    ensures { result ≡ order_of_one verb argument.now }
+{
+    match verb {
+        Verb::LoseParcel => Some(Order::ParcelIsLost(argument.number()?)),
+        Verb::HealNode => Some(Order::LinksChange(LinkChange::HealNode(argument.node()?))),
+        _ => Some(Order::LinksChange(LinkChange::CutAll(argument.node()?))),
     }
 }
 
@@ -167,6 +183,7 @@ fn order_between(verb: Verb, from: NodeId, to: NodeId) -> Order
         Verb::LoseLink => Order::AllAreLost(Scope::Link(from, to)),
         Verb::Again => Order::ArrivesAgain(from, to),
         Verb::CutLink => Order::LinksChange(LinkChange::Cut(from, to)),
+        Verb::HealLink => Order::LinksChange(LinkChange::HealLink(from, to)),
         _ => Order::Arrives(from, to),
     }
 }

@@ -1,5 +1,5 @@
 ghost use Rattle.std.specs.Prelude.{◌≡◌, ◌≤◌, length};
-ghost use Rattle.mx_lines.specs.Verbs.{by_count, kinds_of, verb_of, verb_of_all, verb_of_cut};
+ghost use Rattle.mx_lines.specs.Verbs.{by_count, kinds_of, verb_of, verb_of_all, verb_of_cut, verb_of_heal, verb_of_lose};
 
 use mx_events::{ArgumentKind, EventKind};
 
@@ -16,6 +16,8 @@ pub enum Verb {
     DeliverLink,
     /// `lose`, with two nodes.
     Lose,
+    /// `lose`, with the number of a parcel.
+    LoseParcel,
     /// `lose all`.
     LoseAll,
     /// `lose all`, with two nodes.
@@ -26,6 +28,11 @@ pub enum Verb {
     CutLink,
     /// `cut`, with one node.
     CutNode,
+    /// `heal`, with two nodes.
+    HealLink,
+    /// `heal`, with one node.
+    HealNode,
+    /// `heal` alone.
     Heal,
 }
 
@@ -33,7 +40,7 @@ pub(crate) fn verb_of(word: &str, count: usize) -> Option<Verb>
     ensures { result ≡ verb_of word.now count }
 {
     if word == "lose" {
-        return Some(Verb::Lose);
+        return Some(verb_of_lose(count));
     }
     if word == "again" {
         return Some(Verb::Again);
@@ -42,7 +49,7 @@ pub(crate) fn verb_of(word: &str, count: usize) -> Option<Verb>
         return Some(verb_of_cut(count));
     }
     if word == "heal" {
-        return Some(Verb::Heal);
+        return Some(verb_of_heal(count));
     }
     if word == "deliver" && count == 2 {
         return Some(Verb::Deliver);
@@ -50,6 +57,26 @@ pub(crate) fn verb_of(word: &str, count: usize) -> Option<Verb>
     match EventKind::of_word(word) {
         Some(kind) => Some(Verb::Event(kind)),
         None => None,
+    }
+}
+
+fn verb_of_lose(count: usize) -> Verb
+    ensures { result ≡ verb_of_lose count }
+{
+    if count == 1 {
+        Verb::LoseParcel
+    } else {
+        Verb::Lose
+    }
+}
+
+fn verb_of_heal(count: usize) -> Verb
+    ensures { result ≡ verb_of_heal count }
+{
+    match count {
+        0 => Verb::Heal,
+        2 => Verb::HealLink,
+        _ => Verb::HealNode,
     }
 }
 
@@ -95,7 +122,8 @@ impl Verb {
     {
         match self {
             Verb::Event(kind) => kind.arguments(),
-            Verb::CutNode => &[ArgumentKind::Node],
+            Verb::CutNode | Verb::HealNode => &[ArgumentKind::Node],
+            Verb::LoseParcel => &[ArgumentKind::Parcel],
             Verb::DeliverAll | Verb::LoseAll | Verb::Heal => &[],
             _ => &[ArgumentKind::Node, ArgumentKind::Node],
         }

@@ -5,7 +5,7 @@ use Rattle.mx_plan.specs.Fields.{Fields}
 use Rattle.mx_format.specs.EventTexts.{name_of}
 use Rattle.mx_format.specs.Lines.{texts_from}
 use Rattle.mx_lines.specs.declared.orders.LinkChange.{LinkChange}
-use Rattle.mx_lines.specs.declared.orders.LinkChange.TheVariants.{Cut, CutAll, Heal}
+use Rattle.mx_lines.specs.declared.orders.LinkChange.TheVariants.{Cut, CutAll, HealLink, HealNode, Heal}
 use Rattle.mx_scripts.specs.Links.{LinkState, is_cut}
 
 -- the node is the one that was named; any node, if none was
@@ -21,6 +21,9 @@ cut_line p one other =
 abbrev pub change_line : Fields → LinkChange → Text
 change_line p (Cut one other) = cut_line p one other
 change_line p (CutAll node) = codes "cut " ++ name_of p node ++ line_feed
+change_line p (HealLink one other) =
+    codes "heal " ++ name_of p one ++ codes " " ++ name_of p other ++ line_feed
+change_line p (HealNode node) = codes "heal " ++ name_of p node ++ line_feed
 change_line p Heal = codes "heal" ++ line_feed
 
 -- the link is cut, and the node that was named, if one was, is at one of its ends

@@ -156,7 +156,7 @@ module _ {H S M : Type 0} (core : Core H S M) (letter_text : Fields → M → Te
   Executes Events from old new text =
       IsShown (file_text p (events_of old.state.cluster.trace)) old new text
   Executes Script from old new text =
-      IsShown (session_script p old.state.cluster.sent old.done) old new text
+      IsShown (session_script p old.done) old new text
   Executes Mark from old new text =
       (word : Text) × (IsUtf8 from → IsSecondWord from word)
       × IsShown (mark_line word) old new text

@@ -45,6 +45,15 @@ pub(crate) fn add_change(
             let node = name_of(plan, *node);
             writeln!(text, "cut {node}")
         }
+        LinkChange::HealLink(one, other) => {
+            let one = name_of(plan, *one);
+            let other = name_of(plan, *other);
+            writeln!(text, "heal {one} {other}")
+        }
+        LinkChange::HealNode(node) => {
+            let node = name_of(plan, *node);
+            writeln!(text, "heal {node}")
+        }
         LinkChange::Heal => text.push_str("heal\n"),
     }
 }

@@ -27,12 +27,15 @@ const WORDS: &str = "ask N         node N asks to enter\n\
     deliver all   all parcels under way arrive, and those sent meanwhile\n\
     deliver all N M  the same for those from N to M\n\
     lose N M      the oldest parcel under way from N to M is lost\n\
+    lose K        parcel K is lost, if it is under way\n\
     lose all      all parcels under way are lost\n\
     lose all N M  all parcels under way from N to M are lost\n\
     again N M     the parcel from N to M that arrived last arrives once more\n\
     cut N M       the link between N and M is cut: no parcel arrives over it\n\
     cut N         all links of node N are cut\n\
     partition N .. | M ..  each link between a node left of | and one right of it is cut\n\
+    heal N M      the link between N and M works again\n\
+    heal N        all links of node N work again\n\
     heal          all links work again\n\
     times T ..    does what follows T times\n\
     expect ..     compares the outcome of the last event with what follows\n\

@@ -1,6 +1,6 @@
 -- What the lines of a script do.
 use Rattle.std.proofs.Common.{◌≡◌, ◌≤◌, ◌<◌, ◌∙◌, ℕ, zero, suc, List, [], ◌∷◌, ◌++◌, Option, Some, None, Result, Ok, Err, OnOk, IfOk, IfSome, length, add-one, ◌+◌, ◌-◌, ◌^◌, min, refl, sym, ap, subst, arith, get_or, inl, inr, take, ◌⊎◌}
-use Rattle.std.specs.Prelude.{IfErr, IsErrAnd, IsTrue}
+use Rattle.std.specs.Prelude.{Bool, IfErr, IsErrAnd, IsTrue, false, if◌then◌else◌, true}
 use Rattle.std.specs.Borrow.{Bor}
 use Rattle.std.proofs.lemmas.List.{length-append, length-map, map-append}
 use Rattle.std.proofs.lemmas.Option.{slice_get_read}
@@ -42,6 +42,10 @@ use Rattle.mx_scripts.proofs.StopLemmas.{line_as}
 not_none : {A : Type 0} (x : A) → ◌≡◌ {A = Option A} (Some x) None → ⊥
 not_none x e = cc
 
+if_some : {A : Type 0} (b : Bool) (x e : A) → ◌≡◌ {A = Option A} (Some e) (if b then Some x else None) → (b ≡ true) × (e ≡ x)
+if_some true x e is = (refl, cc)
+if_some false x e is = absurd (not_none e is)
+
 -- ---- an event that is next is over the names of its order
 
 module _ {P : Type 0} (d : Fates) (sent : List (ℕ × ℕ × P)) (nodes registers : ℕ) where
@@ -56,6 +60,7 @@ module _ {P : Type 0} (d : Fates) (sent : List (ℕ × ℕ × P)) (nodes registe
   next_drawn (order.AllArrive scope) done e over is = subst Drawn (sym is.2) tt
   next_drawn (order.IsLost from to) zero e over is = subst Drawn (sym is.2) tt
   next_drawn (order.IsLost from to) (suc done) e over is = absurd (not_none e is)
+  next_drawn (order.ParcelIsLost k) done e over is = subst Drawn (sym (if_some (is_under_way d k) (IsLost k) e is.1).1) tt
   next_drawn (order.AllAreLost scope) done e over is = subst Drawn (sym is.2) tt
   next_drawn (order.ArrivesAgain from to) zero e over is = subst Drawn (sym is.2) tt
   next_drawn (order.ArrivesAgain from to) (suc done) e over is = absurd (not_none e is)
@@ -83,6 +88,7 @@ module _ {S M : Type 0} (s : RunState S M) where
   next_some (order.AllArrive scope) done e is admits = admitted e (Deliver is.0) admits is.2
   next_some (order.IsLost from to) zero e is admits = lost_allowed e is.0 (waiting_under_way s.fates s.cluster.sent (Link from to) is.0 is.1.0) is.2
   next_some (order.IsLost from to) (suc done) e is admits = absurd (not_none e is)
+  next_some (order.ParcelIsLost k) done e is admits = let lost = if_some (is_under_way s.fates k) (IsLost k) e is.1 in lost_allowed e k lost.0 lost.1
   next_some (order.AllAreLost scope) done e is admits = lost_allowed e is.0 (waiting_under_way s.fates s.cluster.sent scope is.0 is.1.0) is.2
   next_some (order.ArrivesAgain from to) zero e is admits = admitted e (Deliver is.0) admits is.2
   next_some (order.ArrivesAgain from to) (suc done) e is admits = absurd (not_none e is)

@@ -12,13 +12,13 @@ use Rattle.mx_events.specs.declared.kind.EventKind.{EventKind}
 use Rattle.mx_events.specs.declared.kind.EventKind.TheVariants as kind
 use Rattle.mx_plan.specs.Text.{Text}
 use Rattle.mx_explorer.specs.Drawn.{IsDrawn}
-use Rattle.mx_events.specs.Arguments.{event_of, node_in, register_in}
+use Rattle.mx_events.specs.Arguments.{event_of, node_in, number_in, register_in}
 use Rattle.mx_lines.specs.Lines.{done_times, expects, line_at, line_of, repeated, times_of}
 use Rattle.mx_lines.specs.Names.{Known}
 use Rattle.mx_lines.specs.Numbers.{number_of}
 use Rattle.mx_lines.specs.Refusals.{and_then}
 use Rattle.mx_lines.specs.Sides.{sides_of}
-use Rattle.mx_lines.specs.Orders.{argument_at, arguments_at, between, number_at, order_at, order_before, order_between, order_by, order_of, order_with}
+use Rattle.mx_lines.specs.Orders.{argument_at, arguments_at, between, number_at, order_at, order_before, order_between, order_by, order_of, order_with, with_one}
 use Rattle.mx_lines.specs.Verbs.{kinds_of, verb_of, verb_of_all}
 use Rattle.mx_events.specs.declared.argument.Argument.{Argument}
 use Rattle.mx_events.specs.declared.argument.Argument.TheVariants as argument
@@ -148,11 +148,14 @@ module _ (nodes registers : ℕ) where
   between_over verb.DeliverAll n m = tt
   between_over verb.DeliverLink n m = tt
   between_over verb.Lose n m = tt
+  between_over verb.LoseParcel n m = tt
   between_over verb.LoseAll n m = tt
   between_over verb.LoseLink n m = tt
   between_over verb.Again n m = tt
   between_over verb.CutLink n m = tt
   between_over verb.CutNode n m = tt
+  between_over verb.HealLink n m = tt
+  between_over verb.HealNode n m = tt
   between_over verb.Heal n m = tt
 
   linked : (verb : Verb) (arguments : List Argument) → IfSome (between verb arguments) (IsOver nodes registers)
@@ -161,10 +164,19 @@ module _ (nodes registers : ℕ) where
       (λ n h. mapped (λ m. ⊤) (IsOver nodes registers) (node_in b) (order_between verb n) (any (node_in b)) (λ m k. between_over verb n m))
   linked verb _ = tt
 
-  cut_over : (arguments : List Argument) → IfSome (order_by verb.CutNode arguments) (IsOver nodes registers)
+  cut_over : (arguments : List Argument) → IfSome (with_one verb.CutNode arguments) (IsOver nodes registers)
   cut_over (a ∷ []) =
       mapped (λ n. ⊤) (IsOver nodes registers) (node_in a) (λ node. order.LinksChange (change.CutAll node)) (any (node_in a)) (λ n h. tt)
   cut_over _ = tt
+
+  heal_over : (arguments : List Argument) → IfSome (with_one verb.HealNode arguments) (IsOver nodes registers)
+  heal_over (a ∷ []) =
+      mapped (λ n. ⊤) (IsOver nodes registers) (node_in a) (λ node. order.LinksChange (change.HealNode node)) (any (node_in a)) (λ n h. tt)
+  heal_over _ = tt
+
+  lose_over : (arguments : List Argument) → IfSome (with_one verb.LoseParcel arguments) (IsOver nodes registers)
+  lose_over (a ∷ []) = mapped (λ n. ⊤) (IsOver nodes registers) (number_in a) order.ParcelIsLost (any (number_in a)) (λ n h. tt)
+  lose_over _ = tt
 
   order_over : (verb : Verb) (arguments : List Argument) → AreWithin nodes registers arguments → IfSome (order_by verb arguments) (IsOver nodes registers)
   order_over (verb.Event kind) arguments h =
@@ -173,11 +185,14 @@ module _ (nodes registers : ℕ) where
   order_over verb.DeliverAll arguments h = tt
   order_over verb.DeliverLink arguments h = linked verb.DeliverLink arguments
   order_over verb.Lose arguments h = linked verb.Lose arguments
+  order_over verb.LoseParcel arguments h = lose_over arguments
   order_over verb.LoseAll arguments h = tt
   order_over verb.LoseLink arguments h = linked verb.LoseLink arguments
   order_over verb.Again arguments h = linked verb.Again arguments
   order_over verb.CutLink arguments h = linked verb.CutLink arguments
   order_over verb.CutNode arguments h = cut_over arguments
+  order_over verb.HealLink arguments h = linked verb.HealLink arguments
+  order_over verb.HealNode arguments h = heal_over arguments
   order_over verb.Heal arguments h = tt
 
 -- ---- lines

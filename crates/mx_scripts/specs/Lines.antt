@@ -1,5 +1,5 @@
 -- What a line of a script does.
-use Rattle.std.specs.Prelude.{ℕ, zero, suc, ◌≡◌, ◌≤◌, ◌⊎◌, Bool, false, List, [], ◌∷◌, ◌++◌, Option, Some, None, Ok, Err, slice_get, slice_index_or, min, take, ◌+◌, ◌-◌, ◌^◌, ◌/◌, ◌%◌}
+use Rattle.std.specs.Prelude.{ℕ, zero, suc, ◌≡◌, ◌≤◌, ◌<◌, ◌⊎◌, Bool, false, List, [], ◌∷◌, ◌++◌, Option, Some, None, Ok, Err, if◌then◌else◌, length, slice_get, slice_index_or, min, take, ◌+◌, ◌-◌, ◌^◌, ◌/◌, ◌%◌}
 use Rattle.std.specs.Borrow.{Bor}
 use Rattle.mx_stamps.specs.declared.limits.TheConstants.{MAX_EVENTS}
 use Rattle.mx_nodelaws.specs.Core.{Core}
@@ -10,7 +10,7 @@ use Rattle.mx_lines.specs.Lines.{line_of}
 use Rattle.mx_lines.specs.Names.{known_of, texts_of}
 use Rattle.mx_lines.specs.Words.{AreWords, before_comment}
 use Rattle.mx_lines.specs.declared.errors.LineFault.{LineFault}
-use Rattle.mx_lines.specs.declared.errors.LineFault.TheVariants.{NotUnderWay, NotDelivered, TooMany}
+use Rattle.mx_lines.specs.declared.errors.LineFault.TheVariants.{NoParcel, NotUnderWay, NotDelivered, TooMany}
 use Rattle.mx_lines.specs.declared.errors.LineError.{LineError}
 use Rattle.mx_lines.specs.declared.line.Line.{Line}
 use Rattle.mx_lines.specs.declared.line.ScriptLine.{ScriptLine}
@@ -20,7 +20,7 @@ use Rattle.mx_lines.specs.declared.orders.Order.{Order}
 use Rattle.mx_lines.specs.declared.orders.Order.TheVariants as order
 use Rattle.mx_lines.specs.declared.orders.Scope.TheVariants.{Link}
 use Rattle.mx_scripts.specs.Expectations.{IsMet, IsNotMet}
-use Rattle.mx_scripts.specs.Fates.{Fates, IsFirst, NoneWaits, can_arrive, is_waiting}
+use Rattle.mx_scripts.specs.Fates.{Fates, IsFirst, NoneWaits, can_arrive, is_under_way, is_waiting}
 use Rattle.mx_scripts.specs.Links.{is_across, link_of}
 use Rattle.mx_scripts.specs.Scripts.{IsLineOf}
 use Rattle.mx_scripts.specs.States.{Bars, Brings, IsAllowed, IsNotApplied, RunState}
@@ -40,6 +40,10 @@ cut link = LinksChange (Cut (link / 21) (link % 21))
 abbrev pub Finds : (ℕ → Bool) → (ℕ → SessionEvent) → Option SessionEvent → Type 0
 Finds is_so event None = (k : ℕ) → is_so k ≡ false
 Finds is_so event (Some e) = (k : ℕ) × IsFirst is_so k × (e ≡ event k)
+
+-- the event that loses a parcel, if it is under way
+abbrev pub loss_of : Fates → ℕ → Option SessionEvent
+loss_of d k = if is_under_way d k then Some (IsLost k) else None
 
 -- the next event of an order that has just one: it satisfies `IsIt`, and once it is done there is
 -- none
@@ -63,6 +67,7 @@ module _ {P : Type 0} (d : Fates) (sent : List (ℕ × ℕ × P)) where
   IsNext (order.AllArrive scope) done next = Finds (can_arrive d sent scope) arrival next
   IsNext (order.IsLost from to) done next =
       Once done (λ e. Finds (is_waiting d sent (Link from to)) IsLost (Some e)) next
+  IsNext (order.ParcelIsLost k) done next = (k < length sent) × (next ≡ loss_of d k)
   IsNext (order.AllAreLost scope) done next = Finds (is_waiting d sent scope) IsLost next
   IsNext (order.ArrivesAgain from to) done next = Once done (λ e. IsAgain d from to e) next
   IsNext (order.LinksChange change) done next = Once done (λ e. e ≡ LinksChange change) next
@@ -74,6 +79,7 @@ module _ {P : Type 0} (d : Fates) (sent : List (ℕ × ℕ × P)) where
       (done ≡ 0) × (fault ≡ NotUnderWay) × NoneWaits d sent (Link from to)
   Misses (order.IsLost from to) done fault =
       (done ≡ 0) × (fault ≡ NotUnderWay) × NoneWaits d sent (Link from to)
+  Misses (order.ParcelIsLost k) done fault = (fault ≡ NoParcel) × (length sent ≤ k)
   Misses (order.ArrivesAgain from to) done fault =
       (done ≡ 0) × (fault ≡ NotDelivered)
       × (slice_index_or d.last (link_of from to) None ≡ None)

@@ -8,7 +8,7 @@ use Rattle.mx_lines.specs.Texts.{fault_text}
 use Rattle.mx_lines.specs.declared.errors.LineFault.{LineFault}
 use Rattle.mx_lines.specs.declared.errors.LineFault.TheVariants.{NoNode, NoParcel}
 use Rattle.mx_lines.specs.declared.orders.Order.{Order}
-use Rattle.mx_lines.specs.declared.orders.Order.TheVariants.{Happens, Arrives, AllArrive, IsLost, AllAreLost, ArrivesAgain, LinksChange, Parts}
+use Rattle.mx_lines.specs.declared.orders.Order.TheVariants.{Happens, Arrives, AllArrive, IsLost, ParcelIsLost, AllAreLost, ArrivesAgain, LinksChange, Parts}
 use Rattle.mx_cli.specs.declared.stop.Stop.{Stop}
 use Rattle.mx_cli.specs.declared.stop.Stop.TheVariants as stop
 use Rattle.mx_scripts.specs.declared.line_failure.RefusedLine.{RefusedLine}
@@ -21,6 +21,7 @@ IsOver nodes registers (Happens event) = IsDrawn nodes registers event
 IsOver nodes registers (Arrives from to) = ⊤
 IsOver nodes registers (AllArrive scope) = ⊤
 IsOver nodes registers (IsLost from to) = ⊤
+IsOver nodes registers (ParcelIsLost k) = ⊤
 IsOver nodes registers (AllAreLost scope) = ⊤
 IsOver nodes registers (ArrivesAgain from to) = ⊤
 IsOver nodes registers (LinksChange change) = ⊤

@@ -2,7 +2,7 @@
 
 ghost use Rattle.std.specs.Prelude.{◌≡◌, ◌<◌, ◌/◌, ◌%◌, ℕ, false, IfNone, IfSome};
 ghost use Rattle.mx_scripts.specs.Fates.{IsFirst};
-ghost use Rattle.mx_scripts.specs.Links.{changed, is_across, is_cut, link_of, uncut};
+ghost use Rattle.mx_scripts.specs.Links.{changed, is_across, is_cut, link_of, uncut, with_link, with_node};
 
 use mx_lines::{LinkChange, Sides};
 use mx_stamps::{MAX_NODES, NodeId};
@@ -15,10 +15,8 @@ const NODES: usize = 21;
 
 #[derive(Drop)]
 pub(crate) struct Links {
-    /// For each link, whether it was cut on its own. Both directions always agree.
+    /// For each link, whether it is cut. Both directions always agree.
     cut: [bool; LINKS],
-    /// For each node, whether all its links were cut at once.
-    apart: [bool; NODES],
 }
 
 impl Model for Links {
@@ -26,7 +24,7 @@ impl Model for Links {
 
     ghost Value = { LinkState };
 
-    ghost view = { λ l. record { cut = l.cut; apart = l.apart } };
+    ghost view = { λ l. record { cut = l.cut } };
 }
 
 pub(crate) fn link(from: NodeId, to: NodeId) -> usize
@@ -58,7 +56,6 @@ impl Links {
     {
         Links {
             cut: [false; LINKS],
-            apart: [false; NODES],
         }
     }
 
@@ -66,12 +63,26 @@ impl Links {
         ensures { self.new ≡ changed change.now self.old }
     {
         match change {
-            LinkChange::Cut(one, other) => {
-                self.cut[link(*one, *other)] = true;
-                self.cut[link(*other, *one)] = true;
-            }
-            LinkChange::CutAll(node) => self.apart[usize::from(node.get())] = true,
+            LinkChange::Cut(one, other) => self.set_link(*one, *other, true),
+            LinkChange::CutAll(node) => self.set_node(*node, true),
+            LinkChange::HealLink(one, other) => self.set_link(*one, *other, false),
+            LinkChange::HealNode(node) => self.set_node(*node, false),
             LinkChange::Heal => *self = Links::uncut(),
+        }
+    }
+
+    fn set_link(&mut self, one: NodeId, other: NodeId, is_cut: bool)
+        ensures { self.new ≡ with_link one other is_cut self.old }
+    {
+        self.cut[link(one, other)] = is_cut;
+        self.cut[link(other, one)] = is_cut;
+    }
+
+    fn set_node(&mut self, one: NodeId, is_cut: bool)
+        ensures { self.new ≡ with_node one is_cut self.old }
+    {
+        for other in 0..NODES {
+            self.set_link(one, node(other), is_cut);
         }
     }
 
@@ -79,8 +90,6 @@ impl Links {
         ensures { result ≡ is_cut self.now from to }
     {
         self.cut[link(from, to)]
-            || self.apart[usize::from(from.get())]
-            || self.apart[usize::from(to.get())]
     }
 
     /// Whether a link leads from the left side to the right side of a partition, and is not cut.

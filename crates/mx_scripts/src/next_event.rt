@@ -1,8 +1,8 @@
 //! The next event that an order asks for.
 
-ghost use Rattle.std.specs.Prelude.{◌≡◌, ◌<◌, None, Some, IfErr, IfOk, IfSome, OnOk, slice_index_or};
+ghost use Rattle.std.specs.Prelude.{◌≡◌, ◌<◌, ◌≤◌, None, Some, IfErr, IfOk, IfSome, OnOk, length, slice_index_or};
 ghost use Rattle.mx_scripts.specs.Fates.{IsFirst, NoneWaits, can_arrive, is_waiting};
-ghost use Rattle.mx_scripts.specs.Lines.{Finds, IsAgain, IsNext, IsNoNext, Misses, Once, arrival, cut};
+ghost use Rattle.mx_scripts.specs.Lines.{Finds, IsAgain, IsNext, IsNoNext, Misses, Once, arrival, cut, loss_of};
 ghost use Rattle.mx_scripts.specs.Links.{is_across, link_of};
 ghost use Rattle.mx_scripts.specs.States.{Admits, Bars, IsAllowed};
 
@@ -41,7 +41,7 @@ impl<C: Exclusion> State<C> {
     ///
     /// # Errors
     ///
-    /// `NotUnderWay` or `NotDelivered` if there is no such parcel, `LinkCut` for a delivery over a
+    /// `NoParcel`, `NotUnderWay` or `NotDelivered` if there is no such parcel, `LinkCut` for a delivery over a
     /// cut link, and `TooMany` for an event of the cluster beyond 1,000,000.
     pub(crate) fn next_event(
         &self,
@@ -75,6 +75,7 @@ impl<C: Exclusion> State<C> {
             Order::Arrives(from, to) => self.arrival_between(*from, *to, done),
             Order::ArrivesAgain(from, to) => self.arrival_again(*from, *to, done),
             Order::IsLost(from, to) => self.loss_between(*from, *to, done),
+            Order::ParcelIsLost(number) => self.loss_of(*number),
         }
     }
 
@@ -146,6 +147,22 @@ impl<C: Exclusion> State<C> {
         }
         let number = self.oldest_between(from, to)?;
         Ok(Some(SessionEvent::IsLost(number)))
+    }
+
+    fn loss_of(&self, number: u64) -> Result<Option<SessionEvent>, LineFault>
+        ensures next { IfOk result (λ next. (number < length self.now.cluster.sent)
+            × (next ≡ loss_of self.now.fates number)) }
+        ensures err { IfErr result (λ fault. (fault ≡ LineFault.NoParcel)
+            × (length self.now.cluster.sent ≤ number)) }
+    {
+        if number >= self.cluster.sent() {
+            return Err(LineFault::NoParcel);
+        }
+        if self.is_under_way(number) {
+            Ok(Some(SessionEvent::IsLost(number)))
+        } else {
+            Ok(None)
+        }
     }
 
     fn arrival_again(
