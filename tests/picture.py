@@ -29,6 +29,7 @@ markerWidth markerHeight markerUnits orient href""".split()
 ALGORITHMS = {"ricart": "Ricart and Agrawala's", "maekawa": "Maekawa's", "raymond": "Raymond's"}
 INKS = {"request": "request", "reply": "grant", "locked": "grant", "privilege": "grant"}
 GOSSIP = ["want", "base", "records"]
+COUNTS = {"number": "", "hop": "", "top": "top ", "grant": "grant ", "last": "last ", "upto": ""}  # of a message
 ARGUMENTS = ["node", "from", "register", "upto", "parcel"]  # of an event in a trace; a value of `write` comes last
 
 
@@ -62,18 +63,34 @@ class Run:
 
 
 class Trace(Run):
-    """A trace, without parcels, and what `mx judge` prints of it."""
+    """A trace, whose messages are its parcels, and what `mx judge` prints of it."""
 
     def __init__(self, names, text, judged):
         super().__init__(names, [])
         self.judged = judged
         is_array = text.lstrip().startswith("[")
         items = json.loads(text) if is_array else [json.loads(line) for line in text.splitlines() if line.strip()]
-        self.events = [self.event_of(item) for item in items if "act" in item]
+        for item in items:
+            if "act" in item:
+                self.events.append(self.event_of(item))
+            elif "kind" in item:
+                assert item["parcel"] == len(self.parcels)
+                self.parcels.append((len(self.events) - 1, names.index(item["from"]), names.index(item["to"]), self.text_of(item)))
+        self.arriving = {int(args[0]) for word, args, _, _ in self.events if word == "deliver"} & set(range(len(self.parcels)))
         self.verdict = judged.splitlines()[1]
         self.broken, self.why = None, None
         if broken := re.search(r"^verdict broken at (\d+): (.*)\n(.*)", judged, re.MULTILINE):
             self.broken, self.why = int(broken[1]), f"{broken[2]}, {broken[3]}"
+
+    def is_known(self, index):
+        """Whether an event delivers a message that was sent before it."""
+        word, args, _, _ = self.events[index]
+        return word == "deliver" and int(args[0]) < len(self.parcels) and self.parcels[int(args[0])][0] < index
+
+    @staticmethod
+    def text_of(item):
+        about = [f"{item['stamp']}.{item['of']}"] if "stamp" in item else []
+        return " ".join([item["kind"], *about, *(f"{name}{item[key]}" for key, name in COUNTS.items() if key in item)])
 
     @staticmethod
     def event_of(item):
@@ -110,8 +127,8 @@ class Part:
         word, args, outcome, _ = run.events[index]
         if not self.has_index(index):
             return False
-        if isinstance(run, Trace):
-            return self.node is None or word != "deliver" and self.has_node(run.node_of(run.events[index]))
+        if isinstance(run, Trace) and word == "deliver" and not run.is_known(index):
+            return self.node is None or any(self.concerns(parcel) for parcel in run.parcels if parcel[0] == index)
         if self.letters and word != "deliver" and outcome.split()[0] not in ("asked", "entered", "left", "cancelled"):
             return False
         if self.letters and word == "deliver" and (int(args[0]) in delivered or not run.is_original(int(args[0]))):
@@ -223,10 +240,14 @@ class Drawing:
         if outcome.startswith(("entered", "left")):
             self.story.append(f" {index} {told}.")
         self.change(node, outcome)
+        self.mark(index, node)
         sent = [number for number, parcel in enumerate(self.run.parcels) if parcel[0] == index and self.part.concerns(parcel)]
         self.shown |= dict.fromkeys(sent, row)
         if undelivered := [number for number in sent if number not in self.run.arriving]:
             self.keep(undelivered, row)
+
+    def mark(self, index, node):
+        """A run has no event that breaks a rule."""
 
     def deliver(self, number):
         """What is drawn of a delivery in the present row; returns its text."""
@@ -294,27 +315,27 @@ class Drawing:
 
 
 class TraceDrawing(Drawing):
-    """The same of a trace: each event alone, and a mark at the one that breaks a rule."""
+    """The same of a trace: a delivery of no known message is left of all lines, and the event that breaks a rule marked."""
 
     def leave_out(self, index):
-        event = self.run.events[index]
-        if event[0] != "deliver" and (self.part.last is None or index <= self.part.last):
-            self.change(self.run.node_of(event), event[2], is_cut=True)
+        if self.run.events[index][0] != "deliver" or self.run.is_known(index):
+            super().leave_out(index)
 
     def draw(self, index):
-        event = self.run.events[index]
-        if event[0] != "deliver":
+        event, row = self.run.events[index], self.row
+        if event[0] != "deliver" or self.run.is_known(index):
             super().draw(index)
-            if index == self.run.broken:
-                self.mark(self.run.node_of(event))
             return
-        self.add("index", self.row, str(index))
+        self.add("index", row, str(index))
         if index % 10 == 0:
-            self.add("guide", self.row)
-        self.add("aside", self.row, event[3])
+            self.add("guide", row)
+        self.add("aside", row, event[3])
+        assert all(by != index for by, *_ in self.run.parcels)
 
-    def mark(self, node):
+    def mark(self, index, node):
         """The mark of the event in the present row, and why it is marked, in the next one."""
+        if index != self.run.broken:
+            return
         self.add("broken", node, self.row)
         self.add("title", self.run.why)
         self.row += 1

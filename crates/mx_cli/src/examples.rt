@@ -101,8 +101,8 @@ same node to the same overtook. A blue bar stands where a node waits, and a yell
 inside, with the number of the section. `mx replay --help` tells what events are, and its faults
 are those of `picture`.
 
-With --trace a trace comes in place of events, as `mx judge` reads it; it has no parcels, so there
-are no arrows. If it is broken, an orange triangle points to the event that breaks a rule, and the
+With --trace a trace comes in place of events, as `mx judge` reads it, and its messages are the
+arrows. If it is broken, an orange triangle points to the event that breaks a rule, and the
 row below says which rule and why. The faults of a trace and the status are those of `mx judge`:
 0 if the trace is sound, and 4 if it is broken. --letters and --script do not go with --trace.
 docs/FORMATS.md has all formats.";
@@ -144,8 +144,9 @@ prints
   line 2: enter b, while a is inside section 1
 
 A trace has an object of JSON on each line, as `mx replay --json` prints them, or is an array of
-them. Any program may write it, whatever its algorithm; of the plan only the names are used. The
-verdict looks at five acts, and passes over all others:
+them. Any program may write it, whatever its algorithm; of the plan only the names are used. An
+algorithm without section numbers has to count its entries for the trace. The verdict looks at five
+acts, and passes over all others:
 
   {\"act\":\"enter\",\"node\":NODE,\"outcome\":\"entered\",\"number\":SECTION}
   {\"act\":\"read\",\"node\":NODE,\"register\":REGISTER,\"outcome\":\"value\",\"value\":VALUE}
@@ -153,8 +154,15 @@ verdict looks at five acts, and passes over all others:
   {\"act\":\"leave\",\"node\":NODE,\"outcome\":\"left\",\"number\":SECTION}
   {\"act\":\"restart\",\"node\":NODE,\"outcome\":\"woken\"}
 
-It is broken at the first event, counted from 0, at which two nodes are inside together or a node
-leaves what it did not enter (overlap), the n-th section entered does not have the number n
+After an event come the messages that it sends, and a later event delivers one by its number:
+
+  {\"parcel\":NUMBER,\"from\":NODE,\"to\":NODE,\"kind\":TEXT}
+  {\"act\":\"deliver\",\"parcel\":NUMBER,\"outcome\":\"delivered\"}
+
+They do not change the verdict; --json prints them, and `mx picture --trace` draws them.
+
+A trace is broken at the first event, counted from 0, at which two nodes are inside together or a
+node leaves what it did not enter (overlap), the n-th section entered does not have the number n
 (number), or a value was read that the writes before it, in order of entry, do not leave (read).
 The last line says where that event is and what was expected. With --json each event is an object
 of JSON, and so is the verdict. The status is 0 if the trace is sound, and 4 if it is broken.

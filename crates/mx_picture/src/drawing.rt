@@ -4,7 +4,7 @@ ghost use Rattle.std.specs.Prelude.{◌<◌, length};
 ghost use Rattle.mx_driver.specs.Runs.{silent};
 
 use crate::omissions::{is_shown, pass_over};
-use crate::parcels::{draw_delivery, draw_sent};
+use crate::parcels::{draw_arrival, draw_sent};
 use crate::part::Part;
 use crate::rows::Rows;
 use crate::side::Side;
@@ -104,7 +104,10 @@ where
     C::Msg: Letter,
 {
     match &entry.event {
-        Event::Deliver(number) => draw_delivery(plan, cluster, *number, drawing),
+        Event::Deliver(number) => match cluster.sent_parcel(*number) {
+            Some(sent) => draw_arrival(plan, *number, *number, &sent, &mut drawing.rows),
+            None => Ok(()),
+        },
         event => {
             let node = event.node().unwrap_or_default();
             let side = side_of_act(cluster, node, before);

@@ -46,7 +46,16 @@ pub(crate) static RUN_LEGEND: Legend = Legend {
 ",
 };
 
-/// The legend of a trace, which has no parcels.
+/// What the legend of a trace with messages has beside that of a run, at its right.
+pub(crate) static MARKS_LEGEND: Legend = Legend {
+    styles: ".broken{fill:#d55e00;stroke:#000;stroke-width:1.2px}.reason{fill:#a04000}\n",
+    width: 1030,
+    svg: "<circle class=\"refused\" cx=\"836\" cy=\"18\" r=\"2.5\"/><text x=\"846\" y=\"22\">refused</text>
+<path class=\"broken\" d=\"M918 18l-13-7v14z\"/><text x=\"926\" y=\"22\">breaks a rule</text>
+",
+};
+
+/// The legend of a trace without messages.
 pub(crate) static TRACE_LEGEND: Legend = Legend {
     styles: ".broken{fill:#d55e00;stroke:#000;stroke-width:1.2px}.reason{fill:#a04000}
 .air{font-style:italic}.left{text-anchor:end}

@@ -12,6 +12,7 @@ mod legend;
 mod letters;
 mod links;
 mod marked;
+mod messages;
 mod name_rows;
 mod omissions;
 mod open_arrows;

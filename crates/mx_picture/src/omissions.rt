@@ -2,9 +2,8 @@
 
 use crate::drawing::Drawing;
 use crate::letters::{is_drawn, is_letter};
-use crate::parcels::write_route;
+use crate::parcels::pass_arrival;
 use crate::part::Part;
-use crate::route::Route;
 use mx_format::Letter;
 use mx_member::SentParcel;
 use mx_network::{Cluster, Entry, Event};
@@ -71,10 +70,5 @@ where
     let Some(sent) = cluster.sent_parcel(*number) else {
         return Ok(());
     };
-    let rows = &mut drawing.rows;
-    if rows.sheet.is_cut(*number) {
-        write_route(plan, *number, &sent, &mut rows.label)?;
-    }
-    let title = rows.label.as_str();
-    rows.sheet.arrive(*number, Route::new(&sent), false, title)
+    pass_arrival(plan, *number, *number, &sent, &mut drawing.rows)
 }

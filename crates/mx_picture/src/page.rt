@@ -45,12 +45,15 @@ const INDENT: u64 = 16;
 pub(crate) struct Head<'a> {
     pub(crate) heading: &'a str,
     pub(crate) legend: &'a Legend,
+    /// What the legend has at its right, if it has more.
+    pub(crate) more: Option<&'a Legend>,
 }
 
 impl Head<'_> {
     /// Returns the width that the head wants, in pixels.
     fn width(&self) -> u64 {
-        self.legend.width.max(heading_width(self.heading))
+        let legend = self.more.unwrap_or(self.legend);
+        legend.width.max(heading_width(self.heading))
     }
 }
 
@@ -112,6 +115,7 @@ pub(crate) fn page_of(
     let head = Head {
         heading: heading.as_str(),
         legend: &RUN_LEGEND,
+        more: None,
     };
     let body = body_of(plan, part, sheet, head)?;
     whole_page(sheet.shapes.alloc, title.as_str(), &body)
@@ -225,14 +229,18 @@ fn add_head(page: &Page<'_>, head: Head<'_>, text: &mut String) -> Result<(), Al
     let width = page.frame.width;
     let height = page.frame.height;
     let aside = left.saturating_sub(INDENT);
+    let (styles, svg) = match head.more {
+        Some(more) => (more.styles, more.svg),
+        None => ("", ""),
+    };
     write!(
         text,
-        "<desc>Time runs downward; the text of each event is beside its node. Sections:{story}</desc>\n{STYLES}{}",
+        "<desc>Time runs downward; the text of each event is beside its node. Sections:{story}</desc>\n{STYLES}{styles}{}",
         head.legend.styles
     )?;
     write!(
         text,
-        "<g transform=\"translate(-{left} -{HEAD})\">\n<path class=\"paper\" d=\"M0 0h{width}v{height}h-{width}z\"/>\n<g transform=\"translate(0 22)\">\n{}</g>\n</g>\n",
+        "<g transform=\"translate(-{left} -{HEAD})\">\n<path class=\"paper\" d=\"M0 0h{width}v{height}h-{width}z\"/>\n<g transform=\"translate(0 22)\">\n{}{svg}</g>\n</g>\n",
         head.legend.svg
     )?;
     write!(

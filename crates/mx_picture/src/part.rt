@@ -1,6 +1,7 @@
 ghost use Rattle.std.specs.Prelude.{◌≡◌};
 ghost use Rattle.mx_picture.specs.Marks.{shows_index, shows_node};
 
+use crate::route::Route;
 use mx_stamps::NodeId;
 
 /// The events from the index `from` to `to`, which is included, of all nodes or of one. Only
@@ -27,6 +28,11 @@ impl Part {
             Some(shown) => shown == node,
             None => true,
         }
+    }
+
+    /// Returns whether a parcel of this route is from or to a shown node.
+    pub(crate) fn is_near(&self, route: &Route) -> bool {
+        self.has_node(route.from) || self.has_node(route.to)
     }
 
     pub(crate) fn is_whole(&self) -> bool {

@@ -225,6 +225,13 @@ impl Sheet {
         Ok(())
     }
 
+    /// Returns the number of the undelivered parcel of this index, and how many come after it.
+    pub(crate) fn undelivered_from(&self, index: usize) -> Option<(u64, usize)> {
+        let undelivered = self.shapes.undelivered.as_slice();
+        let more = undelivered.len().saturating_sub(index).saturating_sub(1);
+        Some((undelivered.get(index)?.number, more))
+    }
+
     /// Notes that the parcel of this number is delivered now, and draws what is seen of its arrow.
     /// `is_shown` says whether the picture shows the delivery.
     pub(crate) fn arrive(

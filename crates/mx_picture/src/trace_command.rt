@@ -92,6 +92,6 @@ fn picture_of(
 {
     let judgement = judgement_of(alloc, false, plan, word, trace, verdict)?;
     let marked = marked_by(alloc, plan, word, trace, verdict)?;
-    let rows = draw_trace(alloc, plan, part, trace.entries.as_slice(), &marked)?;
+    let rows = draw_trace(alloc, plan, part, trace, &marked)?;
     trace_page(plan, judgement.as_str(), verdict, part, &rows.sheet)
 }

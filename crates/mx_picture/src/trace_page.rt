@@ -3,7 +3,7 @@
 ghost use Rattle.std.specs.Prelude.{string_bytes, IfOk};
 ghost use Rattle.mx_picture.specs.Drawn.{IsTracePicture};
 
-use crate::legend::TRACE_LEGEND;
+use crate::legend::{Legend, MARKS_LEGEND, RUN_LEGEND, TRACE_LEGEND};
 use crate::opening::trace_title;
 use crate::page::{Head, add_part, body_of, whole_page};
 use crate::part::Part;
@@ -25,12 +25,23 @@ pub(crate) fn trace_page(
 {
     let title = trace_title(sheet.shapes.alloc, plan, judgement)?;
     let heading = heading_of(plan, verdict, part, sheet)?;
+    let has_messages = !sheet.flights.is_empty();
     let head = Head {
         heading: heading.as_str(),
-        legend: &TRACE_LEGEND,
+        legend: legend_of(has_messages),
+        more: has_messages.then_some(&MARKS_LEGEND),
     };
     let body = body_of(plan, part, sheet, head)?;
     whole_page(sheet.shapes.alloc, title.as_str(), &body)
+}
+
+/// A trace with messages has the legend of a run.
+fn legend_of(has_messages: bool) -> &'static Legend {
+    if has_messages {
+        &RUN_LEGEND
+    } else {
+        &TRACE_LEGEND
+    }
 }
 
 /// Returns the number of nodes, the number of sections entered, the verdict, and which part of the
