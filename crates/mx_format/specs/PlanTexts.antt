@@ -1,4 +1,4 @@
--- What a plan says of its cluster, and the line of an exploration.
+-- What a plan says of its cluster.
 use Rattle.std.specs.Prelude.{ℕ, ◌+◌, ◌&&◌, Bool, [], ◌++◌, codes, decimal, drop, length, nat_eq, if◌then◌else◌}
 use Rattle.std.specs.List.{position_or_len}
 use Rattle.mx_stamps.specs.Lists.{each_below}
@@ -98,11 +98,3 @@ shape_lines is_json p (Raymond tree) = toward_lines is_json p tree
 
 abbrev pub plan_text_by : Bool → Fields → Text
 plan_text_by is_json p = plan_head is_json p ++ shape_lines is_json p p.shape
-
--- ---- explorations
-
--- the line of an exploration: the numbers of steps, of sections entered and of parcels sent
-abbrev pub explored_line : ℕ → ℕ → ℕ → Text
-explored_line steps entered sent =
-    codes "explored " ++ decimal steps ++ codes ", entered " ++ decimal entered ++ codes ", sent "
-    ++ decimal sent ++ line_feed

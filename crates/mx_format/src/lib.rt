@@ -29,6 +29,5 @@ pub use nodes::add_member_line;
 pub use parcels::{add_parcel, add_parcel_json, add_parcel_line};
 pub use parts::{LetterParts, Numbers, Style, Subject};
 pub use peers::add_asks;
-pub use plan_lines::ExploredLine;
 pub use plans::add_plan;
 pub use stuck::{Waiter, add_stuck};

@@ -1,7 +1,7 @@
-//! The lines that `check` and `explore` print.
+//! The line of a plan, and its parts.
 
 ghost use Rattle.std.specs.Prelude.{◌≡◌, Some};
-ghost use Rattle.mx_format.specs.PlanTexts.{algorithm_text, bounds_text, explored_line, plan_line};
+ghost use Rattle.mx_format.specs.PlanTexts.{algorithm_text, bounds_text, plan_line};
 
 use mx_plan::{Plan, Shape};
 use std::fmt;
@@ -49,26 +49,5 @@ impl fmt::Display for PlanLine<'_> {
         let nodes = self.0.nodes();
         let bounds = BoundsText(self.0);
         writeln!(f, "plan {algorithm}, nodes {nodes}, {bounds}")
-    }
-}
-
-/// The line of an exploration: how many steps were asked for, how many sections were entered, and
-/// how many parcels were sent.
-#[derive(Clone, Copy)]
-pub struct ExploredLine {
-    pub steps: u64,
-    pub entered: u64,
-    pub sent: u64,
-}
-
-impl fmt::Display for ExploredLine {
-    ghost output = { λ l. Some (explored_line l.steps l.entered l.sent) };
-
-    fn fmt<W: fmt::Write>(&self, f: &mut fmt::Formatter<W>) -> fmt::Result {
-        writeln!(
-            f,
-            "explored {}, entered {}, sent {}",
-            self.steps, self.entered, self.sent
-        )
     }
 }
