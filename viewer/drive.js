@@ -7,9 +7,9 @@ const LINES = { // what a button adds to the script, of a node or of a parcel
   read: name => `read ${name} ${byId("register").value}`, settle: name => `settle ${name} ${byId("upto").value.trim()}`,
   write: name => `write ${name} ${byId("register").value} ${byId("value").value.trim()}`,
   want: name => `want ${name} ${byId("other").value}`, cut: name => `cut ${name} ${byId("other").value}`,
-  deliver: (_, parcel) => `deliver ${parcel?.parcel}`, again: (_, parcel) => `deliver ${parcel?.parcel}`,
-  lose: (_, parcel) => `lose ${parcel?.from} ${parcel?.to}`, all: () => "deliver all", heal: () => "heal",
-  crash: name => `cut ${name}`, expect: () => `expect ${lastEvent() ? partOf(lastEvent(), 1) : ""}`,
+  mend: name => `heal ${name} ${byId("other").value}`, crash: name => `cut ${name}`, recover: name => `heal ${name}`,
+  deliver: (_, it) => `deliver ${it?.parcel}`, again: (_, it) => `deliver ${it?.parcel}`, lose: (_, it) => `lose ${it?.parcel}`,
+  all: () => "deliver all", heal: () => "heal", expect: () => `expect ${lastEvent() ? partOf(lastEvent(), 1) : ""}`,
   partition: () => `partition ${sides(true).join(" ")} | ${sides(false).join(" ")}`,
 };
 const tabs = new BroadcastChannel("drive"); // the other tabs of this browser
@@ -36,18 +36,16 @@ function whyNot(act) {
   return phase && wanted && phase !== wanted ? `${name} is ${phase}; ${act} is for a node that is ${wanted}.` : "";
 }
 
+const isCut = (...names) => cutAfter(run, last).some(pair => names.every(it => pair.includes(it)));
 const isFlying = parcel => underWay(run, last).includes(parcel) && !isLost(parcel, last);
 const WHY = {
   __proto__: null,
   deliver: it => it.deliveries.length ? "It is delivered: see \u201Cdeliver again\u201D." : "",
   again: it => it.deliveries.length ? "" : "It is not delivered yet.",
-  lose: it => {
-    const first = underWay(run, last).findLast(other => other.from === it.from && other.to === it.to && isFlying(other));
-    const other = `A script can lose only the oldest from ${it.from} to ${it.to}, which is #${first?.parcel}.`;
-    return !isFlying(it) ? "It is not under way." : first === it ? "" : other;
-  },
+  lose: it => isFlying(it) ? "" : "It is not under way.",
   all: () => underWay(run, last).some(isFlying) ? "" : "Nothing is under way.",
   heal: () => cutAfter(run, last).length ? "" : "No link is cut.",
+  mend: () => isCut(chosenNode(), byId("other").value) ? "" : "It is whole.", recover: () => isCut(chosenNode()) ? "" : "All are whole.",
   expect: () => lastEvent() ? "" : "Nothing has happened yet.",
   partition: () => sides(true).length && sides(false).length ? "" : "Tick some of the nodes, and not all.",
 };
@@ -97,7 +95,7 @@ function scriptHere() {
 function drawButton(button) {
   const { act } = button.dataset, why = whyNot(act), line = lineOf(act);
   button.setAttribute("aria-disabled", Boolean(why));
-  button.setAttribute("aria-label", ["again", "all", "heal", "partition", "crash"].includes(act) ? button.textContent : line);
+  button.setAttribute("aria-label", ["again", "all", "heal", "partition", "crash", "recover"].includes(act) ? button.textContent : line);
   button.title = why || line;
 }
 

@@ -13,8 +13,7 @@ HERE = os.path.dirname(lines.VIEWER)
 PLAN, LARGEST, MOST = 1 << 16, 1 << 20, 1 << 24  # bytes of a plan, of a script, and of what the program prints
 NOTES = [  # what `play` prints of what is no event, and the line of a run that says so
     (r"lost #(\d+) ", lambda found: {"lost": int(found[1])}),
-    (r"cut (\S+)(?: (\S+))?$", lambda found: {"cut": [name for name in found.groups() if name]}),
-    (r"heal$", lambda found: {"heal": True}),
+    (r"(cut|heal)(?: (\S+))?(?: (\S+))?$", lambda found: {found[1]: [name for name in found.groups()[1:] if name]}),
 ]
 
 

@@ -1,7 +1,7 @@
 """Reads what `mx replay --json` or `mx judge --json` prints, and makes the page of it: for ./page, ./drive and ./shiviz.
 
-Beyond what these print, a run may have `{"lost":K}`, `{"cut":[N]}`, `{"cut":[N,M]}` and `{"heal":true}` after an event: what
-a script did before the next one. Those of one line of a script have its number as `line`. ./drive adds them."""
+Beyond what these print, a run may have `{"lost":K}`, `{"cut":[N]}`, `{"cut":[N,M]}` after an event, or the same with `heal`, or
+`{"heal":[]}` of all links: what a script did before the next one. Those of one line have its number as `line`. ./drive adds them."""
 import json
 import os
 import re
@@ -15,8 +15,8 @@ KINDS = {  # the member that tells the kind of a line, and what else such a line
 }
 TEXTS = """act node register from to outcome cause kind of phase fact verdict clause reason event parcel index number
     value writes count upto stamp top grant last hop mine records gapless lost line""".split()
-TYPES = {**dict.fromkeys(TEXTS, str), **dict.fromkeys(["ranges", "numbers", "knows", "values", "cut"], list),
-         "registers": dict, "heal": bool}
+TYPES = {**dict.fromkeys(TEXTS, str), **dict.fromkeys(["ranges", "numbers", "knows", "values", "cut", "heal"], list),
+         "registers": dict}
 
 
 def members(line, needed=()):
@@ -43,7 +43,8 @@ def has_form(key, value):
     """Whether the items of a list of numbers, of one or two names, or of pairs of numbers, are such."""
     if key == "ranges":
         return all(type(item) is list and len(item) == 2 and has_form("numbers", item) for item in value)
-    return key not in ("numbers", "cut") or all(type(item) is str for item in value) and (key != "cut" or 0 < len(value) < 3)
+    isnt = key not in ("numbers", "cut", "heal")
+    return isnt or all(type(item) is str for item in value) and (key == "numbers" or (key == "cut") <= len(value) < 3)
 
 
 def refused(number):

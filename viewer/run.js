@@ -93,9 +93,10 @@ const lostBefore = ({ parcels }, at) => parcels.filter(it => it.lostAt < at && i
 
 /** The pairs of nodes whose link is cut after a step. */
 function cutAfter({ links, names }, at) {
-  const pairs = ({ cut: [name, ...other] }) => (other.length ? other : names).map(it => [name, it].sort().join());
-  const done = links.filter(it => it.at <= at), healed = done.findLastIndex(({ heal }) => heal);
-  return unique(done.slice(healed + 1).flatMap(pairs)).map(pair => pair.split(","));
+  const pairs = ([name, ...other]) => (other.length ? other : names).map(it => [name, it].sort().join()), found = new Set();
+  for (const { cut, heal } of links.filter(it => it.at <= at))
+    for (const pair of heal?.length === 0 ? [...found] : pairs(cut ?? heal)) found[cut ? "add" : "delete"](pair);
+  return [...found].map(pair => pair.split(","));
 }
 
 /** The nodes that a broken verdict concerns: that of its event, and those that were inside before it. */
@@ -132,9 +133,9 @@ function eventText({ event, ...rest }) {
 function stepText({ event, place, changes }, parcels) {
   if (event) return `${place} ${eventText(event)}`;
   const lost = changes.flatMap(({ lost }) => lost ? [fullText(parcels[+lost])] : []);
-  const cuts = changes.flatMap(({ cut }) => cut ? [cut.join(" ")] : []), isHealed = changes.some(({ heal }) => heal);
-  const links = cuts.length > 4 ? `${cuts.length} links` : cuts.join(", ");
-  return [lost.length && `lost ${lost.join(", ")}`, links && `cut ${links}`, isHealed && "healed all links"].filter(Boolean).join(", ");
+  const cuts = changes.flatMap(({ cut }) => cut ? [cut.join(" ")] : []), links = cuts.length > 4 ? `${cuts.length} links` : cuts.join(", ");
+  const healed = changes.flatMap(({ heal }) => heal ? [heal.join(" ") || "all links"] : []).join(", ");
+  return [lost.length && `lost ${lost.join(", ")}`, links && `cut ${links}`, healed && `healed ${healed}`].filter(Boolean).join(", ");
 }
 
 function parcelText({ line: { parcel, from, to, kind, stamp, of, ...rest } }) {

@@ -1,5 +1,5 @@
 -- What the lines of a script do.
-use Rattle.std.proofs.Common.{◌≡◌, ◌≤◌, ◌<◌, ◌∙◌, ℕ, zero, suc, List, [], ◌∷◌, ◌++◌, Option, Some, None, Result, Ok, Err, OnOk, IfOk, IfSome, length, add-one, ◌+◌, ◌-◌, ◌^◌, min, refl, sym, ap, subst, arith, get_or, inl, inr, take, ◌⊎◌}
+use Rattle.std.proofs.Common.{◌≡◌, ◌≤◌, ◌<◌, ℕ, zero, suc, List, [], ◌∷◌, ◌++◌, Option, Some, None, Result, Ok, Err, OnOk, IfSome, length, add-one, ◌+◌, ◌-◌, ◌^◌, min, refl, sym, ap, subst, arith, get_or, inl, inr, take, ◌⊎◌}
 use Rattle.std.specs.Prelude.{Bool, IfErr, IsErrAnd, IsTrue, false, if◌then◌else◌, true}
 use Rattle.std.specs.Borrow.{Bor}
 use Rattle.std.proofs.lemmas.List.{length-append, length-map, map-append}

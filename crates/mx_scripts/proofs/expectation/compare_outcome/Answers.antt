@@ -1,6 +1,5 @@
-use Rattle.std.proofs.Common.{◌≡◌, ◌∙◌, ◌++◌, [], ◌∷◌, inr, refl, rules, string_bytes, subst, sym}
+use Rattle.std.proofs.Common.{◌≡◌, inr, refl, rules, string_bytes, subst, sym}
 use Rattle.std.specs.Prelude.{◌≢◌}
-use Rattle.mx_format.specs.EventTexts.{outcome_text}
 use Rattle.mx_plan.specs.Text.{Text}
 use Rattle.mx_scripts.specs.Expectations.{EndsWith, Expects}
 use Rattle.mx_scripts.proofs.expectation.compare_outcome.Goals as goal

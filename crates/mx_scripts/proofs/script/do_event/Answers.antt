@@ -1,4 +1,4 @@
-use Rattle.std.proofs.Common.{◌≡◌, ◌∙◌, ap, length}
+use Rattle.std.proofs.Common.{◌∙◌, ap, length}
 use Rattle.mx_network.specs.Step.{ClusterState}
 use Rattle.mx_scripts.proofs.script.do_event.Goals as goal
 
