@@ -41,8 +41,8 @@ impl<C: Exclusion> State<C> {
     ///
     /// # Errors
     ///
-    /// `NoParcel`, `NotUnderWay` or `NotDelivered` if there is no such parcel, `LinkCut` for a delivery over a
-    /// cut link, and `TooMany` for an event of the cluster beyond 1,000,000.
+    /// `NoParcel`, `NotUnderWay` or `NotDelivered` if there is no such parcel, `LinkCut` for a
+    /// delivery over a cut link, and `TooMany` for an event of the cluster beyond 1,000,000.
     pub(crate) fn next_event(
         &self,
         order: &Order,

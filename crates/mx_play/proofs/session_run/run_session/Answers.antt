@@ -32,7 +32,7 @@ returns-in_ok-run_lines-in-Some-clause-played g c =
     rest_on_ok g.C.Exclusion.core (letter_text g.C.Msg.Letter.parts) g.C.Knowledge.knows s.plan.now s.shape.now c.args.script.now (g.L.Lines.rest c.args.lines.now)
     c.args.session.now c.run_lines-in-Some.new.session (seen g.O.Output g.E.Output c.args.out.now c.args.err.now) (seen g.O.Output g.E.Output c.run_lines-in-Some.new.out c.run_lines-in-Some.new.err)
     (seen g.O.Output g.E.Output c.finish.new.out c.run_lines-in-Some.new.err) c.requires.start c.in_ok-run_lines-in-Some.ensures.is refl c.finish.result c.finish.ensures.closes
-    c.in-Some.number _ c.run_lines.new.session (seen g.O.Output g.E.Output c.run_lines.new.out c.run_lines.new.err) (seen g.O.Output g.E.Output c.run_lines.new.out c.greet.new.err)
+    c.in-Some.number c.in_ok-run_lines-in-Some.field-0 c.run_lines.new.session (seen g.O.Output g.E.Output c.run_lines.new.out c.run_lines.new.err) (seen g.O.Output g.E.Output c.run_lines.new.out c.greet.new.err)
     (rw c.in-Some.is at c.in_ok-number.ensures.run) refl c.in_ok-greet-in-Some.ensures.asks c.in_ok-run_lines-in-Some.ensures.run
 
 pub returns-in_err-run_lines-in-Some-clause-stops :
