@@ -146,7 +146,7 @@ class Session:
             raise
         self.done.append(made)
         self.undone = []
-        return self.put[before:]
+        return self.put[before:] or ["nothing to do"]
 
     def undo(self, count):
         if count > len(self.done):

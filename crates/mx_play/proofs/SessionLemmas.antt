@@ -21,7 +21,7 @@ use Rattle.mx_scripts.specs.declared.state.SessionEvent.TheVariants.{Happens, Is
 use Rattle.mx_scripts.proofs.LineLemmas.{next_drawn}
 use Rattle.mx_play.specs.Histories.{CanLead, Leads, Makes, events_in, first_state}
 use Rattle.mx_play.specs.Sessions.{AddsOne, IsSession, SessionState, at_start, undone_in}
-use Rattle.mx_play.specs.Executions.{IsDone, IsRedone, IsUndone}
+use Rattle.mx_play.specs.Executions.{IsDone, IsRedone, IsUndone, line_text}
 use Rattle.mx_play.specs.declared.printed_events.PrintedEvents.{PrintedEvents}
 use Rattle.mx_play.specs.declared.undo.Undone.{Undone}
 use Rattle.mx_play.proofs.HistoryLemmas.{Adds, leads_append, leads_members, leads_one, leads_prefix, leads_split, makes_leads, told_adds}
@@ -240,7 +240,7 @@ module _ {H S M : Type 0} (core : Core H S M) (p : Fields) (shape : H) where
       (over : IsOver (length p.nodes) (length p.registers) line.order) (repeats : Repeats core line.order line.times a.state es b.state) (told : IsTold core (AddsOne core letter_text p) es a.state b.state start printed)
       (no_events : start.events.items ≡ []) (no_text : string_bytes start.text ≡ []) (empty : t ≡ []) (here : before ≡ length a.done)
       (listed : b.done ≡ a.done) (marked : b.marks ≡ a.marks) (state : c.state ≡ b.state) (done : c.done ≡ b.done ++ printed.events.items) (marks : c.marks ≡ b.marks ++ before ∷ []) (undone : c.undone ≡ [])
-      (text : t' ≡ t ++ string_bytes printed.text) where
+      (text : t' ≡ t ++ line_text printed.events.items (string_bytes printed.text)) where
     events_over : O es
     events_over = repeats_over (length p.nodes) (length p.registers) core line.order over line.times es a.state b.state repeats
 
@@ -250,15 +250,23 @@ module _ {H S M : Type 0} (core : Core H S M) (p : Fields) (shape : H) where
     makes_here : Makes core letter_text p a.state es c.state adds.made
     makes_here = subst (λ (s : RunState S M). Makes core letter_text p a.state es s adds.made) (sym state) adds.makes
 
+    its_events : printed.events.items ≡ es
+    its_events = adds.listed ∙ ap (λ (l : List SessionEvent). l ++ es) no_events
+
+    its_text : string_bytes printed.text ≡ adds.made
+    its_text = adds.printed ∙ ap (λ (l : Text). l ++ adds.made) no_text
+
     all_done : c.done ≡ a.done ++ es
-    all_done = done ∙ ap (λ (l : List SessionEvent). l ++ printed.events.items) listed ∙ ap (λ (l : List SessionEvent). a.done ++ l) (adds.listed ∙ ap (λ (l : List SessionEvent). l ++ es) no_events)
+    all_done = done ∙ ap (λ (l : List SessionEvent). l ++ printed.events.items) listed ∙ ap (λ (l : List SessionEvent). a.done ++ l) its_events
 
     is_done : IsDone core letter_text p line a c t'
     is_done = record {
       events = es;
       repeats = subst (λ (s : RunState S M). Repeats core line.order line.times a.state es s) (sym state) repeats;
-      makes = subst (λ (l : Text). Makes core letter_text p a.state es c.state l)
-          (sym (text ∙ ap (λ (l : Text). l ++ string_bytes printed.text) empty ∙ adds.printed ∙ ap (λ (l : Text). l ++ adds.made) no_text)) makes_here;
+      made = adds.made;
+      makes = makes_here;
+      printed = text ∙ ap (λ (l : Text). l ++ line_text printed.events.items (string_bytes printed.text)) empty
+          ∙ ap (λ (l : List SessionEvent). line_text l (string_bytes printed.text)) its_events ∙ ap (line_text es) its_text;
       over = events_over;
       done = all_done;
       marks = marks ∙ ap (λ (l : List ℕ). l ++ before ∷ []) marked ∙ ap (λ (n : ℕ). a.marks ++ n ∷ []) here;

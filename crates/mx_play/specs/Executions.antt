@@ -84,6 +84,11 @@ module _ {H S M : Type 0} (core : Core H S M) where
   HasRedone None old new = IsRedone old new
   HasRedone (Some fault) old new = CanRefuseRedo fault old × (new ≡ old)
 
+-- what is printed of a line of a script that was done: the text of its events, or that it has none
+abbrev pub line_text : List SessionEvent → Text → Text
+line_text [] made = codes "nothing to do\n"
+line_text (e ∷ es) made = made
+
 module _ {H S M : Type 0} (core : Core H S M) (letter_text : Fields → M → Text) where
   -- what a line of a script asks for happened, as often as the line says, and was printed; its
   -- events name only nodes and registers of the plan
@@ -91,7 +96,9 @@ module _ {H S M : Type 0} (core : Core H S M) (letter_text : Fields → M → Te
       : Type 0 where
     pub events : List SessionEvent
     pub repeats : Repeats core line.order line.times old.state events new.state
-    pub makes : Makes core letter_text p old.state events new.state text
+    pub made : Text
+    pub makes : Makes core letter_text p old.state events new.state made
+    pub printed : text ≡ line_text events made
     pub over : AreOver (length p.nodes) (length p.registers) (events_in events)
     pub done : new.done ≡ old.done ++ events
     pub marks : new.marks ≡ old.marks ++ length old.done ∷ []

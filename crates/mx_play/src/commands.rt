@@ -5,7 +5,7 @@ ghost use Rattle.std.specs.Str.{IsUtf8};
 ghost use Rattle.mx_format.specs.LetterTexts.{letter_text};
 ghost use Rattle.mx_play.specs.Commands.{IsSecondWord, IsOverPlan, second_of};
 ghost use Rattle.mx_play.specs.Sessions.{IsSession};
-ghost use Rattle.mx_play.specs.Executions.{HasDone, HasExecuted, HasExpected};
+ghost use Rattle.mx_play.specs.Executions.{HasDone, HasExecuted, HasExpected, line_text};
 ghost use Rattle.mx_play.specs.Views.{mark_line};
 ghost use Rattle.mx_lines.specs.Names.{texts_of};
 ghost use Rattle.mx_scripts.specs.Scripts.{IsOver};
@@ -119,10 +119,10 @@ fn commit<C: Exclusion>(
         (session.new.done ≡ session.old.done ++ line.now.events.items) }
     ensures marks { OnOk result (session.new.marks ≡ session.old.marks ++ before ∷ []) }
     ensures undone { OnOk result (session.new.undone ≡ []) }
-    ensures printed { OnOk result
-        (string_bytes text.new ≡ string_bytes text.old ++ string_bytes line.now.text) }
+    ensures printed { OnOk result (string_bytes text.new ≡ string_bytes text.old
+        ++ line_text line.now.events.items (string_bytes line.now.text)) }
 {
-    text.push_str(line.text.as_str())?;
+    text.push_str(line.line_text())?;
     session.done.extend_from_slice(line.events.as_slice())?;
     session.marks.push(before)?;
     session.undone.clear();

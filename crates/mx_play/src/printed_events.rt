@@ -2,6 +2,7 @@
 
 ghost use Rattle.std.specs.Prelude.{◌≡◌, [], string_bytes};
 ghost use Rattle.mx_format.specs.LetterTexts.{letter_text};
+ghost use Rattle.mx_play.specs.Executions.{line_text};
 ghost use Rattle.mx_play.specs.Sessions.{AddsOne};
 
 use crate::event_texts::add_made;
@@ -30,6 +31,16 @@ impl PrintedEvents {
             events: Vec::new(alloc),
             text: String::new(alloc),
         }
+    }
+
+    /// Returns what is printed of the line: the text of its events, or that it has none.
+    pub(crate) fn line_text(&self) -> &str
+        ensures { result.now ≡ line_text self.now.events.items (string_bytes self.now.text) }
+    {
+        if self.events.is_empty() {
+            return "nothing to do\n";
+        }
+        self.text.as_str()
     }
 }
 
