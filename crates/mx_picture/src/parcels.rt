@@ -82,8 +82,8 @@ pub(crate) fn note_undelivered<S: Sent>(
     rows.sheet.add_undelivered(flight, sent.route(), title)
 }
 
-/// Draws the row of the parcels that the newest event sent and no event delivers: of this one, and
-/// of so many more.
+/// Draws the row of the parcels that the newest event sent and no event delivers: this one and
+/// `more` others.
 pub(crate) fn draw_undelivered<S: Sent>(
     plan: &Plan,
     number: u64,
