@@ -1,8 +1,8 @@
 """Reads a picture of `mx picture` back, and compares what it shows with what a replay prints.
 
 Usage: tests/picture.py PLAN PRINTED PICTURE [--from K] [--to K] [--node N] [--letters], where PRINTED is what
-`mx replay`, or tests/oracle.py, prints of the same plan and events, and the options are those of the picture; or
-tests/picture.py PLAN TRACE PICTURE --trace JUDGED .., where JUDGED is what `mx judge` prints of the trace. It prints
+`mx replay`, or tests/oracle.py, prints of the same plan and events, or tests/session.py of a script, and the options are
+those of the picture; or tests/picture.py PLAN TRACE PICTURE --trace JUDGED .., where JUDGED is what `mx judge` prints of the trace. It prints
 each thing that only one of the two has, and is silent where they have the same; and it sees that nothing reaches out of
 the page, and that it has nothing but drawing.
 """
@@ -34,10 +34,11 @@ ARGUMENTS = ["node", "from", "register", "upto", "parcel"]  # of an event in a t
 
 
 class Run:
-    """What was printed of a replay: the events, and the parcels with the event that sent each."""
+    """What was printed of a replay: the events, the parcels with the event that sent each, and the numbers of those that a
+    script lost, each with the number of events before."""
 
     def __init__(self, names, lines):
-        self.names, self.events, self.parcels = names, [], []
+        self.names, self.events, self.parcels, self.losses = names, [], [], []
         for line in lines:
             if event := re.fullmatch(r"(\d+) ((\S+) (.*)): (.*)", line):
                 told = f"{event[2]}: {event[5]}"
@@ -45,6 +46,8 @@ class Run:
             elif parcel := re.fullmatch(r"  #\d+ (\S+)>(\S+) (.*)", line):
                 ends = names.index(parcel[1]), names.index(parcel[2])
                 self.parcels.append((len(self.events) - 1, *ends, parcel[3]))
+            elif lost := re.match(r"lost #(\d+) ", line):
+                self.losses.append((len(self.events), int(lost[1])))
         self.arriving = {int(args[0]) for word, args, _, _ in self.events if word == "deliver"}
 
     def is_overtaken(self, number):
@@ -158,6 +161,7 @@ class Drawing:
         self.shown, self.delivered, self.since, self.best, self.used = {}, set(), {}, {}, set()
         named, skipped = 0, False
         for index in range(len(run.events)):
+            self.lose([number for place, number in run.losses if place == index])
             if not part.has_event(run, index, self.delivered):
                 skipped |= not (part.letters and part.has_index(index))
                 self.leave_out(index)
@@ -172,6 +176,7 @@ class Drawing:
                 named, self.row = self.row, self.row + 1
             self.draw(index)
             self.row += 1
+        self.lose([number for place, number in run.losses if place == len(run.events)])
         if skipped:
             self.add("index", self.row, "..")
             self.row += 1
@@ -243,7 +248,8 @@ class Drawing:
         self.mark(index, node)
         sent = [number for number, parcel in enumerate(self.run.parcels) if parcel[0] == index and self.part.concerns(parcel)]
         self.shown |= dict.fromkeys(sent, row)
-        if undelivered := [number for number in sent if number not in self.run.arriving]:
+        gone = self.run.arriving | {number for _, number in self.run.losses}
+        if undelivered := [number for number in sent if number not in gone]:
             self.keep(undelivered, row)
 
     def mark(self, index, node):
@@ -262,6 +268,20 @@ class Drawing:
         self.best[node, self.row] = "right" if start <= node else "left"
         is_far = is_cut or abs(start - node) >= LONG_NODES or self.row - self.shown[number] >= LONG_ROWS
         return f"#{number} {text}" + (f" from {self.run.names[start]}" if is_far else "")
+
+    def lose(self, numbers):
+        """The parcels that are lost before an event, if their sendings are drawn, in a row of their own."""
+        if not (numbers := [number for number in numbers if number in self.shown]):
+            return
+        for number in numbers:
+            _, start, to, _ = self.run.parcels[number]
+            self.add("lost", start, self.shown[number], to, self.row)
+            self.add("title", f"{self.title(number)}, lost")
+        _, start, to, text = self.run.parcels[numbers[0]]
+        more = f", and {len(numbers) - 1} more" if len(numbers) > 1 else ""
+        self.best[start, self.row] = "right" if start <= to else "left"
+        self.add("air", start, self.row, f"#{numbers[0]} {text} to {self.run.names[to]} lost{more}")
+        self.row += 1
 
     def keep(self, numbers, sent_in):
         """The parcels of an event that are never delivered, in a row of their own."""
@@ -429,6 +449,12 @@ def path_of(look, d, node_at):
     def node(x):
         return node_at[int(x)]
 
+    if look == "lost":  # half of an arrow, and a cross
+        way = re.fullmatch(r"M(\d+) (\d+)(?:l(-?\d+) |q-40 (\d+) 0 )(\d+)m-3-3l6 6m0-6l-6 6", d)
+        x, y, aside, half, down = (int(number or 0) for number in way.groups())
+        (to,) = [other for at, other in node_at.items() if (at + x) // 2 == x + aside]
+        assert half in (0, down // 2) and (half == 0 or to == node(x))
+        return "lost", node(x), row_of(y), to, row_of(y + down)
     if box := re.fullmatch(r"M(\d+) (\d+)m-12-6h24v(\d+)h-24z", d):
         x, y, high = map(int, box.groups())
         return "inside", node(x), top_of(y), foot_of(y + high - 12)
@@ -496,7 +522,7 @@ def read_back(picture, names):
         elif part.tag == SVG + "path":
             thing = path_of(look, part.get("d"), node_at)
             (boxes if thing[0] == "inside" else things).append(thing)
-            if thing[0] in ("arrow", "tip", "start", "overtaken", "pending", "broken"):
+            if thing[0] in ("arrow", "tip", "start", "lost", "overtaken", "pending", "broken"):
                 things.append(("title", part[0].text))
             if thing[0] == "inside":
                 box_titles.append(part[0].text)

@@ -1,8 +1,9 @@
 """A model of a session of `mx play`, over tests/oracle.py: what each line prints, as docs/FORMATS.md says it. It
 knows no faults but those of lines that find no parcel or a link that is cut, have nothing to take back, or expect another
-outcome.
+outcome. Usage: tests/session.py PLAN SCRIPT, which prints what a session of these lines prints.
 """
 import json
+import sys
 
 import oracle
 
@@ -234,3 +235,12 @@ def played(plan, lines):
     session = Session(plan)
     answers = [session.answer(line) for line in lines]
     return ["".join(it + "\n" for it in answer) for answer in [*answers, session.close()]]
+
+
+def main():
+    with open(sys.argv[2], encoding="utf-8") as file:
+        sys.stdout.write("".join(played(oracle.load(sys.argv[1]), file.read().splitlines())))
+
+
+if __name__ == "__main__":
+    main()

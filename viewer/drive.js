@@ -105,8 +105,8 @@ function drawPanel() {
   const hidden = { ofNode: name === undefined, ofParcel: !parcel, past: view.at === last || Boolean(answer.fault),
     withRegister: !byId("register").options.length };
   Object.entries(hidden).forEach(([id, isHidden]) => { byId(id).hidden = isHidden; });
-  const { fault, stuck } = answer, upTo = "is at fault, and the page shows the run before it. Mend the line, or undo.";
-  fill("stuck", fault ? `Line ${fault.line + 1} ${upTo}` : view.at === last ? stuck : "");
+  const { fault } = answer, stuck = view.at === last && run.stuck ? stuckText(run.stuck) : "";
+  fill("stuck", fault ? faultText(run.fault, "mend the line, or undo") : stuck);
   fill("wrong", fault ? `line ${fault.line + 1}: ${fault.text}` : "");
   fill("what", parcel ? `${fullText(parcel)}, ${state(parcel)}` : name ? `Node ${name}` : "Choose a node or a parcel");
   document.querySelectorAll("#drive [data-act]").forEach(drawButton);
@@ -143,10 +143,6 @@ function drawCurrent() {
   if (done) place.children[current]?.setAttribute("aria-current", "step");
   reveal(place, place.querySelector(".fault, [aria-current]"));
 }
-
-/** Lost parcels are below those under way: they may still be delivered. */
-const drawLost = () => byId("parcels").append(
-  ...lostBefore(run, view.at).map(it => html("li", { class: "lostParcels faint" }, parcelButton(it))));
 
 function drawChoices() {
   const { registers } = [...nodesAfter(last).values()][0].told;
@@ -220,7 +216,7 @@ on("add", "submit", async event => {
   if (line && await add(line)) byId("line").value = "";
 });
 tabs.onmessage = ({ data }) => data !== answer.version && change("now");
-drawers.push(drawOthers, drawPanel, drawCurrent, drawLost);
+drawers.push(drawOthers, drawPanel, drawCurrent);
 drawChoices();
 drawScript();
 show({ at: last });

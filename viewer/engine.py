@@ -1,5 +1,6 @@
-"""Runs scripts of one plan with the program `mx`. Nothing is known here but the words that the program prints."""
-import json
+"""Runs scripts of one plan with the program `mx`. Nothing is known here but the objects that the program prints."""
+import collections
+import itertools
 import os
 import re
 import resource
@@ -11,10 +12,6 @@ from command import Fault
 
 HERE = os.path.dirname(lines.VIEWER)
 PLAN, LARGEST, MOST = 1 << 16, 1 << 20, 1 << 24  # bytes of a plan, of a script, and of what the program prints
-NOTES = [  # what `play` prints of what is no event, and the line of a run that says so
-    (r"lost #(\d+) ", lambda found: {"lost": int(found[1])}),
-    (r"(cut|heal)(?: (\S+))?(?: (\S+))?$", lambda found: {found[1]: [name for name in found.groups()[1:] if name]}),
-]
 
 
 def program():
@@ -51,7 +48,6 @@ class Engine:
         if status:
             raise Fault("the plan is at fault:\n" + re.sub("^-:", f"{path}:", printed or told, flags=re.MULTILINE).strip())
         self.line = b" ".join(self.plan.split()) + b"\n"  # as the first line of standard input
-        self.starts = [line for line in self.replay("")[1].splitlines() if '"phase"' in line]
 
     def ran(self, *words, text):
         """The status, the output and the errors of the program, which ends in time and prints no more than it may."""
@@ -68,48 +64,29 @@ class Engine:
             printed.seek(0)
             return ended.returncode, printed.read().decode(errors="replace"), ended.stderr.decode(errors="replace")
 
-    def replay(self, script):
-        return self.ran("replay", "-", "-", "--script", "--json", "--state", text=self.line + script.encode())
-
     def answer(self, script):
         """The lines of the run of a script up to its first fault, the steps after each line of it, and the fault."""
-        status, printed, told = self.replay(script)
-        found, done = re.match(r"mx: script: line (\d+): (.*)", told), script.split("\n")
-        if found:
-            done = done[: int(found[1]) - 1]
-            status, printed, told = self.replay("\n".join(done))
-        if status:
-            raise Fault(told.strip() or f"the program ended with status {status}")
-        ends, notes, stuck = self.ends(done)
-        run = list(lines.lines_of([*self.starts, *woven(printed.splitlines(), notes)]))
-        fault = found and {"line": int(found[1]) - 1, "text": found[2]}
-        return {"run": run, "script": script, "ends": ends, "fault": fault, "stuck": stuck}
-
-    def ends(self, script):
-        """The number of steps after each line of a right script, the notes of what is no event by the number of events
-        before, and whether the run stands still."""
-        marked = "".join(f"{line}\nmark END\n" for line in script) + "show\n"
-        *parts, closing = self.ran("play", "-", text=self.line + marked.encode())[1].split("mark END\n")
-        ends, notes, events = [0], {}, 0
-        for number, part in enumerate(parts, 1):
-            made, noted = len(re.findall(r"^\d+ \w", part, re.MULTILINE)), notes_of(part, number)
-            notes.setdefault(events, []).extend(noted)
-            ends.append(ends[-1] + (made or bool(noted)))
-            events += made
-        return ends[1:], notes, next((text for text in closing.splitlines() if text.startswith("stuck: ")), "")
+        words = ["replay", "-", "-", "--script", "--json", "--state"]
+        status, printed, told = self.ran(*words, text=self.line + script.encode())
+        failed = Fault(told.strip() or f"the program ended with status {status}") if status else None
+        try:
+            run = list(lines.lines_of(printed.split("\n")[:-1]))
+        except Fault as fault:
+            raise failed or fault
+        refused = next((line for line in run if "fault" in line), None)
+        if failed and not refused:
+            raise failed
+        fault = refused and {"line": int(refused["line"]) - 1, "text": refused["fault"] + refused["message"]}
+        return {"run": run, "script": script, "ends": ends(run, fault["line"] if fault else len(script.split("\n"))), "fault": fault}
 
 
-def notes_of(printed, number):
-    """The lines of a run for what a line of a script did that is no event."""
-    tried = ((make, re.match(form, text)) for text in printed.splitlines() for form, make in NOTES)
-    return [json.dumps(make(found) | {"line": number}) for make, found in tried if found]
-
-
-def woven(printed, notes):
-    """The lines of a run, in which what is no event comes after the event before it."""
-    events = 0
-    for line in printed:
-        if line.startswith(('{"event"', '{"verdict"')):
-            yield from notes.get(events, [])
-            events += 1
-        yield line
+def ends(run, count):
+    """The number of steps after each of so many lines of a script: one for each event, or one for all else that a line did."""
+    steps, number = collections.Counter(), 0
+    for line in run:
+        if "act" in line:
+            steps[number] += 1
+        elif {"lost", "cut", "heal"} & set(line):
+            steps[number] = 1
+        number = int(line.get("line", number))
+    return list(itertools.accumulate(steps[number] for number in range(1, count + 1)))

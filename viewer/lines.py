@@ -1,7 +1,8 @@
 """Reads what `mx replay --json` or `mx judge --json` prints, and makes the page of it: for ./page, ./drive and ./shiviz.
 
-Beyond what these print, a run may have `{"lost":K}`, `{"cut":[N]}`, `{"cut":[N,M]}` after an event, or the same with `heal`, or
-`{"heal":[]}` of all links: what a script did before the next one. Those of one line have its number as `line`. ./drive adds them."""
+Of a script, `mx replay --script --json` prints `{"line":N}` before whatever line N did: an event, `{"lost":K}`, `{"cut":[N]}`,
+`{"cut":[N,M]}`, or the same with `heal`, or `{"heal":[]}` of all links. A line that is refused is an object of `line`, `fault`
+and `message`; no event follows it."""
 import json
 import os
 import re
@@ -11,12 +12,15 @@ from command import Fault
 VIEWER = os.path.dirname(os.path.realpath(__file__))
 KINDS = {  # the member that tells the kind of a line, and what else such a line needs
     "act": ["outcome"], "kind": ["parcel", "from", "to"], "phase": ["node", "mine", "knows"],
-    "stuck": [], "lost": [], "cut": [], "heal": [], "clause": ["verdict", "index"], "verdict": [],
+    "stuck": [], "lost": [], "cut": [], "heal": [], "clause": ["verdict", "index"], "verdict": [], "fault": ["line", "message"],
+    "line": [],
 }
 TEXTS = """act node register from to outcome cause kind of phase fact verdict clause reason event parcel index number
-    value writes count upto stamp top grant last hop mine records gapless lost line""".split()
-TYPES = {**dict.fromkeys(TEXTS, str), **dict.fromkeys(["ranges", "numbers", "knows", "values", "cut", "heal"], list),
-         "registers": dict}
+    value writes count upto stamp top grant last hop mine records gapless lost line fault message""".split()
+LISTS = {"knows": ["fact", "values"], "values": [], "stuck": ["node", "for"]}  # of objects, and what each needs
+TYPES = {**dict.fromkeys(TEXTS, str), **dict.fromkeys(["ranges", "numbers", "cut", "heal", "for", *LISTS], list), "registers": dict}
+
+encoded = json.JSONEncoder(separators=(",", ":")).encode
 
 
 def members(line, needed=()):
@@ -34,8 +38,8 @@ def member(key, value):
         raise Fault(f"{key} is wrong")
     if value == "":
         raise Fault(f"{key} is empty")
-    if key in ("knows", "values"):
-        return [members(item, ["fact", "values"] if key == "knows" else ()) for item in value]
+    if key in LISTS:
+        return [members(item, LISTS[key]) for item in value]
     return list(value.items()) if key == "registers" else value  # a browser would put a name like 7 first
 
 
@@ -43,8 +47,8 @@ def has_form(key, value):
     """Whether the items of a list of numbers, of one or two names, or of pairs of numbers, are such."""
     if key == "ranges":
         return all(type(item) is list and len(item) == 2 and has_form("numbers", item) for item in value)
-    isnt = key not in ("numbers", "cut", "heal")
-    return isnt or all(type(item) is str for item in value) and (key == "numbers" or (key == "cut") <= len(value) < 3)
+    isnt = key not in ("numbers", "for", "cut", "heal")
+    return isnt or all(type(item) is str for item in value) and (key in ("numbers", "for") or (key == "cut") <= len(value) < 3)
 
 
 def refused(number):
@@ -56,11 +60,13 @@ def read(line, counts):
     kind = next((key for key in KINDS if type(line) is dict and key in line), "verdict")
     if counts["clause"] or counts["verdict"]:
         raise Fault("it follows the verdict")
+    if counts["fault"] and kind not in ("phase", "stuck", "verdict"):
+        raise Fault("it follows a line that is refused")
     line, counter = members(line, [kind, *KINDS[kind]]), {"act": "event", "kind": "parcel"}.get(kind)
     if line.get(counter, str(counts[kind])) != str(counts[kind]):
         raise Fault(f"{counter} {counts[kind]} is missing: a page shows a whole run")
     check(kind, line, counts)
-    counts[kind] += 1
+    counts[kind] = int(line["line"]) if kind == "line" else counts[kind] + 1  # of lines, the number of the last one
     return line
 
 
@@ -77,17 +83,19 @@ def check(kind, line, counts):
         raise Fault("node is missing")
     if kind == "lost" and not is_below(line["lost"], counts["kind"]):
         raise Fault("its parcel is missing")
+    if kind in ("fault", "line") and (not is_below(line["line"], 1 << 64) or int(line["line"]) < max(counts["line"], 1)):
+        raise Fault("line is wrong")
     if kind == "kind" and not counts["act"] or kind == "clause" and not is_below(line["index"], counts["act"]):
         raise Fault("its event is missing")
 
 
 def lines_of(source):
     """The lines of a run as the page reads them. Their numbers become texts: those of a browser hold 53 bits."""
-    counts, at, writer = dict.fromkeys(KINDS, 0), 0, json.JSONEncoder(separators=(",", ":"))
+    counts, at = dict.fromkeys(KINDS, 0), 0
     reader = json.JSONDecoder(parse_int=str, parse_float=refused, parse_constant=refused)
     try:
         for at, text in enumerate(source, 1):
-            yield writer.encode(read(reader.decode(text if type(text) is str else text.decode()), counts))
+            yield read(reader.decode(text if type(text) is str else text.decode()), counts)
     except Fault as fault:
         raise Fault(f"line {at}: {fault}")
     except (ValueError, RecursionError):
@@ -103,7 +111,7 @@ def content(name):
 
 def page_of(lines, **parts):
     """The page of these lines, as bytes. With an answer of ./drive among these parts, it has the files of ./drive, too."""
-    parts["run"] = shielded("[\n" + ",\n".join(lines) + "\n]")
+    parts["run"] = shielded("[\n" + ",\n".join(map(encoded, lines)) + "\n]")
     skipped = () if "answer" in parts else ("drive",)
     text = re.sub(r"@(\w+\.\w+)@", lambda it: "" if it[1].startswith(skipped) else content(it[1]), content("page.html"))
     return re.sub(r"@(\w+)@", lambda it: parts.get(it[1], ""), text).encode()

@@ -13,16 +13,21 @@ const EFFECTS = { // of an outcome, on the node of its event
 const unique = items => [...new Set(items)].filter(item => item !== undefined);
 
 /** Each step has an event, or changes that a script made without one; its node, the parcels that it sent, the lines of nodes
-  * after it, and a place, which its address names: the number of an event. An open run may go on. */
-function readRun(lines, isOpen) {
-  const run = { steps: [], parcels: [], told: [], links: [], verdict: lines.at(-1), count: 0 };
+  * after it, and a place, which its address names: the number of an event. The run of a script is open: it may go on. */
+function readRun(lines, isDriven) {
+  const isOpen = isDriven || lines.some(({ line, verdict }) => line && !verdict);
+  const run = { steps: [], parcels: [], told: [], links: [], verdict: lines.at(-1), count: 0, isOpen };
   const nodeOf = ({ node, parcel }) => node ?? run.parcels[+parcel]?.to;
+  let number; // of the line of a script that did what follows
   for (const line of lines) {
     const at = run.steps.length - 1, { sent, told } = run.steps[at] ?? run;
     if (line.act) run.steps.push({ event: line, node: nodeOf(line), sent: [], told: [], changes: [], place: `${run.count++}` });
     else if (line.kind) sent.push(run.parcels[+line.parcel] = { ...line, line, sentAt: at, deliveries: [], isOpen });
     else if (line.phase) told.push(line);
-    else if (line.lost || line.cut || line.heal) addChange(run, line);
+    else if (line.lost || line.cut || line.heal) addChange(run, line, number);
+    else if (line.fault) run.fault = line;
+    else if (line.stuck) run.stuck = line.stuck;
+    else if (!line.verdict) number = line.line;
   }
   run.steps.forEach(({ event }, at) => run.parcels[+event?.parcel]?.deliveries.push(at));
   run.brokenAt = run.steps.findIndex(({ place }) => place === run.verdict.index);
@@ -30,10 +35,10 @@ function readRun(lines, isOpen) {
 }
 
 /** What one line of a script changed is one step. */
-function addChange(run, line) {
-  const before = run.steps.at(-1), [number, part = 0] = before?.place.split(".") ?? ["start"];
-  const isSame = line.line && before?.changes[0]?.line === line.line;
-  if (!isSame) run.steps.push({ sent: [], told: [], changes: [], place: `${number}.${+part + 1}` });
+function addChange(run, line, number) {
+  const before = run.steps.at(-1), [event, part = 0] = before?.place.split(".") ?? ["start"];
+  const isSame = number && before?.number === number;
+  if (!isSame) run.steps.push({ number, sent: [], told: [], changes: [], place: `${event}.${+part + 1}` });
   const at = run.steps.length - 1;
   run.steps[at].changes.push(line);
   if (line.lost) run.parcels[+line.lost].lostAt ??= at;
@@ -137,6 +142,10 @@ function stepText({ event, place, changes }, parcels) {
   const healed = changes.flatMap(({ heal }) => heal ? [heal.join(" ") || "all links"] : []).join(", ");
   return [lost.length && `lost ${lost.join(", ")}`, links && `cut ${links}`, healed && `healed ${healed}`].filter(Boolean).join(", ");
 }
+
+const waitText = ({ node, for: others }) => [node, "waits", ...(others.length ? ["for", ...others] : [])].join(" ");
+const faultText = ({ line }, more) => `Line ${line} is at fault, and the page shows the run before it: ${more}.`;
+const stuckText = waiters => ["stuck: nothing under way", ...waiters.map(waitText)].join("; ");
 
 function parcelText({ line: { parcel, from, to, kind, stamp, of, ...rest } }) {
   const list = value => [value].flat().map(item => [item].flat().join("..")).join(" ");

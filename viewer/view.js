@@ -2,7 +2,7 @@
 
 const PAGE = 100, SHOWN = 40, LISTED = 200; // so many steps are listed at a time, events of a node, and parcels
 const byId = id => document.getElementById(id);
-const isOpen = "open" in document.querySelector("main").dataset, narrow = matchMedia("(max-width: 40rem)");
+const isDriven = Boolean(byId("answer")), narrow = matchMedia("(max-width: 40rem)");
 const timers = {}, drawers = []; // what else draws, after a view has changed
 let run, last, nodesAfter, broken, ring;
 let view = { at: -1, chosen: {}, shows: { lost: true, waits: true }, note: "" };
@@ -43,13 +43,15 @@ function knownAt(at) {
 
 function drawNow() {
   const { at, note } = view, { event, sent } = run.steps[at] ?? {}, { clause, reason } = run.verdict;
-  if (at < 0) return fill("now", html("b", {}, "Start"), ` before the first of ${run.count} events. ${note}`);
-  if (!event) return fill("now", html("b", {}, textAt(at)), ` ${note}`);
+  const { fault, message } = run.fault ?? {}, isEnd = fault && at === last && !isDriven;
+  const ends = isEnd ? html("span", { class: "broken" }, faultText(run.fault, fault + message)) : "";
+  if (at < 0) return fill("now", html("b", {}, "Start"), ` before the first of ${run.count} events. ${note}`, ends);
+  if (!event) return fill("now", html("b", {}, textAt(at)), ` ${note}`, ends);
   const sends = sent.length > 2 ? [` sends ${sent.length} parcels`] : sent.flatMap((it, i) => [i ? ", " : " sends ", parcelButton(it)]);
   const more = parcelAt(at) ? [parcelButton(parcelAt(at)), ...sends] : sends, known = knownAt(at);
   const why = reason ? `: ${reason}` : "", rule = `${clause}, ${broken.join(" and ")}`;
   const breaks = at === run.brokenAt ? `This breaks the run: ${rule}${why}. ` : "";
-  return fill("now", html("b", { class: event.outcome }, textAt(at)), " ", ...more, ` ${known}${breaks}${note}`);
+  return fill("now", html("b", { class: event.outcome }, textAt(at)), " ", ...more, ` ${known}${breaks}${note}`, ends);
 }
 
 /** The list has the page of steps around this one, and at its ends steps that lead on. */
@@ -79,7 +81,7 @@ function parcelHistory(parcel) {
   const { sentAt, lostAt, deliveries } = parcel, item = (at, text) => html("li", {}, text, stepLink(at));
   const got = deliveries.map((at, i) => item(at, i ? "delivered again: " : "delivered: "));
   const lost = lostAt === undefined ? [] : [item(lostAt, "")];
-  const open = got.length + lost.length ? [] : [html("li", { class: isOpen ? "" : "broken" }, isOpen ? "under way" : "never delivered")];
+  const open = got.length + lost.length ? [] : [html("li", { class: run.isOpen ? "" : "broken" }, run.isOpen ? "under way" : "never delivered")];
   return [html("h3", {}, fullText(parcel)), html("ul", {}, item(sentAt, "sent: "), ...lost, ...got, ...open)];
 }
 
@@ -103,7 +105,8 @@ function draw(before) {
   const scene = { nodes, parcels, at, chosen, lasts, step: run.steps[at], arrived, cuts: cutAfter(run, at), shows: view.shows };
   fill("ring", ...ring.draw({ ...scene, marked: at === run.brokenAt ? broken : [] }));
   fill("way", `Parcels under way${name === undefined ? "" : ` to or from ${name}`}`);
-  fill("parcels", ...parcels.slice(0, LISTED).map(parcelItem), more > 0 ? `and ${more} more` : "");
+  const lost = lostBefore(run, at).filter(isMeant).map(it => html("li", { class: "lostParcels faint" }, parcelButton(it)));
+  fill("parcels", ...parcels.slice(0, LISTED).map(parcelItem), more > 0 ? `and ${more} more` : "", ...lost);
   fill("nodes", ...[...nodes].map(([name, node]) => nodeItem(name, node, earlier.get(name))));
   reveal(byId("nodes"), byId("nodes").querySelector(".acts"));
   fill("history", ...historyOf(chosen));
@@ -123,22 +126,24 @@ function sample(text, kind = text, end = "") {
 
 /** What only the run changes. */
 function drawRun() {
-  const { verdict, index, clause } = run.verdict, { algorithm, tree, names } = run;
+  const { verdict, index, clause } = run.verdict, { algorithm, tree, names, isOpen } = run;
   const size = `${run.count} events, ${names.length} nodes`;
   byId("title").textContent = document.title = algorithm ? `${algorithm}: ${size}` : `A run of ${size}`;
   byId("slider").max = last;
   const link = html("a", { href: `#${index}`, class: "broken" }, `broken at ${index}: ${clause} \u2717`);
   fill("verdict", "Verdict: ", clause ? link : `${verdict} \u2713`);
+  const gone = isOpen ? "lost" : "never delivered";
+  byId("lost").nextSibling.textContent = ` also those ${gone}`;
   const letters = ["request", "grant", "other"].map(kind => sample(kind, kind, "arrives"));
   fill("legend", ...letters, sample("waits for", "waits", "waits"),
     ...(tree.length ? [sample("tree"), sample("towards the privilege", "towards", "towards")] : []),
-    sample("delivered again", "other again", "arrives"), sample(isOpen ? "lost" : "never delivered", "lost", "lost"),
+    sample("delivered again", "other again", "arrives"), sample(gone, "lost", "lost"),
     ...(isOpen ? [sample("cut link", "cut")] : []));
 }
 
 /** Takes the lines of a run. The view stays, so that `show` has to follow. */
 function load(lines) {
-  run = readRun(lines, isOpen);
+  run = readRun(lines, isDriven);
   last = run.steps.length - 1;
   nodesAfter = statesOf(run);
   broken = concerned(run, nodesAfter);

@@ -1,5 +1,5 @@
 -- What the words of a command line ask for, as `clap` reads them.
-use Rattle.std.specs.Prelude.{◌≡◌, ℕ, Bool, true, false, not, ◌&&◌, ◌||◌, List, Option, Some, None, codes, if◌then◌else◌, option_map, option_and_then, unwrap_or, []}
+use Rattle.std.specs.Prelude.{◌≡◌, ℕ, Bool, true, false, not, ◌&&◌, ◌||◌, List, Option, Some, None, codes, if◌then◌else◌, nat_lt, option_map, option_and_then, unwrap_or, []}
 use Rattle.std.specs.Borrow.{Bor}
 use Rattle.std.specs.Option.{option_map_or}
 use Rattle.std.specs.Str.{bytes_eq}
@@ -10,7 +10,7 @@ use Rattle.mx_cli.specs.Words.{asked_of, is_given, names_of, number_at}
 use Rattle.mx_cli.specs.declared.request.Conditions.{Conditions}
 use Rattle.mx_cli.specs.declared.request.LiveRequest.{LiveRequest as GivenLive}
 use Rattle.mx_cli.specs.declared.request.Misfit.{Misfit}
-use Rattle.mx_cli.specs.declared.request.Misfit.TheVariants.{DrawWithoutWalk, ExploreWithoutWalk, TraceWithLetters, TraceWithScript, WalkWithCount, WalkWithJson}
+use Rattle.mx_cli.specs.declared.request.Misfit.TheVariants.{DrawWithoutWalk, ExploreWithoutWalk, FromAboveTo, TraceWithLetters, TraceWithScript, WalkWithCount, WalkWithJson}
 use Rattle.mx_cli.specs.declared.request.PicturePart.{PicturePart}
 use Rattle.mx_cli.specs.declared.request.RandomRun.{RandomRun}
 use Rattle.mx_cli.specs.declared.request.ViewOptions.{ViewOptions}
@@ -227,17 +227,23 @@ part_in rows =
     }
 
 -- `picture` with `--trace`, which goes neither with `--letters` nor with `--script`
-abbrev pub picture_trace_in : List Row → Text × Text → Request
-picture_trace_in rows names =
+abbrev pub picture_trace_of : List Row → Text × Text → Part → Request
+picture_trace_of rows names part =
     if is_given (codes "letters") rows then misfit TraceWithLetters
     else if is_given (codes "script") rows then misfit TraceWithScript
-    else picture_trace names (part_in rows)
+    else picture_trace names part
 
+abbrev pub picture_of : List Row → Text × Text → Part → Request
+picture_of rows names part =
+    if is_given (codes "trace") rows then picture_trace_of rows names part
+    else picture names part (is_given (codes "letters") rows) (is_given (codes "script") rows)
+
+-- `--from` is not above `--to`
 abbrev pub picturing : List Row → Text × Text → Request
 picturing rows names =
-    if is_given (codes "trace") rows then picture_trace_in rows names
-    else picture names (part_in rows) (is_given (codes "letters") rows)
-    (is_given (codes "script") rows)
+    if nat_lt (part_in rows).to (part_in rows).from
+    then misfit (FromAboveTo (part_in rows).from (part_in rows).to)
+    else picture_of rows names (part_in rows)
 
 abbrev pub picture_in : List Row → Option Request
 picture_in rows = option_map (picturing rows) (names_in (codes "EVENTS") rows)

@@ -210,20 +210,37 @@ fn picture_in<'a>(matches: &ArgMatches<'a>) -> Option<Request<'a>>
     ensures { option_map spec.request_of result ≡ spec.picture_in (rows_of (found_of matches.now)) }
 {
     let names = names_in(matches, "EVENTS")?;
-    if is_given(matches, "trace") {
-        return Some(picture_trace_in(matches, names));
+    let part = part_in(matches);
+    if part.from > part.to {
+        return Some(Request::Misfit(Misfit::FromAboveTo(part.from, part.to)));
     }
-    Some(Request::Picture {
-        names,
-        part: part_in(matches),
-        only_letters: is_given(matches, "letters"),
-        is_script: is_given(matches, "script"),
-    })
+    Some(picture_of(matches, names, part))
 }
 
-fn picture_trace_in<'a>(matches: &ArgMatches<'a>, names: Names<'a>) -> Request<'a>
+fn picture_of<'a>(matches: &ArgMatches<'a>, names: Names<'a>, part: PicturePart<'a>) -> Request<'a>
     ensures { spec.request_of result
-        ≡ spec.picture_trace_in (rows_of (found_of matches.now)) (names_of names.entry) }
+        ≡ spec.picture_of (rows_of (found_of matches.now)) (names_of names.entry)
+        (spec.part_of part.entry) }
+{
+    if is_given(matches, "trace") {
+        return picture_trace_of(matches, names, part);
+    }
+    Request::Picture {
+        names,
+        part,
+        only_letters: is_given(matches, "letters"),
+        is_script: is_given(matches, "script"),
+    }
+}
+
+fn picture_trace_of<'a>(
+    matches: &ArgMatches<'a>,
+    names: Names<'a>,
+    part: PicturePart<'a>,
+) -> Request<'a>
+    ensures { spec.request_of result
+        ≡ spec.picture_trace_of (rows_of (found_of matches.now)) (names_of names.entry)
+        (spec.part_of part.entry) }
 {
     if is_given(matches, "letters") {
         return Request::Misfit(Misfit::TraceWithLetters);
@@ -231,7 +248,7 @@ fn picture_trace_in<'a>(matches: &ArgMatches<'a>, names: Names<'a>) -> Request<'
     if is_given(matches, "script") {
         return Request::Misfit(Misfit::TraceWithScript);
     }
-    Request::PictureTrace(names, part_in(matches))
+    Request::PictureTrace(names, part)
 }
 
 /// Returns the part that the arguments of a picture give: all events, without such arguments.

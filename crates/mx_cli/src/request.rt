@@ -78,6 +78,8 @@ pub enum Misfit {
     TraceWithLetters,
     /// `picture` with `--trace` and `--script`.
     TraceWithScript,
+    /// `picture` with this index after `--from`, and this lower one after `--to`.
+    FromAboveTo(u64, u64),
 }
 
 const LACKS_WALK: &str = "error: the following required arguments were not provided:\n  --walk";
@@ -92,6 +94,13 @@ const TRACE_USAGE: &str = "picture --trace <PLAN> <EVENTS>";
 impl fmt::Display for Misfit {
     fn fmt<W: fmt::Write>(&self, f: &mut fmt::Formatter<W>) -> fmt::Result {
         let (error, usage) = match self {
+            Misfit::FromAboveTo(from, to) => {
+                writeln!(
+                    f,
+                    "error: invalid value '{to}' for '--to <to>': below --from {from}\n"
+                )?;
+                return writeln!(f, "For more information, try '--help'.");
+            }
             Misfit::DrawWithoutWalk => (LACKS_WALK, DRAW_USAGE),
             Misfit::ExploreWithoutWalk => (LACKS_WALK, EXPLORE_USAGE),
             Misfit::WalkWithCount => ("error: unexpected argument '--count' found", EXPLORE_USAGE),

@@ -6,8 +6,7 @@ ghost use Rattle.mx_cli.specs.Frames.{Runs, alone, both};
 ghost use Rattle.mx_cli.specs.Words.{names_of, texts_of};
 ghost use Rattle.mx_cli.specs.Requests.{AskNothing, request_asked, request_of};
 ghost use Rattle.mx_cli.specs.Reports.{Answers, Declines, seen};
-ghost use Rattle.mx_scripts.specs.Printed.{IsOnText};
-ghost use Rattle.mx_dispatch.specs.Program.{Does};
+ghost use Rattle.mx_dispatch.specs.Program.{Does, IsOnEither};
 
 use mx_cli::{Command, Files, Names, Request, front, parse, refuse, report_misfit};
 use mx_count::Count;
@@ -16,8 +15,8 @@ use mx_driver::{Check, Replay};
 use mx_explain::explain;
 use mx_io::{Output, Source};
 use mx_judge::Judge;
-use mx_picture::{Picture, TracePicture};
-use mx_scripts::{OnScript, Script};
+use mx_picture::{Picture, PictureScript, TracePicture};
+use mx_scripts::{OnScript, ReplayScript, Script};
 use std::alloc::Global;
 
 /// Runs the words of a command line, without the program's name, and returns the exit status: 0 if
@@ -77,9 +76,11 @@ fn carry_out<S: Source, O: Output, E: Output>(
         } => {
             let replay = Replay(*view);
             let names_texts = replay.has_options();
+            let scripted = ReplayScript(*view);
             run_text(
                 alloc,
                 &replay,
+                &scripted,
                 names,
                 names_texts,
                 *is_script,
@@ -113,7 +114,10 @@ fn carry_out<S: Source, O: Output, E: Output>(
                 part: *part,
                 only_letters: *only_letters,
             };
-            run_text(alloc, &picture, names, true, *is_script, source, out, err)
+            let scripted = PictureScript(picture);
+            run_text(
+                alloc, &picture, &scripted, names, true, *is_script, source, out, err,
+            )
         }
         Request::PictureTrace(names, part) => {
             run_both(alloc, &TracePicture(*part), names, true, source, out, err)
@@ -124,7 +128,10 @@ fn carry_out<S: Source, O: Output, E: Output>(
             is_script,
         } => {
             let count = Count { is_json: *is_json };
-            run_text(alloc, &count, names, true, *is_script, source, out, err)
+            let scripted = OnScript(&count);
+            run_text(
+                alloc, &count, &scripted, names, true, *is_script, source, out, err,
+            )
         }
         Request::Judge { names, is_json } => {
             let judge = Judge { is_json: *is_json };
@@ -156,10 +163,11 @@ fn run_alone<C: Command, S: Source, O: Output, E: Output>(
     front(alloc, command, &Files::alone(plan), source, out, err)
 }
 
-/// Runs a command on a plan and a file of events, or a script in their place.
-fn run_text<C: Command, S: Source, O: Output, E: Output>(
+/// Runs a command on a plan and a file of events, or another one on a plan and a script.
+fn run_text<C: Command, D: Command, S: Source, O: Output, E: Output>(
     alloc: Global,
     command: &C,
+    scripted: &D,
     names: &Names<'_>,
     names_texts: bool,
     is_script: bool,
@@ -167,13 +175,13 @@ fn run_text<C: Command, S: Source, O: Output, E: Output>(
     out: &mut O,
     err: &mut E,
 ) -> u8
-    ensures { Runs (IsOnText is_script (C.reports command.now)) (S.told source.old)
-        (both (names_of names.now) names_texts) (O.takes_all out.old) (E.takes_all err.old)
+    ensures { Runs (IsOnEither is_script (D.reports scripted.now) (C.reports command.now))
+        (S.told source.old) (both (names_of names.now) names_texts)
+        (O.takes_all out.old) (E.takes_all err.old)
         (seen O.Output E.Output out.old err.old) (seen O.Output E.Output out.new err.new) result }
 {
     if is_script {
-        let scripted = OnScript(command);
-        return run_both(alloc, &scripted, names, names_texts, source, out, err);
+        return run_both(alloc, scripted, names, names_texts, source, out, err);
     }
     run_both(alloc, command, names, names_texts, source, out, err)
 }

@@ -30,7 +30,7 @@ use Rattle.mx_format.specs.LetterTexts.{letter_text}
 use Rattle.mx_format.specs.Lines.{each_text, texts_from}
 use Rattle.mx_format.specs.NodeTexts.{member_json, member_line}
 use Rattle.mx_format.specs.ParcelTexts.{parcel_json, parcel_line}
-use Rattle.mx_format.specs.StuckTexts.{stuck_text}
+use Rattle.mx_format.specs.StuckTexts.{WaiterState, stuck_text}
 use Rattle.mx_format.specs.Parts.{Parts, maekawa_parts, raymond_parts, ricart_parts}
 use Rattle.mx_cli.specs.Printing.{Report}
 use Rattle.mx_driver.specs.Runs.{Texts, at_rest, report_from}
@@ -109,17 +109,19 @@ module _ {H S M : Type 0} (p : Fields) (view : View) (core : Core H S M) (knows 
     abbrev pub shown_owner : ClusterState S M → Entry → Text
     shown_owner g entry = option_map_or (shown_node g.members) (owner_of g.sent entry.event) []
 
-    -- if the view has states, the line of a run that stands still
-    abbrev pub shown_stuck : ClusterState S M → Text
-    shown_stuck g =
-        where_shown view.has_state (stuck_text view.is_json p (stuck_in core knows g))
+    -- if the view has states, the line of a run that stands still, in which these nodes wait
+    abbrev pub shown_waiters : List WaiterState → Text
+    shown_waiters waiters = where_shown view.has_state (stuck_text view.is_json p waiters)
 
-    -- the lines of the nodes that are shown, that of a run that stands still, and the verdict,
-    -- which is sound
-    abbrev pub shown_closing : ClusterState S M → Text
-    shown_closing g =
+    -- the lines of the nodes that are shown, that of a run that stands still, in which these nodes
+    -- wait, and the verdict, which is sound
+    abbrev pub closing_with : List WaiterState → ClusterState S M → Text
+    closing_with waiters g =
         texts_from shown_member 0 g.members
-        ++ (shown_stuck g ++ verdict_text view.is_json Sound)
+        ++ (shown_waiters waiters ++ verdict_text view.is_json Sound)
+
+    abbrev pub shown_closing : ClusterState S M → Text
+    shown_closing g = closing_with (stuck_in core knows g) g
 
 module _ {H S M : Type 0} (core : Core H S M) (parts : M → Parts) (p : Fields) (view : View)
     (knows : S → List Known) where

@@ -3,13 +3,15 @@
 
 ghost use Rattle.std.specs.Prelude.{◌≡◌, ◌<◌, ◌++◌, length, string_bytes, IfOk, OnOk};
 ghost use Rattle.mx_format.specs.Lines.{texts_from};
-ghost use Rattle.mx_driver.specs.Shown.{shown_closing, shown_member, shown_node, shown_stuck};
+ghost use Rattle.mx_format.specs.StuckTexts.{stuck_text};
+ghost use Rattle.mx_driver.specs.Shown.{closing_with, shown_closing, shown_member, shown_node, shown_waiters, where_shown};
+ghost use Rattle.mx_driver.specs.Standstill.{stuck_in};
 
 use crate::standstill::stuck_in;
 use crate::verdicts::add_verdict;
 use crate::view::View;
 use mx_explorer::{Verdict, judge};
-use mx_format::{add_facts_line, add_member_line, add_node_json, add_stuck};
+use mx_format::{Waiter, add_facts_line, add_member_line, add_node_json, add_stuck};
 use mx_knowledge::Knowledge;
 use mx_member::Member;
 use mx_network::Cluster;
@@ -33,14 +35,34 @@ impl View {
             ++ shown_closing plan.now self.now C.core C.knows cluster.now) }
         ensures sound { IfOk result (λ verdict. verdict ≡ Verdict.Sound) }
     {
+        let waiters = self.waiters(alloc, plan, cluster)?;
+        self.add_closing_with(alloc, plan, cluster, waiters.as_slice(), text)
+    }
+
+    /// Appends the same of a run in which these nodes wait, since it stands still; or none, if it
+    /// does not.
+    pub fn add_closing_with<C: Exclusion + Knowledge>(
+        &self,
+        alloc: Global,
+        plan: &Plan,
+        cluster: &Cluster<C>,
+        waiters: &[Waiter],
+        text: &mut String,
+    ) -> Result<Verdict, AllocError>
+        requires { length cluster.now.members ≡ length plan.now.nodes }
+        ensures text { OnOk result (string_bytes text.new ≡ string_bytes text.old
+            ++ closing_with plan.now self.now C.core C.knows waiters.now cluster.now) }
+        ensures sound { IfOk result (λ verdict. verdict ≡ Verdict.Sound) }
+    {
         self.add_nodes(alloc, plan, cluster, text)?;
-        self.add_standstill(alloc, plan, cluster, text)?;
+        self.add_waiters(plan, waiters, text)?;
         let verdict = judge(cluster.trace());
         add_verdict(self.is_json, verdict, text)?;
         Ok(verdict)
     }
 
-    fn add_nodes<C: Exclusion + Knowledge>(
+    /// Appends what is shown of each node.
+    pub fn add_nodes<C: Exclusion + Knowledge>(
         &self,
         alloc: Global,
         plan: &Plan,
@@ -57,23 +79,40 @@ impl View {
         Ok(())
     }
 
-    /// Appends the line of a run that stands still, if the view has states.
-    fn add_standstill<C: Exclusion + Knowledge>(
+    /// Returns the nodes that wait in a run that stands still, if the view has states.
+    fn waiters<C: Exclusion + Knowledge>(
         &self,
         alloc: Global,
         plan: &Plan,
         cluster: &Cluster<C>,
+    ) -> Result<Vec<Waiter>, AllocError>
+        requires { length cluster.now.members ≡ length plan.now.nodes }
+        ensures { IfOk result (λ waiters.
+            shown_waiters plan.now self.now C.core C.knows waiters.items
+            ≡ shown_waiters plan.now self.now C.core C.knows
+            (stuck_in C.core C.knows cluster.now)) }
+    {
+        if !self.has_state {
+            return Ok(Vec::new(alloc));
+        }
+        stuck_in(alloc, plan, cluster)
+    }
+
+    /// Appends the line of a run in which these nodes wait, if the view has states.
+    fn add_waiters(
+        &self,
+        plan: &Plan,
+        waiters: &[Waiter],
         text: &mut String,
     ) -> Result<(), AllocError>
-        requires { length cluster.now.members ≡ length plan.now.nodes }
         ensures { OnOk result (string_bytes text.new ≡ string_bytes text.old
-            ++ shown_stuck plan.now self.now C.core C.knows cluster.now) }
+            ++ where_shown self.now.has_state
+            (stuck_text self.now.is_json plan.now waiters.now)) }
     {
         if !self.has_state {
             return Ok(());
         }
-        let waiters = stuck_in(alloc, plan, cluster)?;
-        add_stuck(plan, self.is_json, waiters.as_slice(), text)
+        add_stuck(plan, self.is_json, waiters, text)
     }
 
     /// Appends what is shown of one node.

@@ -38,7 +38,8 @@ impl View {
         has_state: false,
     };
 
-    pub(crate) fn shows_node(&self, node: NodeId) -> bool
+    /// Whether this node is shown.
+    pub fn shows_node(&self, node: NodeId) -> bool
         ensures { result ≡ shows self.now.node node }
     {
         match self.node {
@@ -47,7 +48,8 @@ impl View {
         }
     }
 
-    pub(crate) fn shows_parcel<M>(&self, sent: &SentParcel<'_, M>) -> bool
+    /// Whether the sender or the addressee of a parcel is shown.
+    pub fn shows_parcel<M>(&self, sent: &SentParcel<'_, M>) -> bool
         ensures { result ≡ shows_parcel self.now.node
             (sent.now.from, sent.now.to, sent.now.parcel.now) }
     {

@@ -5,16 +5,19 @@ use crate::location::Part;
 use crate::notes::Notes;
 use crate::plan_fault::{NODE, NUMBER, wrong_word};
 use crate::report::{Report, ReportResult};
-use crate::script_lines::add_meant;
+use crate::script_lines::script_begin;
 use crate::spot::Spot;
 use json::{Error, Scratch, Value};
 use mx_cli::{Fault, split_line};
 use mx_events::{ArgumentKind, EventKind};
-use mx_lines::{FirstWords, Listed, Names};
+use mx_lines::{FirstWords, Listed, Meant, Names, meant_by};
 use mx_plan::{Place, Plan, PlanFault};
 use std::alloc::{AllocError, Global};
 
 const EVENTS: &str = "an array of events, as [[\"ask\",NODE],[\"deliver\",0]]";
+
+const SCRIPT: &str =
+    " found the lines of a script, expected JSON; scripts are explained with --script";
 
 /// Reports the refused events of a list, and its fault, if it has one.
 pub(crate) fn explain_events(
@@ -29,6 +32,9 @@ pub(crate) fn explain_events(
     };
     if is_trace(report.alloc(), part.text)? {
         return add_trace(report, &part);
+    }
+    if let Some(offset) = script_begin(report.alloc(), part.text)? {
+        return report.add_at(&part, offset, SCRIPT);
     }
     let mut scratch = Scratch::new(report.alloc());
     let Some(events) = read_value(report, &part, &mut scratch)? else {
@@ -141,7 +147,7 @@ fn add_word(report: &mut JsonReport<'_>, spot: Spot<'_, '_>) -> ReportResult {
     let alloc = report.alloc();
     let known = FirstWords::OfEvents.listed(alloc)?;
     let mut expected = format!(in alloc; "{}", Listed(known.as_slice()))?;
-    add_meant(spot.text(), known.as_slice(), &mut expected)?;
+    expected.write(Meant(meant_by(spot.text(), known.as_slice())))?;
     let (expected, known) = (expected.as_str(), known.as_slice());
     report.add_wrong(&Wrong {
         spot,

@@ -3,9 +3,9 @@
 use crate::location::Part;
 use crate::report::{MAX_LINES, Report, ReportResult};
 use crate::spot::index_in;
-use mx_lines::{Expected, FirstWords, first_error, message, place_of_word, words_in};
+use mx_lines::{FirstWords, first_error, message, place_of_word, words_in};
 use mx_plan::Plan;
-use std::alloc::AllocError;
+use std::alloc::{AllocError, Global};
 
 /// Reports the first wrong word of each line of a script; of a text of JSON, that it is no script.
 pub(crate) fn explain_lines(report: &mut Report, part: &Part<'_>, plan: &Plan) -> ReportResult {
@@ -36,6 +36,33 @@ fn json_begin(text: &[u8]) -> Option<usize> {
     }
 }
 
+/// Returns the byte at which a text begins, after blank lines and comments, if it begins with a word
+/// of scripts.
+pub(crate) fn script_begin(alloc: Global, text: &[u8]) -> Result<Option<usize>, AllocError> {
+    let Some((begin, word)) = str::from_utf8(text).ok().and_then(first_word) else {
+        return Ok(None);
+    };
+    let known = FirstWords::OfScripts.listed(alloc)?;
+    Ok(index_in(word, known.as_slice()).map(|_| begin))
+}
+
+/// Returns the first word of a script, and the byte at which it begins.
+fn first_word(text: &str) -> Option<(usize, &str)> {
+    let mut begin = 0usize;
+    for line in text.split('\n') {
+        if let Some(place) = place_of_word(line, 0) {
+            let word = line.get(place..)?.split(ends_word).next()?;
+            return Some((begin.saturating_add(place), word));
+        }
+        begin = begin.saturating_add(line.len()).saturating_add(1);
+    }
+    None
+}
+
+fn ends_word(character: char) -> bool {
+    character == '#' || character.is_whitespace()
+}
+
 /// Reports what is wrong in a line that begins at the byte `begin` of the part, if that is to be
 /// shown. Returns whether something is.
 fn report_line(
@@ -62,34 +89,9 @@ fn report_line(
         return Ok(false);
     };
     if is_shown {
-        let mut text = message(alloc, plan, FirstWords::OfScripts, words.as_slice(), &error)?;
-        if let Expected::Word = error.expected {
-            let word = words.get(error.word).copied().unwrap_or("");
-            let known = FirstWords::OfScripts.listed(alloc)?;
-            add_meant(word, known.as_slice(), &mut text)?;
-        }
+        let text = message(alloc, plan, FirstWords::OfScripts, words.as_slice(), &error)?;
         let place = place_of_word(line, error.word).unwrap_or(0);
         report.add_at(part, begin.saturating_add(place), text.as_str())?;
     }
     Ok(true)
-}
-
-/// Words that neither events nor scripts use, each with the word that is meant instead.
-const MEANT: [(&str, &str); 6] = [
-    ("request", "ask"),
-    ("send", "deliver"),
-    ("drop", "lose"),
-    ("release", "leave"),
-    ("crash", "cut"),
-    ("quit", "leave"),
-];
-
-/// Appends which of the known words is meant by a wrong one, if that is known.
-pub(crate) fn add_meant(word: &str, known: &[&str], text: &mut String) -> ReportResult {
-    for (other, meant) in &MEANT {
-        if *other == word && index_in(meant, known).is_some() {
-            write!(text, "; \"{meant}\" is meant")?;
-        }
-    }
-    Ok(())
 }

@@ -10,7 +10,7 @@ use Rattle.mx_cli.specs.Printing.{IsStopWith, Prints, Report, Sight, ends, has_l
 use Rattle.mx_cli.specs.declared.stop.Stop.{Stop}
 use Rattle.mx_cli.specs.declared.stop.Stop.TheVariants as stop
 use Rattle.mx_cli.proofs.FrameLemmas.{line_prints, memory_prints}
-use Rattle.mx_judge.specs.Faults.{trace_line}
+use Rattle.mx_judge.specs.Faults.{IsFaultReport, IsMessageOf, trace_line}
 use Rattle.mx_judge.specs.Judged.{IsJudged, IsJudgement}
 use Rattle.mx_judge.specs.Listed.{Listed}
 use Rattle.mx_judge.specs.Reasons.{reason_at, reason_of}
@@ -41,17 +41,22 @@ module _ (j : Bool) (p : Fields) (text : Text) where
       subst (λ (x : Result Listed TraceFault). IsJudged j p (place_word text) x r) (sym read) (subst (λ (w : Text). IsJudged j p w (Ok t) r) same h)
 
   -- a report on a text that lists no trace
-  pub judged_fault : (bad : TraceFault) → trace_at p text ≡ Err bad → IsJudgement j p text (ends (has_line (trace_line bad)))
-  judged_fault bad read = subst (λ (t : Result Listed TraceFault). IsJudged j p (place_word text) t (ends (has_line (trace_line bad)))) (sym read) refl
+  pub judged_fault : (bad : TraceFault) → trace_at p text ≡ Err bad → (r : Report) → IsFaultReport bad r → IsJudgement j p text r
+  judged_fault bad read r h = subst (λ (t : Result Listed TraceFault). IsJudged j p (place_word text) t r) (sym read) h
+
+-- the line of a fault, with a message after it
+abbrev pub HasFaultLine : TraceFault → Stop → Type 0
+HasFaultLine bad s = (message : Text) × IsMessageOf bad message × IsStopWith (trace_line bad message) s
 
 -- a trace is wanted that has a fault, or memory ran out
-pub fault_read : (wanted : Result Listed TraceFault) (bad : TraceFault) (s : Stop) → (wanted ≡ Err bad) ⊎ (bad ≡ fault.Memory) → IsStopWith (trace_line bad) s → (bad ≡ fault.Memory → s ≡ stop.Memory)
+pub fault_read : (wanted : Result Listed TraceFault) (bad : TraceFault) (s : Stop) → (wanted ≡ Err bad) ⊎ (bad ≡ fault.Memory) → HasFaultLine bad s → (bad ≡ fault.Memory → s ≡ stop.Memory)
     → Reads wanted (Err s)
-fault_read wanted bad s (inl read) line memory = inl (bad, read, line)
+fault_read wanted bad s (inl read) line memory = inl (bad, line.0, read, line.1, line.2)
 fault_read wanted bad s (inr out) line memory = inr (memory out)
 
 -- a trace is wanted that is at fault, whose line is the report; or memory ran out
-pub stops : (IsReport : Report → Type 0) (wanted : Result Listed TraceFault) (o : Sight) (s : Stop) → ((bad : TraceFault) → wanted ≡ Err bad → IsReport (ends (has_line (trace_line bad))))
+pub stops : (IsReport : Report → Type 0) (wanted : Result Listed TraceFault) (o : Sight) (s : Stop) → ((bad : TraceFault) → wanted ≡ Err bad → (r : Report) → IsFaultReport bad r → IsReport r)
     → Reads wanted (Err s) → Prints IsReport o o (Err s)
-stops IsReport wanted o s told (inl known) = line_prints IsReport (trace_line known.0) o s (told known.0 known.1) known.2
+stops IsReport wanted o s told (inl known) =
+    line_prints IsReport (trace_line known.0 known.1) o s (told known.0 known.2 (ends (has_line (trace_line known.0 known.1))) (known.1, known.3, refl)) known.4
 stops IsReport wanted o s told (inr out) = rw out (memory_prints IsReport o)

@@ -24,11 +24,18 @@ use Rattle.mx_judge.specs.declared.members.Member.TheVariants as member
 use Rattle.mx_judge.specs.declared.faults.ItemFault.{ItemFault}
 use Rattle.mx_judge.specs.declared.faults.ItemFault.TheVariants.{NoOutcome, NotEvent, Wrong}
 
--- the object is that of a message, a node, a run that stands still or a verdict
+-- the object is that of a line of a script, a lost parcel or a change of links
+abbrev pub is_of_script : Data → Bool
+is_of_script d =
+    has_member (codes "line") d || has_member (codes "lost") d || has_member (codes "cut") d
+    || has_member (codes "heal") d
+
+-- the object is that of a message, a node, a run that stands still, a verdict, or of what a script
+-- does beside events
 abbrev pub is_passed_over : Data → Bool
 is_passed_over d =
     has_member (codes "kind") d || has_member (codes "phase") d || has_member (codes "stuck") d
-    || has_member (codes "verdict") d
+    || has_member (codes "verdict") d || is_of_script d
 
 -- the text of the first item; empty, if there is none or it is not a text
 abbrev pub first_text : List Data → Text

@@ -8,11 +8,11 @@ use Rattle.mx_explorer.specs.declared.verdict.Clause.{Clause}
 use Rattle.mx_explorer.specs.declared.verdict.Verdict.{Verdict}
 use Rattle.mx_explorer.specs.declared.verdict.Verdict.TheVariants.{Sound, Broken}
 use Rattle.mx_driver.specs.VerdictLines.{clause_text, verdict_line, verdict_status}
-use Rattle.mx_cli.specs.Printing.{IsWhole, Report, ends, has_line}
+use Rattle.mx_cli.specs.Printing.{IsWhole, Report}
 use Rattle.mx_format.specs.Lines.{texts_from}
 use Rattle.mx_format.specs.Members.{number_member, word_member, word_start}
 use Rattle.mx_judge.specs.EntryJson.{sending_json}
-use Rattle.mx_judge.specs.Faults.{trace_line}
+use Rattle.mx_judge.specs.Faults.{IsFaultReport}
 use Rattle.mx_judge.specs.Listed.{Listed, place_of}
 use Rattle.mx_judge.specs.Reasons.{entered_in, reason_for}
 use Rattle.mx_judge.specs.Traces.{place_word, trace_at}
@@ -90,7 +90,7 @@ abbrev pub IsJudged : Bool → Fields → Text → Result Listed TraceFault → 
 IsJudged is_json p word (Ok t) r =
     (verdict : Verdict) × IsVerdictOf t.entries verdict
     × IsWhole (judgement_text is_json p word t verdict) (verdict_status verdict) r
-IsJudged is_json p word (Err fault) r = r ≡ ends (has_line (trace_line fault))
+IsJudged is_json p word (Err fault) r = IsFaultReport fault r
 
 -- a report of `judge` on the trace in a text
 abbrev pub IsJudgement : Bool → Fields → Text → Report → Type 0

@@ -12,7 +12,7 @@ use Rattle.mx_cli.specs.Printing.{IsStopWith}
 use Rattle.mx_cli.specs.declared.stop.Stop.{Stop}
 use Rattle.mx_cli.specs.declared.stop.Stop.TheVariants as stop
 use Rattle.mx_judge.specs.Entries.{is_passed_over, item_of}
-use Rattle.mx_judge.specs.Faults.{line_fault, list_fault, trace_line}
+use Rattle.mx_judge.specs.Faults.{IsMessageOf, line_fault, list_fault, trace_line}
 use Rattle.mx_judge.specs.Listed.{Listed, listed, nothing, with_message, with_one}
 use Rattle.mx_judge.specs.Members.{has_member}
 use Rattle.mx_judge.specs.Messages.{Sent}
@@ -37,7 +37,8 @@ Gives wanted (Err fault) = (wanted ≡ Err fault) ⊎ (fault ≡ Memory)
 abbrev pub Reads : Result Listed TraceFault → Result Trace Stop → Type 0
 Reads wanted (Ok trace) = wanted ≡ Ok (listed trace)
 Reads wanted (Err end) =
-    ((fault : TraceFault) × (wanted ≡ Err fault) × IsStopWith (trace_line fault) end)
+    ((fault : TraceFault) × (message : Text) × (wanted ≡ Err fault) × IsMessageOf fault message
+    × IsStopWith (trace_line fault message) end)
     ⊎ (end ≡ stop.Memory)
 
 -- a space, a tab, a line feed or a carriage return

@@ -51,6 +51,17 @@ pub(crate) fn is_passed_over(value: &Value) -> bool
         || has_member(value, "phase")
         || has_member(value, "stuck")
         || has_member(value, "verdict")
+        || is_of_script(value)
+}
+
+/// Returns whether a value describes what a script does beside events.
+fn is_of_script(value: &Value) -> bool
+    ensures { result ≡ spec.is_of_script (view value.now) }
+{
+    has_member(value, "line")
+        || has_member(value, "lost")
+        || has_member(value, "cut")
+        || has_member(value, "heal")
 }
 
 fn is_bare_event(value: &Value) -> bool

@@ -1,12 +1,10 @@
 //! The faults of a trace.
 
 ghost use Rattle.std.specs.Prelude.{◌≡◌, Some};
-ghost use Rattle.mx_cli.specs.Printing.{IsStopWith};
-ghost use Rattle.mx_judge.specs.Faults.{item_text, line_fault, list_fault, trace_line};
+ghost use Rattle.mx_judge.specs.Faults.{fault_text, item_text, line_fault, list_fault, wrong_in, wrong_member};
 
 use crate::members::Member;
-use mx_cli::{Stop, stop_with};
-use std::alloc::{AllocError, Global};
+use std::alloc::AllocError;
 use std::fmt;
 
 /// The fault of a line of a trace, or of an item of an array.
@@ -26,6 +24,18 @@ pub(crate) enum ItemFault {
     /// There are 1,000,000 events before it.
     TooMany,
     Memory,
+}
+
+impl ItemFault {
+    /// Returns the member that is missing or wrong, if that is the fault.
+    fn wrong_member(self) -> Option<Member>
+        ensures { result ≡ wrong_in self }
+    {
+        match self {
+            ItemFault::Wrong(member) => Some(member),
+            _ => None,
+        }
+    }
 }
 
 impl fmt::Display for ItemFault {
@@ -87,29 +97,28 @@ impl TraceFault {
             _ => TraceFault::Item(number, fault),
         }
     }
-}
 
-impl fmt::Display for TraceFault {
-    ghost output = { λ fault. Some (trace_line fault) };
-
-    fn fmt<W: fmt::Write>(&self, f: &mut fmt::Formatter<W>) -> fmt::Result {
+    /// Returns the member that is missing or wrong, if that is the fault.
+    pub(crate) fn wrong_member(self) -> Option<Member>
+        ensures { result ≡ wrong_member self }
+    {
         match self {
-            TraceFault::NotJson => f.write_str("mx: trace: not json\n"),
-            TraceFault::Plan => f.write_str("mx: trace: a plan, not a trace\n"),
-            TraceFault::Line(number, fault) => writeln!(f, "mx: trace: line {number}: {fault}"),
-            TraceFault::Item(number, fault) => writeln!(f, "mx: trace: item {number}: {fault}"),
-            TraceFault::Memory => f.write_str("mx: trace: out of memory\n"),
+            TraceFault::Line(_, fault) | TraceFault::Item(_, fault) => fault.wrong_member(),
+            _ => None,
         }
     }
 }
 
-/// Returns the reason to stop that has the line of a fault.
-pub(crate) fn stop_at(alloc: Global, fault: TraceFault) -> Stop
-    ensures line { IsStopWith (trace_line fault) result }
-    ensures memory { fault ≡ TraceFault.Memory → result ≡ Stop.Memory }
-{
-    match fault {
-        TraceFault::Memory => Stop::Memory,
-        _ => stop_with(alloc, fault),
+impl fmt::Display for TraceFault {
+    ghost output = { λ fault. Some (fault_text fault) };
+
+    fn fmt<W: fmt::Write>(&self, f: &mut fmt::Formatter<W>) -> fmt::Result {
+        match self {
+            TraceFault::NotJson => f.write_str("mx: trace: not json"),
+            TraceFault::Plan => f.write_str("mx: trace: a plan, not a trace"),
+            TraceFault::Line(number, fault) => write!(f, "mx: trace: line {number}: {fault}"),
+            TraceFault::Item(number, fault) => write!(f, "mx: trace: item {number}: {fault}"),
+            TraceFault::Memory => f.write_str("mx: trace: out of memory"),
+        }
     }
 }

@@ -4,6 +4,7 @@
 
 mod entry_json;
 mod entry_reader;
+mod fault_line;
 mod faults;
 mod judge_command;
 mod judgement;
@@ -14,6 +15,7 @@ mod reasons;
 mod scene;
 mod trace;
 mod trace_reader;
+mod wrong_member;
 
 pub use judge_command::Judge;
 pub use judgement::{clause_word, judgement_of};

@@ -69,6 +69,17 @@ impl Member {
             _ => "not a number",
         }
     }
+
+    /// Returns what is expected of the member, or `None` if it is one of a few words.
+    pub(crate) fn expected(self) -> Option<&'static str> {
+        match self {
+            Member::Act | Member::Outcome | Member::Cause => None,
+            Member::Node | Member::From | Member::To | Member::Of => Some("a node of the plan"),
+            Member::Register => Some("a register of the plan"),
+            Member::Kind => Some("a text"),
+            _ => Some("a whole number of 64 bits without a sign"),
+        }
+    }
 }
 
 pub(crate) fn has_member(value: &Value, key: &str) -> bool

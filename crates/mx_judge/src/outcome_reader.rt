@@ -13,6 +13,20 @@ use mx_stamps::{NodeId, Stamp};
 use mx_trace::{Boxed, Cause, Outcome};
 use serde_json::Value;
 
+/// The causes of a refusal, in words.
+pub(crate) const CAUSES: [&str; 10] = [
+    "not idle",
+    "stamps spent",
+    "not waiting",
+    "not granted",
+    "numbers spent",
+    "not inside",
+    "no register",
+    "gap",
+    "full",
+    "below",
+];
+
 /// Reads the outcome of an event. The receipt of an exit goes into the box `room`.
 pub(crate) fn outcome_in(
     event: &Event,
@@ -34,7 +48,7 @@ pub(crate) fn outcome_in(
     Err(ItemFault::NoOutcome)
 }
 
-fn word_of_done(kind: EventKind) -> &'static str
+pub(crate) fn word_of_done(kind: EventKind) -> &'static str
     ensures { result.now ≡ spec.word_of_done kind }
 {
     match kind {

@@ -11,7 +11,8 @@ ghost use Rattle.mx_judge.specs.Members.{Answers};
 ghost use Rattle.mx_judge.specs.Traces as spec;
 
 use crate::entry_reader::{Item, is_passed_over, item_in, items_in};
-use crate::faults::{ItemFault, TraceFault, stop_at};
+use crate::fault_line::stop_at;
+use crate::faults::{ItemFault, TraceFault};
 use crate::members::has_member;
 use crate::trace::Trace;
 use mx_cli::{Stop, split_line};
@@ -31,7 +32,7 @@ pub fn trace_in(alloc: Global, plan: &Plan, text: &[u8]) -> Result<Trace, Stop>
 {
     match read_trace(alloc, text, plan) {
         Ok(trace) => Ok(trace),
-        Err(fault) => Err(stop_at(alloc, fault)),
+        Err(fault) => Err(stop_at(alloc, plan, text, fault)),
     }
 }
 

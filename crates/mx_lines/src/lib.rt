@@ -21,7 +21,8 @@ pub use errors::{Expected, LineError, LineFault, OwnWord};
 pub use escapes::{Escaped, add_escaped_text};
 pub use line::{Line, ScriptLine, first_error, read_line};
 pub use messages::{
-    FirstWords, Listed, Nearest, Quoted, message, message_of_line, message_of_unknown_node,
+    FirstWords, Listed, Meant, Nearest, Quoted, meant_by, message, message_of_line,
+    message_of_unknown_node,
 };
 pub use names::Names;
 pub use numbers::number_of;

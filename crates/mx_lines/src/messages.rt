@@ -28,6 +28,19 @@ const SESSION_WORDS: [&str; 10] = [
     "show", "undo", "redo", "events", "script", "mark", "help", "end", "quit", "exit",
 ];
 
+/// The words that end a session. None is suggested in place of a wrong word.
+const ENDING_WORDS: [&str; 3] = ["end", "quit", "exit"];
+
+/// Words that neither events nor scripts use, each with the word that is meant instead.
+const MEANT_WORDS: [(&str, &str); 6] = [
+    ("request", "ask"),
+    ("send", "deliver"),
+    ("drop", "lose"),
+    ("release", "leave"),
+    ("crash", "cut"),
+    ("quit", "leave"),
+];
+
 /// With which words an event or a line may begin.
 #[derive(Clone, Copy, PartialEq, Eq)]
 pub enum FirstWords {
@@ -85,16 +98,48 @@ pub fn message<N: Names>(
         Expected::Register => names.register_names(alloc)?,
         _ => Vec::new(alloc),
     };
+    let is_list = matches!(error.expected, Expected::Word);
     let mut text = String::new(alloc);
     text.write(Wrong {
         word,
         after: words_after(words, error),
         expected: expected_text(error.expected),
         known: known.as_slice(),
-        nearest: nearest(alloc, word, known.as_slice())?,
-        is_list: matches!(error.expected, Expected::Word),
+        nearest: suggested(alloc, word, known.as_slice(), is_list)?,
+        is_list,
     })?;
+    if is_list {
+        text.write(Meant(meant_by(word, known.as_slice())))?;
+    }
     Ok(text)
+}
+
+/// Returns the nearest of the known names or words, but no word that ends a session.
+fn suggested<'a>(
+    alloc: Global,
+    word: &str,
+    known: &[&'a str],
+    are_words: bool,
+) -> Result<Option<&'a str>, AllocError> {
+    let near = nearest(alloc, word, known)?;
+    match near {
+        Some(ending) if are_words && is_among(ending, &ENDING_WORDS) => Ok(None),
+        _ => Ok(near),
+    }
+}
+
+fn is_among(word: &str, words: &[&str]) -> bool {
+    words.iter().any(|other| *other == word)
+}
+
+/// Returns which of the known words is meant by a word that is none of them, if that is clear.
+pub fn meant_by(word: &str, known: &[&str]) -> Option<&'static str> {
+    for (other, meant) in &MEANT_WORDS {
+        if *other == word && is_among(meant, known) {
+            return Some(*meant);
+        }
+    }
+    None
 }
 
 /// Returns the message about a line whose words are right, but that can't be done: a space, and the
@@ -272,6 +317,19 @@ impl Display for Quoted<'_> {
             return write!(f, "a text of {} bytes", text.len());
         }
         write!(f, "{text:?}")
+    }
+}
+
+/// The text that says which word is meant; empty if that is not clear.
+#[derive(Clone, Copy)]
+pub struct Meant<'a>(pub Option<&'a str>);
+
+impl Display for Meant<'_> {
+    fn fmt<W: fmt::Write>(&self, f: &mut fmt::Formatter<W>) -> fmt::Result {
+        match self.0 {
+            Some(word) => write!(f, "; {word:?} is meant"),
+            None => Ok(()),
+        }
     }
 }
 

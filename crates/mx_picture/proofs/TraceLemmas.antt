@@ -3,7 +3,7 @@ use Rattle.std.proofs.Common.{◌≡◌, ◌∙◌, ℕ, Option, None, Some, Res
 use Rattle.std.specs.Prelude.{MatchResult}
 use Rattle.mx_plan.specs.Text.{Text}
 use Rattle.mx_plan.specs.Fields.{Fields}
-use Rattle.mx_cli.specs.Printing.{Prints, Report, Sight, ends, has_fault, has_line}
+use Rattle.mx_cli.specs.Printing.{Prints, Report, Sight, ends, has_fault}
 use Rattle.mx_cli.specs.Requests.{Part}
 use Rattle.mx_cli.specs.declared.faults.Fault.{Fault}
 use Rattle.mx_cli.specs.declared.stop.Stop.TheVariants as stop
@@ -11,7 +11,7 @@ use Rattle.mx_cli.proofs.FrameLemmas.{fault_prints}
 use Rattle.mx_explorer.specs.declared.verdict.Clause.{Clause}
 use Rattle.mx_explorer.specs.declared.verdict.Verdict.{Verdict}
 use Rattle.mx_explorer.specs.declared.verdict.Verdict.TheVariants.{Broken}
-use Rattle.mx_judge.specs.Faults.{trace_line}
+use Rattle.mx_judge.specs.Faults.{IsFaultReport}
 use Rattle.mx_judge.specs.Listed.{Listed, place_of}
 use Rattle.mx_judge.specs.Reasons.{reason_at, reason_for}
 use Rattle.mx_judge.specs.Traces.{place_word, trace_at}
@@ -31,7 +31,7 @@ module _ (p : Fields) (text : Text) where
   -- a report on the trace that was read
   pub drawn_read : (word : Text) (t : Listed) → trace_at p text ≡ Ok t → word ≡ place_word text → (r : Report) → IsTraceShown p word t r → IsTraceDrawn p text r
   drawn_read word t read same r h =
-      match_ok (λ (t : Listed). IsTraceShown p (place_word text) t r) (λ fault. r ≡ ends (has_line (trace_line fault))) (trace_at p text) t read (subst (λ (w : Text). IsTraceShown p w t r) same h)
+      match_ok (λ (t : Listed). IsTraceShown p (place_word text) t r) (λ fault. IsFaultReport fault r) (trace_at p text) t read (subst (λ (w : Text). IsTraceShown p w t r) same h)
 
   module _ (part : Part) where
     -- the plan has the named node, or names none

@@ -4,10 +4,10 @@ use Rattle.mx_plan.specs.Text.{Text}
 use Rattle.mx_plan.specs.Fields.{Fields}
 use Rattle.mx_explorer.specs.declared.verdict.Verdict.{Verdict}
 use Rattle.mx_driver.specs.VerdictLines.{verdict_status}
-use Rattle.mx_cli.specs.Printing.{IsWhole, Report, ends, has_fault, has_line}
+use Rattle.mx_cli.specs.Printing.{IsWhole, Report, ends, has_fault}
 use Rattle.mx_cli.specs.Requests.{Part}
 use Rattle.mx_cli.specs.declared.faults.Fault.{Fault}
-use Rattle.mx_judge.specs.Faults.{trace_line}
+use Rattle.mx_judge.specs.Faults.{IsFaultReport}
 use Rattle.mx_judge.specs.Judged.{IsVerdictOf, judgement_text}
 use Rattle.mx_judge.specs.Listed.{Listed}
 use Rattle.mx_judge.specs.Traces.{place_word, trace_at}
@@ -26,7 +26,7 @@ IsTraceShown p word t r =
 abbrev pub IsTraceDrawn : Fields → Text → Report → Type 0
 IsTraceDrawn p text r =
     MatchResult (trace_at p text) (λ t. IsTraceShown p (place_word text) t r)
-    (λ fault. r ≡ ends (has_line (trace_line fault)))
+    (λ fault. IsFaultReport fault r)
 
 abbrev pub IsTracePicturedBy : Option Fault → Fields → Text → Report → Type 0
 IsTracePicturedBy None p text r = IsTraceDrawn p text r

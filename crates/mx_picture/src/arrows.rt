@@ -17,6 +17,8 @@ pub(crate) enum End {
     Sending,
     /// The tip: the sending is not shown.
     Delivery { is_repeat: bool },
+    /// Half of it, to where the parcel is lost, this many pixels down.
+    Loss { down: u64 },
 }
 
 /// The arrow of a parcel, or a piece of it. It begins at the height `y`, where the parcel is sent;
@@ -72,6 +74,11 @@ impl Arrow {
                     text,
                     "<path class=\"{class}{again}\" d=\"M{to} {y}m{back}{ASIDE}-{ROW}l{aside}{ASIDE} {ROW}\" marker-end=\"url(#{class})\">"
                 )
+            }
+            End::Loss { down } => {
+                write!(text, "<path class=\"lost\" d=\"M{from} {y}")?;
+                add_way(from, from.midpoint(to), down, text)?;
+                text.push_str("m-3-3l6 6m0-6l-6 6\">")
             }
         }
     }

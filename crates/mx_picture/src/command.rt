@@ -8,6 +8,7 @@ ghost use Rattle.mx_driver.specs.Runs.{AllNameNodes};
 ghost use Rattle.mx_picture.specs.Pictures.{IsDrawn, IsPictured, end_of_run, node_in, part_in};
 
 use crate::drawing::Drawing;
+use crate::losses::Losses;
 use crate::page::page_of;
 use crate::part::Part;
 use mx_cli::{Command, Fault, PicturePart, Stop, print};
@@ -36,19 +37,35 @@ impl Command for Picture<'_> {
         text: &[u8],
         out: &mut O,
     ) -> Result<u8, Stop> {
-        match read_events(alloc, text, plan) {
-            Ok(events) => draw(alloc, plan, self, events.as_slice(), out),
-            Err(fault) => Err(Stop::from(fault)),
-        }
+        draw_text(alloc, plan, self, text, Losses::new(alloc), out)
     }
 }
 
-/// Prints the picture of these events. Returns the status.
+/// Prints the picture of the events that a text lists, and of these losses. Returns the status.
+pub(crate) fn draw_text<O: Output>(
+    alloc: Global,
+    plan: &Plan,
+    picture: &Picture<'_>,
+    text: &[u8],
+    losses: Losses,
+    out: &mut O,
+) -> Result<u8, Stop>
+    ensures prints { Prints (IsPictured (part_of picture.now.part) plan.now text.now)
+        (sight O.Output out.old) (sight O.Output out.new) result }
+{
+    match read_events(alloc, text, plan) {
+        Ok(events) => draw(alloc, plan, picture, events.as_slice(), losses, out),
+        Err(fault) => Err(Stop::from(fault)),
+    }
+}
+
+/// Prints the picture of these events and losses. Returns the status.
 fn draw<O: Output>(
     alloc: Global,
     plan: &Plan,
     picture: &Picture<'_>,
     events: &[Event],
+    losses: Losses,
     out: &mut O,
 ) -> Result<u8, Stop>
     requires { AllNameNodes (length plan.now.nodes) events.now }
@@ -57,7 +74,7 @@ fn draw<O: Output>(
         (sight O.Output out.old) (sight O.Output out.new) result }
 {
     match part_of(plan, &picture.part, picture.only_letters) {
-        Ok(part) => print_picture(alloc, plan, &part, events, out),
+        Ok(part) => print_picture(alloc, plan, &part, events, losses, out),
         Err(fault) => Err(Stop::Fault(fault)),
     }
 }
@@ -96,6 +113,7 @@ fn print_picture<O: Output>(
     plan: &Plan,
     part: &Part,
     events: &[Event],
+    losses: Losses,
     out: &mut O,
 ) -> Result<u8, Stop>
     requires { AllNameNodes (length plan.now.nodes) events.now }
@@ -103,7 +121,7 @@ fn print_picture<O: Output>(
         (run_by plan.now plan.now.shape events.now).end)
         (sight O.Output out.old) (sight O.Output out.new) result }
 {
-    let mut drawing = Drawing::new(alloc, events, part)?;
+    let mut drawing = Drawing::new(alloc, events, losses, part)?;
     observe(alloc, plan, events, &mut drawing)?;
     let page = page_of(plan, events.len() as u64, part, &drawing.rows.sheet)?;
     print(page.as_bytes(), 0, out)

@@ -3,6 +3,7 @@
 ghost use Rattle.std.specs.Prelude.{◌<◌, length};
 ghost use Rattle.mx_driver.specs.Runs.{silent};
 
+use crate::losses::{Losses, draw_losses};
 use crate::omissions::{is_shown, pass_over};
 use crate::parcels::{draw_arrival, draw_sent};
 use crate::part::Part;
@@ -22,10 +23,16 @@ pub(crate) struct Drawing {
     pub(crate) rows: Rows,
     /// The numbers of the parcels that some event of the run delivers.
     pub(crate) arriving: HashSet<u64>,
+    pub(crate) losses: Losses,
 }
 
 impl Drawing {
-    pub(crate) fn new(alloc: Global, events: &[Event], part: &Part) -> Result<Self, AllocError> {
+    pub(crate) fn new(
+        alloc: Global,
+        events: &[Event],
+        losses: Losses,
+        part: &Part,
+    ) -> Result<Self, AllocError> {
         let mut arriving = HashSet::new(alloc);
         for event in events {
             if let Event::Deliver(number) = event {
@@ -35,6 +42,7 @@ impl Drawing {
         Ok(Drawing {
             rows: Rows::new(alloc, part),
             arriving,
+            losses,
         })
     }
 }
@@ -54,6 +62,7 @@ where
         cluster: &Cluster<C>,
         _text: &mut String,
     ) -> Result<(), AllocError> {
+        draw_losses(plan, index, cluster, self)?;
         draw_row(plan, index, before, cluster, self)
     }
 
@@ -61,10 +70,11 @@ where
     fn end(
         &mut self,
         _alloc: Global,
-        _plan: &Plan,
-        _cluster: &Cluster<C>,
+        plan: &Plan,
+        cluster: &Cluster<C>,
         _text: &mut String,
     ) -> Result<u8, AllocError> {
+        draw_losses(plan, u64::MAX, cluster, self)?;
         self.rows.end()?;
         Ok(0)
     }

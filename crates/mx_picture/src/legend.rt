@@ -55,6 +55,14 @@ pub(crate) static MARKS_LEGEND: Legend = Legend {
 ",
 };
 
+/// What the legend of a script that loses parcels has beside that of a run, at its right.
+pub(crate) static LOSSES_LEGEND: Legend = Legend {
+    styles: ".lost{stroke:#d55e00;stroke-dasharray:2 3}\n",
+    width: 906,
+    svg: "<path class=\"lost\" d=\"M836 11l24 12m-3-3l6 6m0-6l-6 6\"/><text x=\"872\" y=\"22\">lost</text>
+",
+};
+
 /// The legend of a trace without messages.
 pub(crate) static TRACE_LEGEND: Legend = Legend {
     styles: ".broken{fill:#d55e00;stroke:#000;stroke-width:1.2px}.reason{fill:#a04000}

@@ -5,7 +5,7 @@ ghost use Rattle.mx_picture.specs.Drawn.{IsPage, IsPicture};
 
 use crate::columns::{Columns, Lanes};
 use crate::labels::Extent;
-use crate::legend::{Legend, RUN_LEGEND, STYLES};
+use crate::legend::{LOSSES_LEGEND, Legend, RUN_LEGEND, STYLES};
 use crate::opening::{Frame, algorithm_of, title_of};
 use crate::part::Part;
 use crate::segment::y_of;
@@ -115,7 +115,7 @@ pub(crate) fn page_of(
     let head = Head {
         heading: heading.as_str(),
         legend: &RUN_LEGEND,
-        more: None,
+        more: sheet.shapes.has_losses.then_some(&LOSSES_LEGEND),
     };
     let body = body_of(plan, part, sheet, head)?;
     whole_page(sheet.shapes.alloc, title.as_str(), &body)

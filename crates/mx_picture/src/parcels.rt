@@ -103,6 +103,39 @@ pub(crate) fn draw_undelivered<S: Sent>(
         .text_with(route.from, route.side(), Tone::Air, label)
 }
 
+/// Draws the loss of a parcel in the current row, and returns whether it is shown: the sending is.
+pub(crate) fn draw_loss<S: Sent>(
+    plan: &Plan,
+    number: u64,
+    sent: &S,
+    rows: &mut Rows,
+) -> Result<bool, AllocError> {
+    write_route(plan, number, sent, &mut rows.label)?;
+    rows.label.push_str(", lost")?;
+    let title = rows.label.as_str();
+    rows.sheet.lose(number, sent.route(), title)
+}
+
+/// Writes that a parcel was lost, and `more` others, and ends the row.
+pub(crate) fn write_loss<S: Sent>(
+    plan: &Plan,
+    number: u64,
+    sent: &S,
+    more: usize,
+    rows: &mut Rows,
+) -> Result<(), AllocError> {
+    let route = sent.route();
+    write_parcel(plan, number, sent, &mut rows.label)?;
+    write!(rows.label, " to {} lost", name_of(plan, route.to))?;
+    if more > 0 {
+        write!(rows.label, ", and {more} more")?;
+    }
+    let label = rows.label.as_str();
+    rows.sheet
+        .text_with(route.from, route.side(), Tone::Air, label)?;
+    rows.sheet.next_row()
+}
+
 /// Replaces the label by the number and the text of a parcel.
 fn write_parcel<S: Sent>(
     plan: &Plan,
@@ -147,7 +180,7 @@ where
         let rows = &mut drawing.rows;
         let is_shown = is_event_shown && concerns(&sent, &rows.part);
         rows.sheet.send(is_shown, is_original(event, sent.parcel))?;
-        if is_shown && !drawing.arriving.contains(&number) {
+        if is_shown && !drawing.arriving.contains(&number) && !drawing.losses.contains(number) {
             note_undelivered(plan, number, number, &sent, rows)?;
         }
     }

@@ -63,6 +63,8 @@ pub(crate) struct Shapes {
     /// The parcels that no event delivers.
     pub(crate) undelivered: Vec<Undelivered>,
     pub(crate) links: Links,
+    /// Whether some of these end at a loss.
+    pub(crate) has_losses: bool,
     /// The other arrows. None ends in a lower row than a later one.
     pub(crate) arrows: Vec<Arrow>,
     pub(crate) names: Vec<NameRow>,
@@ -87,6 +89,7 @@ impl Shapes {
             pieces: Vec::new(alloc),
             undelivered: Vec::new(alloc),
             links: Links::new(),
+            has_losses: false,
             arrows: Vec::new(alloc),
             names: Vec::new(alloc),
             dots: Vec::new(alloc),

@@ -265,6 +265,25 @@ impl Sheet {
         }
     }
 
+    /// Draws that the parcel of this number is lost now, if the picture shows the sending. Returns
+    /// whether it does.
+    pub(crate) fn lose(
+        &mut self,
+        number: u64,
+        route: Route,
+        title: &str,
+    ) -> Result<bool, AllocError> {
+        let sent = match self.flights.get(number as usize) {
+            Some(flight) if flight.is_shown => flight.row.min(self.row),
+            _ => return Ok(false),
+        };
+        let down = y_of(self.row - sent);
+        self.shapes.has_losses = true;
+        self.shapes
+            .add_arrow(route, End::Loss { down }, y_of(sent), title)?;
+        Ok(true)
+    }
+
     /// Returns whether the arrow of the parcel of this number, delivered in the current row, is
     /// long or begins in a row that is not shown.
     pub(crate) fn is_far(&self, number: u64, route: Route) -> bool {

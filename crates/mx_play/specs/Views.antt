@@ -1,8 +1,6 @@
 -- What is shown of a session.
-use Rattle.std.specs.Prelude.{ℕ, ◌&&◌, Bool, false, List, [], ◌++◌, Option, Some, None, codes, length, slice_get, if◌then◌else◌}
-use Rattle.std.specs.List.{list_any}
+use Rattle.std.specs.Prelude.{ℕ, ◌&&◌, false, List, [], ◌++◌, Option, Some, None, codes, slice_get, if◌then◌else◌}
 use Rattle.std.specs.Option.{option_map_or}
-use Rattle.mx_stamps.specs.Lists.{each_below}
 use Rattle.mx_nodelaws.specs.Core.{Core}
 use Rattle.mx_member.specs.Member.{MemberState}
 use Rattle.mx_member.specs.declared.parcel.Parcel.{Parcel}
@@ -15,14 +13,10 @@ use Rattle.mx_format.specs.FactTexts.{facts_line}
 use Rattle.mx_format.specs.NodeTexts.{member_line}
 use Rattle.mx_format.specs.ParcelTexts.{parcel_line}
 use Rattle.mx_format.specs.StuckTexts.{stuck_text}
-use Rattle.mx_driver.specs.Standstill.{stuck_nodes}
 use Rattle.mx_scripts.specs.Fates.{is_under_way}
+use Rattle.mx_scripts.specs.Standstill.{stuck_in}
 use Rattle.mx_scripts.specs.States.{RunState}
 use Rattle.mx_play.specs.Cuts.{cut_lines, is_to}
-
--- some parcel is under way
-abbrev pub has_under_way : {S M : Type 0} → RunState S M → Bool
-has_under_way s = list_any (is_under_way s.fates) (each_below (λ k. k) (length s.cluster.sent))
 
 module _ {H S M : Type 0} (core : Core H S M) (knows : S → List Known) (p : Fields) where
   -- the line of a node, and that of what it knows
@@ -34,12 +28,9 @@ module _ {H S M : Type 0} (core : Core H S M) (knows : S → List Known) (p : Fi
   standing_lines None g = texts_from node_shown 0 g.members
   standing_lines (Some node) g = option_map_or (node_shown node) (slice_get g.members node) []
 
-  -- the line of a session that stands still, unless a node was named: no parcel is under way, and
-  -- no node is ready
+  -- the line of a session that stands still, unless a node was named
   abbrev pub stuck_shown : Option ℕ → RunState S M → Text
-  stuck_shown None s =
-      if has_under_way s then []
-      else stuck_text false p (stuck_nodes core knows s.cluster.members)
+  stuck_shown None s = stuck_text false p (stuck_in core knows s)
   stuck_shown (Some node) s = []
 
 module _ {H S M : Type 0} (core : Core H S M) (letter_text : Fields → M → Text) (p : Fields) where

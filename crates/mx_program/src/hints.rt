@@ -1,13 +1,16 @@
-//! The hint for a reader at a terminal: which command shows the place of a fault and its reason.
+//! What follows the line of a fault: where the fault is, as `explain` says it first; or, for a
+//! reader at a terminal, the command that says so.
 
 use mx_cli::{Request, parse, write_line};
-use mx_io::Output;
+use mx_explain::explain;
+use mx_io::{Output, Streams};
 use std::alloc::Global;
-use std::fmt;
+use std::rt::Files;
+use std::{fmt, fs};
 
-/// The line of a hint: `explain` with the files of another command.
+/// The files of a command, as `explain` takes them.
 #[derive(Clone, Copy)]
-struct Hint<'a> {
+struct FaultyFiles<'a> {
     plan: &'a str,
     /// The file that comes with the plan.
     second: Option<&'a str>,
@@ -15,7 +18,8 @@ struct Hint<'a> {
     is_script: bool,
 }
 
-impl fmt::Display for Hint<'_> {
+/// The hint: the `explain` command for these files.
+impl fmt::Display for FaultyFiles<'_> {
     fn fmt<W: fmt::Write>(&self, f: &mut fmt::Formatter<W>) -> fmt::Result {
         f.write_str("mx: 'mx explain ")?;
         if self.is_script {
@@ -29,25 +33,61 @@ impl fmt::Display for Hint<'_> {
     }
 }
 
-/// Writes the hint for a fault of the command line `words`: the `explain` command for its files.
-/// Writes nothing if one of them is standard input (`-`), or if the command has no hint.
-pub(crate) fn tell_hint<E: Output>(alloc: Global, words: &[&str], err: &mut E) {
+/// Writes what follows the line of a fault of the command line `words`: where the fault is, or else
+/// a hint. Writes nothing if a file is standard input (`-`), which cannot be read twice.
+pub(crate) fn tell_place<R: Files + Input, E: Output>(
+    rt: &R,
+    alloc: Global,
+    words: &[&str],
+    is_terminal: bool,
+    err: &mut E,
+) {
+    match words.first() {
+        Some(word) if has_place(word, is_terminal) => {}
+        _ => return,
+    }
     let Ok(Some(request)) = parse(alloc, words) else {
         return;
     };
-    match hint_for(&request) {
-        Some(hint) if hint.plan != "-" && hint.second != Some("-") => {
-            let _ = write_line(alloc, err, hint);
+    let Some(files) = files_of(&request) else {
+        return;
+    };
+    if files.plan == "-" || files.second == Some("-") {
+        return;
+    }
+    match place_in(rt, alloc, &files) {
+        Some(line) => {
+            let _ = err.put(line.as_bytes());
         }
-        _ => {}
+        None if is_terminal && has_hint(&request) => {
+            let _ = write_line(alloc, err, files);
+        }
+        None => {}
     }
 }
 
-/// Returns the hint for the files that a request names. `draw`, `play`, `judge` and `explain` have
-/// none, and `explain` reads no trace.
-fn hint_for<'a>(request: &Request<'a>) -> Option<Hint<'a>> {
+/// Whether the place of a fault follows its line: of most commands, only at a terminal. The faults of
+/// `judge` name it, and `explain` prints it.
+fn has_place(command: &str, is_terminal: bool) -> bool {
+    match command {
+        "draw" | "script" | "count" | "picture" | "play" => true,
+        "check" | "replay" | "explore" | "live" => is_terminal,
+        _ => false,
+    }
+}
+
+fn has_hint(request: &Request<'_>) -> bool {
+    !matches!(request, Request::Draw { .. } | Request::Play { .. })
+}
+
+/// Returns the files that a request names, unless one is a trace, which `explain` does not read. The
+/// script of `play` is none of them, since `play` goes on after a faulty line.
+fn files_of<'a>(request: &Request<'a>) -> Option<FaultyFiles<'a>> {
     let (plan, second) = match request {
-        Request::Check { plan, .. } | Request::Explore { plan, .. } => (*plan, None),
+        Request::Check { plan, .. }
+        | Request::Explore { plan, .. }
+        | Request::Draw { plan, .. }
+        | Request::Play { plan, .. } => (*plan, None),
         Request::Live(run) => (run.plan, None),
         Request::Replay { names, .. }
         | Request::Script(names)
@@ -62,9 +102,61 @@ fn hint_for<'a>(request: &Request<'a>) -> Option<Hint<'a>> {
         | Request::Count { is_script, .. } => *is_script,
         _ => false,
     };
-    Some(Hint {
+    Some(FaultyFiles {
         plan,
         second,
         is_script,
     })
+}
+
+/// Returns the first line that `explain` says of the fault of these files; of a script, only a line
+/// about the same line of the script. Returns `None` if there is none, if a file cannot be read
+/// twice, or if memory runs out.
+fn place_in<R: Files + Input>(rt: &R, alloc: Global, files: &FaultyFiles<'_>) -> Option<String> {
+    let FaultyFiles {
+        plan,
+        second,
+        is_script,
+    } = *files;
+    if is_read_once(rt, plan) || second.is_some_and(|name| is_read_once(rt, name)) {
+        return None;
+    }
+    let mut source = Streams { rt };
+    let (mut out, mut err) = (Vec::new(alloc), Vec::new(alloc));
+    let (told, fault) = (&mut out, &mut err);
+    let status = explain(alloc, plan, second, is_script, &mut source, told, fault);
+    if status != 1 {
+        return None;
+    }
+    let told = str::from_utf8(out.as_slice()).ok()?;
+    let number = script_line(str::from_utf8(err.as_slice()).ok()?);
+    let line = told.lines().find(|line| is_of_fault(line, number))?;
+    format!(in alloc; "{line}\n").ok()
+}
+
+/// Whether a name is that of a pipe or a device, which may give other bytes, or block, if it is read
+/// a second time.
+fn is_read_once<R: Files>(rt: &R, name: &str) -> bool {
+    match fs::metadata(rt, name) {
+        Ok(found) => !found.is_file() && !found.is_dir(),
+        // `explain` says why it cannot be read
+        Err(_) => false,
+    }
+}
+
+/// Returns the number of the line that is at fault, if the fault is that of a script's line.
+fn script_line(fault: &str) -> Option<&str> {
+    let (number, _) = fault.strip_prefix("mx: script: line ")?.split_once(':')?;
+    Some(number)
+}
+
+/// Whether a line of `explain` is about a fault, in the line of this number if there is one. It is
+/// not if it is a warning, says how many more there are, or that nothing is at fault.
+fn is_of_fault(line: &str, number: Option<&str>) -> bool {
+    let Some((place, message)) = line.split_once(": ") else {
+        return false;
+    };
+    let is_count = message.starts_with("and ") && message.ends_with(" more");
+    let is_there = number.is_none() || place.rsplit(':').nth(1) == number;
+    is_there && !is_count && !message.starts_with("warning: ")
 }

@@ -5,7 +5,7 @@
 
 mod hints;
 
-use crate::hints::tell_hint;
+use crate::hints::tell_place;
 use mx_dispatch::command;
 use mx_io::{Output, Stream, Streams, as_slices, given_words, status_of};
 use mx_jobs::Host;
@@ -44,8 +44,8 @@ where
     Typed::new(reader, is_terminal)
 }
 
-/// Runs the command line of the process. If its files have a fault, a hint on standard error names
-/// the command that explains it, for a reader at a terminal.
+/// Runs the command line of the process. If its files have a fault, the place of the fault, or a
+/// hint, may follow on standard error.
 fn run_words<
     R: Files + Env + Input + AllocGlobal + Host,
     O: Write + Drop,
@@ -62,8 +62,8 @@ where
     // Without room, the buffer passes each line on at once.
     let mut err = Stream::new(BufWriter::with_capacity(alloc, 0, err)?);
     let status = carry_out(rt, words.as_slice(), &mut out, &mut err);
-    if status == 1 && is_terminal {
-        tell_hint(alloc, words.as_slice(), &mut err);
+    if status == 1 {
+        tell_place(rt, alloc, words.as_slice(), is_terminal, &mut err);
     }
     Ok(status)
 }

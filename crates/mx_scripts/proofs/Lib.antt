@@ -9,3 +9,8 @@ pub mod OverLemmas
 pub mod LineLemmas
 mod PartitionLemmas
 pub mod ToldLemmas
+pub mod StateLemmas
+mod StandstillLemmas
+mod HappeningLemmas
+mod ResultLemmas
+mod ShownLemmas

@@ -1,11 +1,12 @@
 -- What the lines of a script do.
-use Rattle.std.proofs.Common.{◌≡◌, ◌≤◌, ◌<◌, ℕ, zero, suc, List, [], ◌∷◌, ◌++◌, Option, Some, None, Result, Ok, Err, OnOk, IfSome, length, add-one, ◌+◌, ◌-◌, ◌^◌, min, refl, sym, ap, subst, arith, get_or, inl, inr, take, ◌⊎◌}
+use Rattle.std.proofs.Common.{◌≡◌, ◌≤◌, ◌<◌, ◌∙◌, ℕ, zero, suc, List, [], ◌∷◌, ◌++◌, Option, Some, None, Result, Ok, Err, OnOk, IfSome, length, add-one, append_assoc, ◌+◌, ◌-◌, ◌^◌, min, refl, sym, ap, subst, arith, get_or, inl, inr, take, ◌⊎◌}
 use Rattle.std.specs.Prelude.{Bool, IfErr, IsErrAnd, IsTrue, false, if◌then◌else◌, true}
 use Rattle.std.specs.Borrow.{Bor}
 use Rattle.std.proofs.lemmas.List.{length-append, length-map, map-append}
 use Rattle.std.proofs.lemmas.Option.{slice_get_read}
 use Rattle.std.specs.Str.Lines.{lines}
 use Rattle.mx_stamps.specs.declared.limits.TheConstants.{MAX_EVENTS}
+use Rattle.mx_stamps.proofs.Lists.{append_nil}
 use Rattle.mx_nodelaws.specs.Core.{Core}
 use Rattle.mx_network.specs.Step.{ClusterState, IsFaultOf, step_of}
 use Rattle.mx_network.specs.declared.faults.StepFault.{StepFault}
@@ -23,7 +24,7 @@ use Rattle.mx_lines.specs.declared.orders.Order.TheVariants as order
 use Rattle.mx_lines.specs.declared.orders.Scope.TheVariants.{Link}
 use Rattle.mx_scripts.specs.Expectations.{IsMet, IsNotMet}
 use Rattle.mx_scripts.specs.Fates.{Fates, is_under_way}
-use Rattle.mx_scripts.specs.Lines.{DoesAll, DoesRead, DoesText, IsNext, Once, Performs, IsNotDone, Misreads, Reads, Repeats, StopsAfter, StopsAt, StopsBy, StopsWithin}
+use Rattle.mx_scripts.specs.Lines.{DoesAll, DoesRead, DoesText, IsNext, Once, Performs, IsNotDone, Misreads, Reads, Repeats, StopsAfter, StopsAt, StopsBy, StopsWithin, number_after, of_line}
 use Rattle.mx_scripts.specs.Files.{file_text}
 use Rattle.mx_scripts.specs.Played.{Plays, events_of}
 use Rattle.mx_scripts.specs.ScriptFiles.{IsFileOfScript, StopsFrom}
@@ -31,6 +32,7 @@ use Rattle.mx_scripts.proofs.OverLemmas.{IsLineOver, read_over}
 use Rattle.mx_scripts.proofs.PlayedLemmas.{file_of_played, noted, plays_step}
 use Rattle.mx_scripts.specs.Scripts.{HasLine, IsLineOf, IsOver, failure_of_step}
 use Rattle.mx_scripts.specs.States.{Admits, Brings, IsAllowed, IsDrawnOf, IsNotApplied, RunState, before_any}
+use Rattle.mx_scripts.specs.declared.happenings.Happening.{Happening}
 use Rattle.mx_scripts.specs.declared.line_failure.LineFailure.{LineFailure}
 use Rattle.mx_scripts.specs.declared.line_failure.LineFailure.TheVariants as failure
 use Rattle.mx_cli.specs.declared.stop.Stop.{Stop}
@@ -99,6 +101,10 @@ module _ {S M : Type 0} (s : RunState S M) where
   pub next_allowed : (o : Order) (done : ℕ) (next : Option SessionEvent) → IsNext s.fates s.cluster.sent o done next → Admits s next → IfSome next (IsAllowed s)
   next_allowed o done None is admits = tt
   next_allowed o done (Some e) is admits = next_some o done e is admits
+
+-- the number of the next line
+pub next_number : (number next count : ℕ) → number ≡ min count (2 ^ 64 - 1) → next ≡ min (number + 1) (2 ^ 64 - 1) → next ≡ min (count + 1) (2 ^ 64 - 1)
+next_number number next count is h = omega (arith, is, h)
 
 -- later
 pub once_later : (done : ℕ) (IsIt : SessionEvent → Type 0) → 0 < done → Once done IsIt None
@@ -243,57 +249,61 @@ module _ {H S M : Type 0} (core : Core H S M) where
       let mid : RunState S M = x.0 in
       repeats_few o times x.2 mid new x.5 (performs_few o 0 x.1 old mid x.3 few)
 
-  does_few : (text : Text) (read : ScriptLine) (old new : RunState S M) → DoesRead core text read old new → length old.cluster.trace ≤ MAX_EVENTS → length new.cluster.trace ≤ MAX_EVENTS
-  does_few text (script_line.Does line) old new x few = repeats_few line.order line.times x.0 old new x.1 few
-  does_few text script_line.Expects old new x few = same_few old new x.0 few
-  does_few text script_line.Nothing old new x few = same_few old new x few
+  does_few : (text : Text) (read : ScriptLine) (es : List SessionEvent) (old new : RunState S M) → DoesRead core text read old es new → length old.cluster.trace ≤ MAX_EVENTS
+      → length new.cluster.trace ≤ MAX_EVENTS
+  does_few text (script_line.Does line) es old new x few = repeats_few line.order line.times es old new x few
+  does_few text script_line.Expects es old new x few = same_few old new x.0.0 few
+  does_few text script_line.Nothing es old new x few = same_few old new x.0 few
 
 module _ {H S M : Type 0} (core : Core H S M) (p : Fields) where
   plays_still : (old new : RunState S M) → new ≡ old → Plays core (length p.nodes) (length p.registers) old.cluster new.cluster
   plays_still old new is = plays_same core (length p.nodes) (length p.registers) old.cluster new.cluster (ap (λ (s : RunState S M). s.cluster) is)
 
-  does_plays : (text : Text) (read : ScriptLine) (old new : RunState S M) → IsLineOver (length p.nodes) (length p.registers) read → DoesRead core text read old new
+  does_plays : (text : Text) (read : ScriptLine) (es : List SessionEvent) (old new : RunState S M) → IsLineOver (length p.nodes) (length p.registers) read → DoesRead core text read old es new
       → Plays core (length p.nodes) (length p.registers) old.cluster new.cluster
-  does_plays text (script_line.Does line) old new over x = repeats_plays core (length p.nodes) (length p.registers) line.order line.times x.0 old new over x.1
-  does_plays text script_line.Expects old new over x = plays_still old new x.0
-  does_plays text script_line.Nothing old new over x = plays_still old new x
+  does_plays text (script_line.Does line) es old new over x = repeats_plays core (length p.nodes) (length p.registers) line.order line.times es old new over x
+  does_plays text script_line.Expects es old new over x = plays_still old new x.0.0
+  does_plays text script_line.Nothing es old new over x = plays_still old new x.0
 
-  text_plays : (text : Text) (old new : RunState S M) → DoesText core p text old new → Plays core (length p.nodes) (length p.registers) old.cluster new.cluster
-  text_plays text old new x =
+  text_plays : (text : Text) (es : List SessionEvent) (old new : RunState S M) → DoesText core p text old es new → Plays core (length p.nodes) (length p.registers) old.cluster new.cluster
+  text_plays text es old new x =
       let reads = x.1 in
-      does_plays text x.0 old new (read_over (known_of p) (texts_of reads.0) x.0 (sym reads.2)) x.2
+      does_plays text x.0 es old new (read_over (known_of p) (texts_of reads.0) x.0 (sym reads.2)) x.2
 
   -- the events of all lines lead from one cluster to another
-  pub all_plays : (texts : List Text) (old new : RunState S M) → DoesAll core p texts old new → Plays core (length p.nodes) (length p.registers) old.cluster new.cluster
-  all_plays [] old new x = plays_same core (length p.nodes) (length p.registers) old.cluster new.cluster (ap (λ (s : RunState S M). s.cluster) x)
-  all_plays (text ∷ texts) old new x =
+  pub all_plays : (done : ℕ) (texts : List Text) (hs : List Happening) (old new : RunState S M) → DoesAll core p done texts old hs new
+      → Plays core (length p.nodes) (length p.registers) old.cluster new.cluster
+  all_plays done [] hs old new x = plays_same core (length p.nodes) (length p.registers) old.cluster new.cluster (ap (λ (s : RunState S M). s.cluster) x.0)
+  all_plays done (text ∷ texts) hs old new x =
       let mid : RunState S M = x.0 in
-      let first = text_plays text old mid x.1 in
-      let rest = all_plays texts mid new x.2 in
+      let first = text_plays text x.1 old mid x.3 in
+      let rest = all_plays (suc done) texts x.2 mid new x.5 in
       λ start played. rest start (first start played)
 
   -- ---- there are no more events than may be
 
-  text_few : (text : Text) (old new : RunState S M) → DoesText core p text old new → length old.cluster.trace ≤ MAX_EVENTS → length new.cluster.trace ≤ MAX_EVENTS
-  text_few text old new x few = does_few core text x.0 old new x.2 few
+  text_few : (text : Text) (es : List SessionEvent) (old new : RunState S M) → DoesText core p text old es new → length old.cluster.trace ≤ MAX_EVENTS → length new.cluster.trace ≤ MAX_EVENTS
+  text_few text es old new x few = does_few core text x.0 es old new x.2 few
 
-  pub all_few : (texts : List Text) (old new : RunState S M) → DoesAll core p texts old new → length old.cluster.trace ≤ MAX_EVENTS → length new.cluster.trace ≤ MAX_EVENTS
-  all_few [] old new x few = same_few old new x few
-  all_few (text ∷ texts) old new x few =
+  pub all_few : (done : ℕ) (texts : List Text) (hs : List Happening) (old new : RunState S M) → DoesAll core p done texts old hs new → length old.cluster.trace ≤ MAX_EVENTS
+      → length new.cluster.trace ≤ MAX_EVENTS
+  all_few done [] hs old new x few = same_few old new x.0 few
+  all_few done (text ∷ texts) hs old new x few =
       let mid : RunState S M = x.0 in
-      all_few texts mid new x.2 (text_few text old mid x.1 few)
+      all_few (suc done) texts x.2 mid new x.5 (text_few text x.1 old mid x.3 few)
 
   -- the file of what lines did, from before any parcel was sent
-  pub file_from : (script : Text) (start : ClusterState S M) (old last : RunState S M) (text : Text) → old ≡ before_any start → start.trace ≡ [] → DoesAll core p (lines script) old last
-      → text ≡ file_text p (events_of last.cluster.trace) → IsFileOfScript core p start script text
-  file_from script start old last text fresh empty done is =
-      let does : DoesAll core p (lines script) (before_any start) last = subst (λ (s : RunState S M). DoesAll core p (lines script) s last) fresh done in
+  pub file_from : (script : Text) (start : ClusterState S M) (hs : List Happening) (old last : RunState S M) (text : Text) → old ≡ before_any start → start.trace ≡ []
+      → DoesAll core p 0 (lines script) old hs last → text ≡ file_text p (events_of last.cluster.trace) → IsFileOfScript core p start script text
+  file_from script start hs old last text fresh empty done is =
+      let does : DoesAll core p 0 (lines script) (before_any start) hs last = subst (λ (s : RunState S M). DoesAll core p 0 (lines script) s hs last) fresh done in
       record {
+        happened = hs;
         last = last;
         does = does;
         is = is;
-        few = all_few (lines script) (before_any start) last does (subst (λ (t : List Entry). length t ≤ MAX_EVENTS) (sym empty) (omega arith));
-        file = file_of_played core p start last.cluster last.cluster.trace text empty (all_plays (lines script) (before_any start) last does) refl is;
+        few = all_few 0 (lines script) hs (before_any start) last does (subst (λ (t : List Entry). length t ≤ MAX_EVENTS) (sym empty) (omega arith));
+        file = file_of_played core p start last.cluster last.cluster.trace text empty (all_plays 0 (lines script) hs (before_any start) last does) refl is;
       }
 
   -- lines that give no file, from before any parcel was sent
@@ -304,22 +314,52 @@ module _ {H S M : Type 0} (core : Core H S M) (p : Fields) where
 
   -- ---- a loop over the lines
 
-  all_more : (texts : List Text) (text : Text) (old mid new : RunState S M) → DoesAll core p texts old mid → DoesText core p text mid new → DoesAll core p (texts ++ text ∷ []) old new
-  all_more [] text old mid new x y = (new, subst (λ (s : RunState S M). DoesText core p text s new) x y, refl)
-  all_more (first ∷ texts) text old mid new x y = (x.0, x.1, all_more texts text x.0 mid new x.2 y)
+  all_more : (done : ℕ) (texts : List Text) (text : Text) (hs : List Happening) (es : List SessionEvent) (old mid new : RunState S M) → DoesAll core p done texts old hs mid
+      → DoesText core p text mid es new → DoesAll core p done (texts ++ text ∷ []) old (hs ++ of_line (number_after (done + length texts)) es) new
+  all_more done [] text hs es old mid new x y = (
+    new,
+    es,
+    [],
+    subst (λ (s : RunState S M). DoesText core p text s es new) x.0 y,
+    ap (λ (l : List Happening). l ++ of_line (number_after (done + 0)) es) x.1
+        ∙ ap (λ (n : ℕ). of_line (number_after n) es) (omega (arith)) ∙ sym (append_nil (of_line (number_after done) es)),
+    (refl, refl),
+  )
+  all_more done (first ∷ texts) text hs es old mid new x y =
+      let more : List Happening = of_line (number_after (done + length (first ∷ texts))) es in
+      let behind : number_after (suc done + length texts) ≡ number_after (done + length (first ∷ texts)) = ap number_after (omega (arith)) in (
+        x.0,
+        x.1,
+        x.2 ++ more,
+        x.3,
+        ap (λ (l : List Happening). l ++ more) x.4 ∙ append_assoc (of_line (number_after done) x.1) x.2 more,
+        subst (λ (n : ℕ). DoesAll core p (suc done) (texts ++ text ∷ []) x.0 (x.2 ++ of_line n es) new) behind (all_more (suc done) texts text x.2 es x.0 mid new x.5 y),
+      )
 
   -- a line more was done
-  pub does_more : (lines : List (Bor Text)) (line : Bor Text) (old mid new : RunState S M) → DoesAll core p (texts_of lines) old mid → DoesText core p line.now mid new
-      → DoesAll core p (texts_of (lines ++ line ∷ [])) old new
-  does_more lines line old mid new x y =
-      subst (λ (l : List Text). DoesAll core p l old new) (sym (map-append (λ (text : Bor Text). text.now) lines (line ∷ [])))
-      (all_more (texts_of lines) line.now old mid new x y)
+  pub does_more : (lines : List (Bor Text)) (line : Bor Text) (hs : List Happening) (es : List SessionEvent) (old mid new : RunState S M) → DoesAll core p 0 (texts_of lines) old hs mid
+      → DoesText core p line.now mid es new → DoesAll core p 0 (texts_of (lines ++ line ∷ [])) old (hs ++ of_line (number_after (length lines)) es) new
+  does_more lines line hs es old mid new x y =
+      let count : 0 + length (texts_of lines) ≡ length lines = omega (arith, length-map lines (λ (text : Bor Text). text.now)) in
+      subst (λ (l : List Text). DoesAll core p 0 l old (hs ++ of_line (number_after (length lines)) es) new) (sym (map-append (λ (text : Bor Text). text.now) lines (line ∷ [])))
+      (subst (λ (n : ℕ). DoesAll core p 0 (texts_of lines ++ line.now ∷ []) old (hs ++ of_line (number_after n) es) new) count
+      (all_more 0 (texts_of lines) line.now hs es old mid new x y))
 
-  -- a line was done, and more is known of its events
-  pub line_does : {T E : Type 0} (r : Result T E) (text : Text) (line : Line) (old new : RunState S M) (X : List SessionEvent → Type 0) → Reads p text (script_line.Does line)
-      → OnOk r ((es : List SessionEvent) × Repeats core line.order line.times old es new × X es) → OnOk r (DoesText core p text old new)
-  line_does (Ok t) text line old new X reads x = (script_line.Does line, reads, (x.0, x.1))
-  line_does (Err e) text line old new X reads x = tt
+  module _ (X : List SessionEvent → Type 0) where
+    -- the events that do a line satisfy X
+    abbrev pub DoesSo : Text → RunState S M → RunState S M → Type 0
+    DoesSo text old new = (es : List SessionEvent) × DoesText core p text old es new × X es
+
+    pub line_does : {T E : Type 0} (r : Result T E) (text : Text) (line : Line) (old new : RunState S M) → Reads p text (script_line.Does line)
+        → OnOk r ((es : List SessionEvent) × Repeats core line.order line.times old es new × X es) → OnOk r (DoesSo text old new)
+    line_does (Ok t) text line old new reads x = (x.0, (script_line.Does line, reads, x.1), x.2)
+    line_does (Err e) text line old new reads x = tt
+
+    -- the newest item has the outcome that the line expects
+    pub expected_done : {T E : Type 0} (r : Result T E) (text : Text) (old : RunState S M) → Reads p text script_line.Expects → X [] → OnOk r (IsMet text old.cluster.trace)
+        → OnOk r (DoesSo text old old)
+    expected_done (Ok t) text old reads told x = ([], (script_line.Expects, reads, ((refl, refl), x)), told)
+    expected_done (Err e) text old reads told x = tt
 
   -- ---- a line that is not done
 
@@ -332,11 +372,6 @@ module _ {H S M : Type 0} (core : Core H S M) (p : Fields) where
   not_repeated (Ok t) text line old reads x = tt
   not_repeated (Err why) text line old reads x = inr (inr (inl (line, reads, x)))
 
-  -- the newest item has the outcome that the line expects
-  pub expected_done : {T E : Type 0} (r : Result T E) (text : Text) (old : RunState S M) → Reads p text script_line.Expects → OnOk r (IsMet text old.cluster.trace) → OnOk r (DoesText core p text old old)
-  expected_done (Ok t) text old reads x = (script_line.Expects, reads, (refl, x))
-  expected_done (Err e) text old reads x = tt
-
   not_met : (text : Text) (old : RunState S M) (why : LineFailure) → Reads p text script_line.Expects → (why ≡ failure.Memory) ⊎ IsNotMet text old.cluster.trace why → IsNotDone core p text old why
   not_met text old why reads (inl x) = inl x
   not_met text old why reads (inr x) = inr (inr (inr (reads, x)))
@@ -348,18 +383,18 @@ module _ {H S M : Type 0} (core : Core H S M) (p : Fields) where
   not_expected (Err why) text old reads x = not_met text old why reads x
 
   -- the line after those that were yielded is not done
-  pub stops_here : (texts : List Text) (yielded : List (Bor Text)) (text : Text) (old mid : RunState S M) (why : LineFailure) → DoesAll core p (texts_of yielded) old mid
+  pub stops_here : (texts : List Text) (yielded : List (Bor Text)) (text : Text) (hs : List Happening) (old mid : RunState S M) (why : LineFailure) → DoesAll core p 0 (texts_of yielded) old hs mid
       → texts_of yielded ≡ take (length yielded) texts → (length yielded < length texts) × (text ≡ get_or texts (length yielded) text) → IsNotDone core p text mid why
-      → StopsAt core p texts old (length yielded) why
-  stops_here texts yielded text old mid why does so_far turn not = (
-    text,
-    mid,
-    subst (λ (l : List Text). DoesAll core p l old mid) so_far does,
-    slice_get_read texts (length texts) (length yielded) text refl turn.0 turn.1,
-    not,
-  )
+      → StopsAt core p texts old (length yielded) hs mid why
+  stops_here texts yielded text hs old mid why does so_far turn not = record {
+    does = subst (λ (l : List Text). DoesAll core p 0 l old hs mid) so_far does;
+    text = text;
+    next = slice_get_read texts (length texts) (length yielded) text refl turn.0 turn.1;
+    not_done = not;
+  }
 
   -- its line is that of the script
-  pub stops_line : (texts : List Text) (old : RunState S M) (n number : ℕ) (why : LineFailure) (s : Stop) → number ≡ min (n + 1) (2 ^ 64 - 1) → StopsAt core p texts old n why
-      → HasLine (IsLineOf number why) s → HasLine (StopsBy core p texts old) s
-  stops_line texts old n number why s next stops h = line_as {P = IsLineOf number why} {Q = StopsBy core p texts old} s (λ line is. (n, why, stops, subst (λ (k : ℕ). IsLineOf k why line) next is)) h
+  pub stops_line : (texts : List Text) (hs : List Happening) (old mid : RunState S M) (n number : ℕ) (why : LineFailure) (s : Stop) → number ≡ number_after n
+      → StopsAt core p texts old n hs mid why → HasLine (IsLineOf number why) s → HasLine (StopsBy core p texts old) s
+  stops_line texts hs old mid n number why s next stops h =
+      line_as {P = IsLineOf number why} {Q = StopsBy core p texts old} s (λ line is. (n, why, hs, mid, stops, subst (λ (k : ℕ). IsLineOf k why line) next is)) h

@@ -1,7 +1,9 @@
 -- What a line with `expect` says of the last event.
-use Rattle.std.specs.Prelude.{◌≡◌, ◌≢◌, ◌⊎◌, ◌++◌, List, [], ◌∷◌, codes}
+use Rattle.std.specs.Prelude.{◌≡◌, ◌⊎◌, ◌&&◌, ◌||◌, ◌++◌, Bool, true, false, List, [], ◌∷◌, bytes_eq, codes}
 use Rattle.std.specs.Borrow.{Bor}
 use Rattle.mx_trace.specs.declared.outcome.Entry.{Entry}
+use Rattle.mx_trace.specs.declared.outcome.Outcome.{Outcome}
+use Rattle.mx_trace.specs.declared.outcome.Outcome.TheVariants.{Refused}
 use Rattle.mx_plan.specs.Text.{Text}
 use Rattle.mx_format.specs.EventTexts.{outcome_text}
 use Rattle.mx_format.specs.Lines.{joined}
@@ -22,19 +24,28 @@ Expects line text =
     (words : List (Bor Text)) × AreWords (before_comment line) words
     × (text ≡ text_after_first (texts_of words))
 
--- the outcome of the newest item of the trace has this text, as `replay` prints it
-abbrev pub EndsWith : List Entry → Text → Type 0
-EndsWith trace text =
+abbrev pub is_refusal : Outcome → Bool
+is_refusal (Refused cause) = true
+is_refusal _ = false
+
+-- the text is that of the outcome, as `replay` prints it, or `refused` of any refusal
+abbrev pub accepts : Outcome → Text → Bool
+accepts outcome text =
+    is_refusal outcome && bytes_eq text (codes "refused")
+    || bytes_eq (outcome_text outcome) text
+
+-- the newest item of the trace, whose outcome the line accepts or not, as `is_met` says
+abbrev pub Compares : Bool → Text → List Entry → Type 0
+Compares is_met line trace =
     (before : List Entry) × (newest : Entry) × (trace ≡ before ++ newest ∷ [])
-    × (text ≡ outcome_text newest.outcome)
+    × (text : Text) × Expects line text × (accepts newest.outcome text ≡ is_met)
 
--- the text of the newest item's outcome is what the line expects
+-- the line accepts the outcome of the newest item
 abbrev pub IsMet : Text → List Entry → Type 0
-IsMet line trace = (text : Text) × EndsWith trace text × Expects line text
+IsMet = Compares true
 
--- why it is not: there is no item, or the text is another one
+-- why it does not: there is no item, or its outcome is another one
 abbrev pub IsNotMet : Text → List Entry → LineFailure → Type 0
 IsNotMet line trace why =
     ((trace ≡ []) × (why ≡ failure.Refused NoEvent))
-    ⊎ ((found expected : Text) × EndsWith trace found × Expects line expected
-    × (found ≢ expected) × (why ≡ failure.Refused OtherOutcome))
+    ⊎ (Compares false line trace × (why ≡ failure.Refused OtherOutcome))

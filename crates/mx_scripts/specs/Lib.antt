@@ -4,8 +4,13 @@ pub mod Scripts
 pub mod Links
 pub mod Fates
 pub mod States
+pub mod Standstill
 pub mod Expectations
 pub mod Told
 pub mod Lines
+pub mod Happenings
 pub mod ScriptFiles
+pub mod Objects
+pub mod ShownScripts
 pub mod Printed
+pub mod Replayed

@@ -1,5 +1,5 @@
 -- What a line of a script does.
-use Rattle.std.specs.Prelude.{ℕ, zero, suc, ◌≡◌, ◌≤◌, ◌<◌, ◌⊎◌, Bool, false, List, [], ◌∷◌, ◌++◌, Option, Some, None, Ok, Err, if◌then◌else◌, length, slice_get, slice_index_or, min, take, ◌+◌, ◌-◌, ◌^◌, ◌/◌, ◌%◌}
+use Rattle.std.specs.Prelude.{ℕ, zero, suc, ◌≡◌, ◌≤◌, ◌<◌, ◌⊎◌, Bool, false, List, [], ◌∷◌, ◌++◌, Option, Some, None, Ok, Err, if◌then◌else◌, length, map, slice_get, slice_index_or, min, take, ◌+◌, ◌-◌, ◌^◌, ◌/◌, ◌%◌}
 use Rattle.std.specs.Borrow.{Bor}
 use Rattle.mx_stamps.specs.declared.limits.TheConstants.{MAX_EVENTS}
 use Rattle.mx_nodelaws.specs.Core.{Core}
@@ -24,6 +24,7 @@ use Rattle.mx_scripts.specs.Fates.{Fates, IsFirst, NoneWaits, can_arrive, is_und
 use Rattle.mx_scripts.specs.Links.{is_across, link_of}
 use Rattle.mx_scripts.specs.Scripts.{IsLineOf}
 use Rattle.mx_scripts.specs.States.{Bars, Brings, IsAllowed, IsNotApplied, RunState}
+use Rattle.mx_scripts.specs.declared.happenings.Happening.{Happening}
 use Rattle.mx_scripts.specs.declared.line_failure.LineFailure.{LineFailure}
 use Rattle.mx_scripts.specs.declared.line_failure.LineFailure.TheVariants as failure
 use Rattle.mx_scripts.specs.declared.state.SessionEvent.{SessionEvent}
@@ -105,6 +106,14 @@ Misreads p text why =
     (words : List (Bor Text)) × (error : LineError) × AreWords (before_comment text) words
     × (line_of (known_of p) (texts_of words) ≡ Err error) × (why ≡ failure.WrongWord error)
 
+-- the number of a line after `done` others: they count from 1, up to the greatest of 64 bits
+abbrev pub number_after : ℕ → ℕ
+number_after done = min (done + 1) (2 ^ 64 - 1)
+
+-- these events, as what line `number` did
+abbrev pub of_line : ℕ → List SessionEvent → List Happening
+of_line number = map (λ event. record { line = number; event = event })
+
 module _ {H S M : Type 0} (core : Core H S M) where
   -- after `done` of its events, an order asks for these events in turn, and then for no more. Each
   -- is allowed, and together they lead from the old state to the new one
@@ -122,10 +131,6 @@ module _ {H S M : Type 0} (core : Core H S M) where
   Repeats order (suc times) old es new =
       (mid : RunState S M) × (first rest : List SessionEvent) × Performs order 0 old first mid
       × (es ≡ first ++ rest) × Repeats order times mid rest new
-
-  -- what a line asks for was done as often as it says
-  abbrev pub Does : Line → RunState S M → RunState S M → Type 0
-  Does line old new = (es : List SessionEvent) × Repeats line.order line.times old es new
 
   -- after `done` of its events, an order stops here: it has no next event that can happen, the next
   -- is not applied, or it has had the greatest number of events
@@ -152,22 +157,32 @@ module _ {H S M : Type 0} (core : Core H S M) where
       ⊎ ((mid : RunState S M) × (es : List SessionEvent) × Performs order 0 old es mid
       × StopsWithin order times mid why)
 
-  -- what a line asks for was done. A line that expects an outcome is done if the newest item has
-  -- that outcome, and changes nothing; nor does a line without words
-  abbrev pub DoesRead : Text → ScriptLine → RunState S M → RunState S M → Type 0
-  DoesRead text (script_line.Does line) old new = Does line old new
-  DoesRead text script_line.Expects old new = (new ≡ old) × IsMet text old.cluster.trace
-  DoesRead text script_line.Nothing old new = new ≡ old
+  -- these events are nothing, and lead nowhere
+  abbrev pub IsStill : RunState S M → List SessionEvent → RunState S M → Type 0
+  IsStill old es new = (new ≡ old) × (es ≡ [])
+
+  -- what a line asks for was done as often as it says, by these events. A line that expects an
+  -- outcome is done if the newest item has that outcome, and does nothing; nor does a line without
+  -- words
+  abbrev pub DoesRead : Text → ScriptLine → RunState S M → List SessionEvent → RunState S M → Type 0
+  DoesRead text (script_line.Does line) old es new = Repeats line.order line.times old es new
+  DoesRead text script_line.Expects old es new =
+      IsStill old es new × IsMet text old.cluster.trace
+  DoesRead text script_line.Nothing old es new = IsStill old es new
 
   module _ (p : Fields) where
-    abbrev pub DoesText : Text → RunState S M → RunState S M → Type 0
-    DoesText text old new = (read : ScriptLine) × Reads p text read × DoesRead text read old new
+    abbrev pub DoesText : Text → RunState S M → List SessionEvent → RunState S M → Type 0
+    DoesText text old es new =
+        (read : ScriptLine) × Reads p text read × DoesRead text read old es new
 
-    -- all lines were done, each in the state to which those before it lead
-    abbrev pub DoesAll : List Text → RunState S M → RunState S M → Type 0
-    DoesAll [] old new = new ≡ old
-    DoesAll (text ∷ texts) old new =
-        (mid : RunState S M) × DoesText text old mid × DoesAll texts mid new
+    -- all lines were done, each in the state to which those before it lead, the first of them after
+    -- `done` others; and this is what they did
+    abbrev pub DoesAll : ℕ → List Text → RunState S M → List Happening → RunState S M → Type 0
+    DoesAll done [] old happened new = (new ≡ old) × (happened ≡ [])
+    DoesAll done (text ∷ texts) old happened new =
+        (mid : RunState S M) × (es : List SessionEvent) × (rest : List Happening)
+        × DoesText text old es mid × (happened ≡ of_line (number_after done) es ++ rest)
+        × DoesAll (suc done) texts mid rest new
 
     -- why a line is not done: memory ran out, a word is wrong, its order stops, or the newest item
     -- has not the outcome that it expects
@@ -179,15 +194,16 @@ module _ {H S M : Type 0} (core : Core H S M) where
         × StopsWithin line.order line.times old why)
         ⊎ (Reads p text script_line.Expects × IsNotMet text old.cluster.trace why)))
 
-    -- the first n lines were done, and the next one is not, for this reason
-    abbrev pub StopsAt : List Text → RunState S M → ℕ → LineFailure → Type 0
-    StopsAt texts old n why =
-        (text : Text) × (mid : RunState S M) × DoesAll (take n texts) old mid
-        × (slice_get texts n ≡ Some text) × IsNotDone text mid why
+    -- the first n lines were done, and did this; the next one is not done, for this reason
+    pub record StopsAt (texts : List Text) (old : RunState S M) (n : ℕ)
+        (happened : List Happening) (mid : RunState S M) (why : LineFailure) : Type 0 where
+      pub does : DoesAll 0 (take n texts) old happened mid
+      pub text : Text
+      pub next : slice_get texts n ≡ Some text
+      pub not_done : IsNotDone text mid why
 
-    -- the text is the line of the first line that is not done. Its number counts from 1, up to the
-    -- greatest of 64 bits
+    -- the text is the line of the first line that is not done
     abbrev pub StopsBy : List Text → RunState S M → Text → Type 0
     StopsBy texts old line =
-        (n : ℕ) × (why : LineFailure) × StopsAt texts old n why
-        × IsLineOf (min (n + 1) (2 ^ 64 - 1)) why line
+        (n : ℕ) × (why : LineFailure) × (happened : List Happening) × (mid : RunState S M)
+        × StopsAt texts old n happened mid why × IsLineOf (number_after n) why line

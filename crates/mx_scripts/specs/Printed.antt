@@ -1,5 +1,5 @@
 -- What the command `script` prints, and a command that gets a script in place of events.
-use Rattle.std.specs.Prelude.{◌≡◌, ◌⊎◌, Bool, true, false}
+use Rattle.std.specs.Prelude.{◌≡◌, ◌⊎◌}
 use Rattle.mx_plan.specs.Text.{Text}
 use Rattle.mx_plan.specs.Fields.{Fields}
 use Rattle.mx_cli.specs.Printing.{IsWhole, Report, ends, has_line}
@@ -11,11 +11,6 @@ abbrev pub IsOnScript : (Fields → Text → Report → Type 0) → Fields → T
 IsOnScript reports p script r =
     ((file : Text) × IsScriptFile p script file p.shape × reports p file r)
     ⊎ ((line : Text) × IsRefusedScript p script line × (r ≡ ends (has_line line)))
-
--- a report of a command that gets a script, or a file of events
-abbrev pub IsOnText : Bool → (Fields → Text → Report → Type 0) → Fields → Text → Report → Type 0
-IsOnText true reports = IsOnScript reports
-IsOnText false reports = reports
 
 -- a report of `script`, which prints that file
 abbrev pub IsScript : Fields → Text → Report → Type 0

@@ -1,5 +1,5 @@
 -- The file of a script.
-use Rattle.std.specs.Prelude.{◌≡◌, ◌⊎◌, ◌≤◌, ℕ, [], length, IsUtf8}
+use Rattle.std.specs.Prelude.{◌≡◌, ◌⊎◌, ◌≤◌, ℕ, List, [], length, IsUtf8}
 use Rattle.std.specs.Str.Lines.{lines}
 use Rattle.mx_stamps.specs.declared.limits.TheConstants.{MAX_EVENTS}
 use Rattle.mx_nodelaws.specs.Core.{Core}
@@ -18,13 +18,15 @@ use Rattle.mx_scripts.specs.Lines.{DoesAll, StopsBy}
 use Rattle.mx_scripts.specs.Played.{IsFileOf, events_of}
 use Rattle.mx_scripts.specs.Scripts.{script_line}
 use Rattle.mx_scripts.specs.States.{RunState, before_any}
+use Rattle.mx_scripts.specs.declared.happenings.Happening.{Happening}
 
 -- the text is the file of what the lines of a script do, one after another: at most a million
 -- events, which can happen in the cluster
 pub record IsFileOfScript {H S M : Type 0} (core : Core H S M) (p : Fields)
     (start : ClusterState S M) (script text : Text) : Type 0 where
+  pub happened : List Happening
   pub last : RunState S M
-  pub does : DoesAll core p (lines script) (before_any start) last
+  pub does : DoesAll core p 0 (lines script) (before_any start) happened last
   pub is : text ≡ file_text p (events_of last.cluster.trace)
   pub few : length last.cluster.trace ≤ MAX_EVENTS
   pub file : IsFileOf core p start text

@@ -4,21 +4,22 @@ ghost use Rattle.std.specs.Prelude.{◌≡◌, ◌⊎◌, ◌++◌, codes, strin
 ghost use Rattle.mx_format.specs.EventTexts.{outcome_text};
 ghost use Rattle.mx_format.specs.Lines.{each_text};
 ghost use Rattle.mx_lines.specs.Names.{texts_of};
-ghost use Rattle.mx_scripts.specs.Expectations.{Expects, IsMet, IsNotMet, text_after_first};
+ghost use Rattle.mx_scripts.specs.Expectations.{Expects, IsMet, IsNotMet, accepts, is_refusal, text_after_first};
 
 use crate::line_failure::LineFailure;
 use mx_format::OutcomeText;
 use mx_lines::{LineFault, Quoted, words_in};
 use mx_network::Entry;
+use mx_trace::Outcome;
 use std::alloc::{AllocError, Global};
 
 /// Compares the outcome of the newest item of a trace, as a text, with the words of a line after
-/// its first.
+/// its first. The word `refused` alone fits any refusal.
 ///
 /// # Errors
 ///
-/// `NoEvent` if the trace has no item, `OtherOutcome` if the texts differ, and `Memory` if memory
-/// runs out.
+/// `NoEvent` if the trace has no item, `OtherOutcome` if the outcome is another one, and `Memory`
+/// if memory runs out.
 pub fn compare_outcome(alloc: Global, line: &str, trace: &[Entry]) -> Result<(), LineFailure>
     ensures ok { OnOk result (IsMet line.now trace.now) }
     ensures err { IfErr result (λ why.
@@ -27,19 +28,34 @@ pub fn compare_outcome(alloc: Global, line: &str, trace: &[Entry]) -> Result<(),
     let Some((newest, _before)) = trace.split_last() else {
         return Err(LineFailure::Refused(LineFault::NoEvent));
     };
-    let found = found_in(alloc, newest)?;
     let expected = expected_in(alloc, line)?;
-    if found.as_str() != expected.as_str() {
+    if !accepts(alloc, &newest.outcome, expected.as_str())? {
         return Err(LineFailure::Refused(LineFault::OtherOutcome));
     }
     Ok(())
 }
 
-fn found_in(alloc: Global, newest: &Entry) -> Result<String, AllocError>
-    ensures { IfOk result (λ text. string_bytes text ≡ outcome_text newest.now.outcome) }
+fn accepts(alloc: Global, outcome: &Outcome, expected: &str) -> Result<bool, AllocError>
+    ensures { IfOk result (λ is. is ≡ accepts outcome.now expected.now) }
+{
+    if is_refusal(outcome) && expected == "refused" {
+        return Ok(true);
+    }
+    let found = text_of(alloc, outcome)?;
+    Ok(found.as_str() == expected)
+}
+
+fn is_refusal(outcome: &Outcome) -> bool
+    ensures { result ≡ is_refusal outcome.now }
+{
+    matches!(outcome, Outcome::Refused(_))
+}
+
+fn text_of(alloc: Global, outcome: &Outcome) -> Result<String, AllocError>
+    ensures { IfOk result (λ text. string_bytes text ≡ outcome_text outcome.now) }
 {
     let mut text = String::new(alloc);
-    text.write(OutcomeText(&newest.outcome))?;
+    text.write(OutcomeText(outcome))?;
     Ok(text)
 }
 
@@ -83,7 +99,7 @@ pub(crate) fn add_other_outcome(
     let Some(newest) = trace.last() else {
         return Ok(());
     };
-    let found = found_in(alloc, newest)?;
+    let found = text_of(alloc, &newest.outcome)?;
     let expected = expected_in(alloc, line)?;
     let found = Quoted(found.as_str());
     let expected = Quoted(expected.as_str());

@@ -4,14 +4,19 @@
 
 mod expectation;
 mod files;
+mod happenings;
 mod in_flight;
 mod line_failure;
 mod links;
 mod next_event;
+mod objects;
 mod on_script;
 mod recorder;
+mod replay_script;
 mod script;
 mod script_command;
+mod shown_script;
+mod standstill;
 mod state;
 mod texts;
 mod under_way;
@@ -22,6 +27,7 @@ pub use in_flight::InFlight;
 pub use line_failure::{LineFailure, RefusedLine, message_of};
 pub use on_script::OnScript;
 pub use recorder::{Led, Recorder};
+pub use replay_script::ReplayScript;
 pub use script::repeat;
-pub use script_command::{Script, run_script};
+pub use script_command::{Script, file_of_bytes, run_script};
 pub use state::{SessionEvent, State};

@@ -90,14 +90,17 @@ fn refuse<C: Exclusion, K: Recorder<State<C>>>(
     }
 }
 
-fn do_line<C: Exclusion, K: Recorder<State<C>>>(
+pub(crate) fn do_line<C: Exclusion, K: Recorder<State<C>>>(
     alloc: Global,
     plan: &Plan,
     line: &str,
     state: &mut State<C>,
     recorder: &mut K,
 ) -> Result<(), LineFailure>
-    ensures ok { OnOk result (DoesText C.core plan.now line.now state.old state.new) }
+    ensures ok { OnOk result ((es : List SessionEvent)
+        × DoesText C.core plan.now line.now state.old es state.new
+        × IsTold C.core (λ k. K.noted k plan.now) es state.old state.new
+        recorder.old recorder.new) }
     ensures err { IfErr result (IsNotDone C.core plan.now line.now state.old) }
 {
     match line_in(alloc, plan, line)? {

@@ -61,7 +61,13 @@ where
     }
 }
 
-pub(crate) fn file_of_bytes<K>(
+/// Returns the file of the events of a script, and tells the recorder of each as `run_script` does.
+///
+/// # Errors
+///
+/// Returns the line of the fault of the first line that is not done, and `Memory` if memory runs
+/// out.
+pub fn file_of_bytes<K>(
     alloc: Global,
     plan: &Plan,
     script: &[u8],

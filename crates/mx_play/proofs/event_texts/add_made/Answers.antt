@@ -1,7 +1,9 @@
 use Rattle.std.proofs.Common.{arith, string_bytes}
 use Rattle.std.proofs.lemmas.Grind.{common_steps}
 use Rattle.mx_format.specs.LetterTexts.{letter_text}
-use Rattle.mx_play.proofs.HistoryLemmas.{has_newest_item, lost_made, newest_made}
+use Rattle.mx_driver.specs.Runs.{text_of}
+use Rattle.mx_scripts.proofs.StateLemmas.{has_newest_item, newest_shown, with_sent}
+use Rattle.mx_play.specs.Printed.{lost_text}
 use Rattle.mx_play.proofs.event_texts.add_made.Goals as goal
 
 pub cluster-requires : goal.cluster-requires
@@ -20,13 +22,13 @@ add_newest-requires g c =
 
 pub returns-in-Happens : goal.returns-in-Happens
 returns-in-Happens g c =
-    rw c.in-Happens.is (newest_made g.C.Exclusion.core (letter_text g.C.Msg.Letter.parts) c.args.plan.now _ c.args.before c.args.state.now c.cluster.result.now c.add_newest.result
+    rw c.in-Happens.is (newest_shown g.C.Exclusion.core (text_of g.C.Exclusion.core (letter_text g.C.Msg.Letter.parts) c.args.plan.now) _ c.args.before c.args.state.now c.cluster.result.now c.add_newest.result
     (string_bytes c.args.text.now) (string_bytes c.add_newest.new.text) c.cluster.ensures c.add_newest.ensures)
 
 pub returns-in-IsLost : goal.returns-in-IsLost
 returns-in-IsLost g c =
     rw c.in-IsLost.is (λ old brings sent.
-    lost_made g.C.Exclusion.core (letter_text g.C.Msg.Letter.parts) c.args.plan.now c.in-IsLost.number old c.args.state.now c.cluster-in-IsLost.result.now c.add_lost.result
+    with_sent (lost_text (letter_text g.C.Msg.Letter.parts) c.args.plan.now c.in-IsLost.number) c.in-IsLost.number c.args.state.now c.cluster-in-IsLost.result.now c.add_lost.result
     (string_bytes c.args.text.now) (string_bytes c.add_lost.new.text) c.cluster-in-IsLost.ensures c.add_lost.ensures)
 
 pub returns-in-LinksChange : goal.returns-in-LinksChange

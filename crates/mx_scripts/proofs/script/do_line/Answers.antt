@@ -1,9 +1,11 @@
-use Rattle.std.proofs.Common.{◌≡◌, ◌⊎◌, List, OnOk, arith, subst}
+use Rattle.std.proofs.Common.{◌≡◌, ◌⊎◌, List, [], OnOk, arith, refl, subst}
 use Rattle.std.specs.Prelude.{IfErr}
 use Rattle.mx_trace.specs.declared.outcome.Entry.{Entry}
 use Rattle.mx_lines.specs.declared.line.ScriptLine.{ScriptLine}
+use Rattle.mx_lines.specs.declared.line.ScriptLine.TheVariants as script_line
 use Rattle.mx_scripts.specs.Expectations.{IsMet, IsNotMet}
 use Rattle.mx_scripts.specs.Lines.{IsNotDone, Reads}
+use Rattle.mx_scripts.specs.Told.{IsTold}
 use Rattle.mx_scripts.specs.declared.line_failure.LineFailure.TheVariants as failure
 use Rattle.mx_scripts.proofs.LineLemmas.{err_of, expected_done, line_does, misread, not_expected, not_repeated}
 use Rattle.mx_scripts.proofs.script.do_line.Goals as goal
@@ -25,7 +27,7 @@ returns-in_err-line-clause-err g c =
 pub returns-in-Does-clause-ok : goal.returns-in-Does-clause-ok
 returns-in-Does-clause-ok g c =
     let reads = subst (λ (read : ScriptLine). Reads c.args.plan.now c.args.line.now read) c.in-Does.is c.in_ok-line.ensures.ok in
-    line_does g.C.Exclusion.core c.args.plan.now c.repeat.result c.args.line.now c.in-Does.line c.args.state.now c.repeat.new.state _ reads c.repeat.ensures.ok
+    line_does g.C.Exclusion.core c.args.plan.now _ c.repeat.result c.args.line.now c.in-Does.line c.args.state.now c.repeat.new.state reads c.repeat.ensures.ok
 
 pub returns-in-Does-clause-err : goal.returns-in-Does-clause-err
 returns-in-Does-clause-err g c =
@@ -42,4 +44,11 @@ pub returns-in-Expects-clause-ok : goal.returns-in-Expects-clause-ok
 returns-in-Expects-clause-ok g c =
     let reads = subst (λ (read : ScriptLine). Reads c.args.plan.now c.args.line.now read) c.in-Expects.is c.in_ok-line.ensures.ok in
     let met = subst (λ (t : List Entry). OnOk c.compare_outcome.result (IsMet c.args.line.now t)) c.trace.ensures c.compare_outcome.ensures.ok in
-    expected_done g.C.Exclusion.core c.args.plan.now c.compare_outcome.result c.args.line.now c.args.state.now reads met
+    expected_done g.C.Exclusion.core c.args.plan.now
+    (λ es. IsTold g.C.Exclusion.core (λ k. g.K.Recorder.noted k c.args.plan.now) es c.args.state.now c.args.state.now c.args.recorder.now c.args.recorder.now)
+    c.compare_outcome.result c.args.line.now c.args.state.now reads (refl, refl) met
+
+pub returns-in-Nothing-clause-ok : goal.returns-in-Nothing-clause-ok
+returns-in-Nothing-clause-ok g c =
+    let reads = subst (λ (read : ScriptLine). Reads c.args.plan.now c.args.line.now read) c.in-Nothing.is c.in_ok-line.ensures.ok in
+    ([], (script_line.Nothing, reads, (refl, refl)), (refl, refl))

@@ -7,7 +7,7 @@ use Rattle.mx_driver.specs.Runs.{AllNameNodes}
 use Rattle.mx_driver.proofs.EventLemmas.{events_named}
 use Rattle.mx_picture.specs.Pictures.{IsDrawn, IsPictured, end_of_run}
 use Rattle.mx_picture.proofs.PictureLemmas.{listed, unlisted}
-use Rattle.mx_picture.proofs.command.PictureCommand.run.Goals as goal
+use Rattle.mx_picture.proofs.command.draw_text.Goals as goal
 
 pub draw-requires : goal.draw-requires
 draw-requires g c =
@@ -18,7 +18,7 @@ draw-requires g c =
 pub returns-in-Ok : goal.returns-in-Ok
 returns-in-Ok g c =
     let p = c.args.plan.now in
-    let part = part_of c.args.self.now.part in
+    let part = part_of c.args.picture.now.part in
     let es = c.in-Ok.events.items in
     let o = sight g.O.Output c.args.out.now in
     let n = sight g.O.Output c.draw.new.out in
@@ -29,5 +29,5 @@ returns-in-Ok g c =
 
 pub returns-in-Err : goal.returns-in-Err
 returns-in-Err g c = record {
-  prints = unlisted (part_of c.args.self.now.part) c.args.plan.now c.args.text.now c.in-Err.fault (sight g.O.Output c.args.out.now) c.from.result c.in-Err.ensures c.from.ensures;
+  prints = unlisted (part_of c.args.picture.now.part) c.args.plan.now c.args.text.now c.in-Err.fault (sight g.O.Output c.args.out.now) c.from.result c.in-Err.ensures c.from.ensures;
 }
