@@ -21,7 +21,7 @@ use Rattle.mx_stations.specs.declared.worker.Worked.{Worked}
 use Rattle.mx_stations.specs.declared.worker.Worked.TheVariants as worked
 use Rattle.mx_jobs.specs.Serial.{AreSerial}
 use Rattle.mx_live.specs.declared.live_error.LiveError.{LiveError}
-use Rattle.mx_live.specs.declared.live_error.LiveError.TheVariants.{Plan, TooFewSections, TurnsSpent, GateShut, Writer, Memory}
+use Rattle.mx_live.specs.declared.live_error.LiveError.TheVariants.{Plan, TooFewSections, TurnsSpent, GateShut, Writer, Memory, NoThread}
 use Rattle.mx_live.specs.declared.threads.WorkerConfig.{WorkerConfig}
 use Rattle.mx_live.specs.LiveErrors.{Fails, HasNone, InVain, InVainBy, IsWhy, RunsInVain, unread_error}
 use Rattle.mx_live.specs.Workers.{orders_in}
@@ -61,7 +61,8 @@ module _ (takes : Bool) (told : Option Telling) (request : LiveRequest) where
     | inl is ↦ subst (λ h. Halted held held h) (sym is) ((p, read, fits, subst (λ h. InVain p (orders_in request) h) is vain), Keeps-refl held)
     | inr is ↦ subst (λ h. Halted held held h) (sym is) ((p, read, fits, subst (λ h. InVain p (orders_in request) h) is vain), Keeps-refl held)
   ]
-  vain_halts p error held read fits (inr is) = subst (λ h. Halted held held h) (sym is) (tt, inl (Keeps-refl held))
+  vain_halts p error held read fits (inr (inl is)) = subst (λ h. Halted held held h) (sym is) (tt, inl (Keeps-refl held))
+  vain_halts p error held read fits (inr (inr is)) = subst (λ h. Halted held held h) (sym is) ((p, read, fits), Keeps-refl held)
 
   -- an output that did not take what was printed
   pub output_halts : (error : LiveError) (old new : Held) → Fails takes error → Keeps old new ⊎ Shows told request old new → Halted old new error
@@ -90,6 +91,7 @@ module _ (takes : Bool) (told : Option Telling) (request : LiveRequest) where
   print_whole GateShut old new prints = inl prints
   print_whole Writer old new prints = prints
   print_whole Memory old new prints = prints
+  print_whole NoThread old new prints = inl prints
 
   -- nothing was printed, or all
   pub ends_whole : (r : Result (Unit {0}) LiveError) (old new : Held) (kept_back : Bool) → Ends takes told request old new kept_back r → Keeps old new ⊎ Shows told request old new

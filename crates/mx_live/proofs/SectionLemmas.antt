@@ -18,9 +18,8 @@ use Rattle.mx_stations.specs.Posts.{Post}
 use Rattle.mx_stations.specs.Turns.{Station}
 use Rattle.mx_jobs.specs.Serial.{AreSerial}
 use Rattle.mx_live.specs.declared.live_error.LiveError.{LiveError}
-use Rattle.mx_live.specs.declared.live_error.LiveError.TheVariants.{Memory}
 use Rattle.mx_live.specs.declared.threads.WorkerConfig.{WorkerConfig}
-use Rattle.mx_live.specs.LiveErrors.{HasNone, InVainBy}
+use Rattle.mx_live.specs.LiveErrors.{HasNone, InVainBy, IsShort}
 use Rattle.mx_live.specs.Together.{AreGathered, ComeOf, GatheredBy, HaveSections}
 use Rattle.mx_live.specs.Workers.{AreDone, HaveRun, stations_of}
 use Rattle.mx_live.proofs.StationLemmas.{unmapped}
@@ -132,5 +131,5 @@ pub come_by : (shape : Shape) (p : Fields) (orders : WorkerConfig) (receipts : L
 come_by shape p orders receipts journal is come = subst (λ (s : Shape). GatheredBy s p orders receipts journal) (sym is) come
 
 -- and why nothing is
-pub none_by : (shape : Shape) (p : Fields) (orders : WorkerConfig) (error : LiveError) → p.shape ≡ shape → InVainBy shape p orders error ⊎ (error ≡ Memory) → HasNone p orders error
-none_by shape p orders error is none = subst (λ (s : Shape). InVainBy s p orders error ⊎ (error ≡ Memory)) (sym is) none
+pub none_by : (shape : Shape) (p : Fields) (orders : WorkerConfig) (error : LiveError) → p.shape ≡ shape → InVainBy shape p orders error ⊎ IsShort error → HasNone p orders error
+none_by shape p orders error is none = subst (λ (s : Shape). InVainBy s p orders error ⊎ IsShort error) (sym is) none

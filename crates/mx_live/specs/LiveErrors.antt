@@ -13,13 +13,15 @@ use Rattle.mx_cli.specs.declared.stop.Stop.TheVariants as stop
 use Rattle.mx_io.specs.Outputs.{Held}
 use Rattle.mx_io.specs.declared.output.OutputFault.{OutputFault}
 use Rattle.mx_io.specs.declared.output.OutputFault.TheVariants as output_fault
+use Rattle.mx_jobs.specs.declared.thread_group.StartFault.{StartFault}
+use Rattle.mx_jobs.specs.declared.thread_group.StartFault.TheVariants as start_fault
 use Rattle.mx_cli.specs.FaultLines.{fault_line, memory_line}
 use Rattle.mx_cli.specs.Reports.{MayReport}
 use Rattle.mx_stations.specs.declared.worker.Worked.{Worked}
 use Rattle.mx_stations.specs.declared.worker.Worked.TheVariants as worked
 use Rattle.mx_stations.specs.Turns.{Station}
 use Rattle.mx_live.specs.declared.live_error.LiveError.{LiveError}
-use Rattle.mx_live.specs.declared.live_error.LiveError.TheVariants.{Plan, TooFewSections, TurnsSpent, GateShut, Writer, Memory}
+use Rattle.mx_live.specs.declared.live_error.LiveError.TheVariants.{Plan, TooFewSections, TurnsSpent, GateShut, Writer, Memory, NoThread}
 use Rattle.mx_live.specs.declared.threads.WorkerConfig.{WorkerConfig}
 use Rattle.mx_live.specs.Workers.{AreDone, HaveRun}
 
@@ -31,6 +33,7 @@ error_line name TurnsSpent = codes "mx: turns spent" ++ line_feed
 error_line name GateShut = codes "mx: gate shut" ++ line_feed
 error_line name Writer = []
 error_line name Memory = memory_line
+error_line name NoThread = memory_line ++ codes "mx: a thread could not be started" ++ line_feed
 
 abbrev pub error_status : LiveError → ℕ
 error_status (Plan fault) = 1
@@ -39,6 +42,7 @@ error_status TurnsSpent = 3
 error_status GateShut = 3
 error_status Writer = 1
 error_status Memory = 5
+error_status NoThread = 5
 
 -- the line that reports the error was printed, or memory ran out, or the output refused the line
 abbrev pub ReportsError : Bool → Text → LiveError → Held → Held → ℕ → Type 0
@@ -84,9 +88,14 @@ InVainBy (planned.Raymond tree) p orders error = RunsInVain raymond_core tree p 
 abbrev pub InVain : Fields → WorkerConfig → LiveError → Type 0
 InVain p orders error = InVainBy p.shape p orders error
 
--- why a run of this plan has no journal: a worker is not done, or memory ran out
+-- memory ran out, or a thread could not be started
+abbrev pub IsShort : LiveError → Type 0
+IsShort error = (error ≡ Memory) ⊎ (error ≡ NoThread)
+
+-- why a run of this plan has no journal: a worker is not done, memory ran out, or a thread could not
+-- be started
 abbrev pub HasNone : Fields → WorkerConfig → LiveError → Type 0
-HasNone p orders error = InVain p orders error ⊎ (error ≡ Memory)
+HasNone p orders error = InVain p orders error ⊎ IsShort error
 
 -- the error of an output that failed: it refused, which an output that takes all never does, or
 -- memory ran out
@@ -103,3 +112,7 @@ unread_error stop.Memory = Memory
 abbrev pub error_of_put : OutputFault → LiveError
 error_of_put output_fault.Refused = Writer
 error_of_put output_fault.Memory = Memory
+
+abbrev pub error_of_start : StartFault → LiveError
+error_of_start start_fault.Memory = Memory
+error_of_start start_fault.NoThread = NoThread

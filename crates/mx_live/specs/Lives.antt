@@ -12,7 +12,7 @@ use Rattle.mx_cli.specs.Reading.{IsPlanOf, Reads}
 use Rattle.mx_cli.specs.Reports.{Declines, Seen}
 use Rattle.mx_jobs.specs.Serial.{AreSerial}
 use Rattle.mx_live.specs.declared.live_error.LiveError.{LiveError}
-use Rattle.mx_live.specs.declared.live_error.LiveError.TheVariants.{Plan, TooFewSections, TurnsSpent, GateShut, Writer, Memory}
+use Rattle.mx_live.specs.declared.live_error.LiveError.TheVariants.{Plan, TooFewSections, TurnsSpent, GateShut, Writer, Memory, NoThread}
 use Rattle.mx_live.specs.LiveErrors.{InVain, ReportsError}
 use Rattle.mx_live.specs.Progress.{TellsProgress}
 use Rattle.mx_live.specs.Shown.{live_text}
@@ -35,7 +35,8 @@ Shows told request old new =
 
 -- why the run has no journal: the plan cannot be read or is refused; or it allows too few sections;
 -- or some worker is not done, and the first such worker, in order of the nodes, decides the error.
--- `Writer` needs an output that may refuse. `Memory` is possible for every run
+-- `Writer` needs an output that may refuse. `Memory` is possible for every run, and `NoThread` for
+-- every run that begins
 abbrev pub Halts : Bool → Option Telling → LiveRequest → LiveError → Type 0
 Halts takes told request (Plan fault) =
     IfSome told (λ telling. Reads telling (Err (stop.Fault fault)))
@@ -47,6 +48,7 @@ Halts takes told request GateShut =
     (p : Fields) × IsPlanOf told p × Fits request p × InVain p (orders_in request) GateShut
 Halts takes told request Writer = takes ≢ true
 Halts takes told request Memory = Unit {0}
+Halts takes told request NoThread = (p : Fields) × IsPlanOf told p × Fits request p
 
 -- nothing was printed; or, if memory ran out or the output refused, perhaps the whole text, which
 -- the output need not have passed on completely

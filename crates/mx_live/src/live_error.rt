@@ -5,6 +5,7 @@ ghost use Rattle.mx_live.specs.LiveErrors.{ReportsError, error_line, error_statu
 
 use mx_cli::{Fault, FaultLine, Names, Stop, report_memory, write_line};
 use mx_io::{Output, OutputFault};
+use mx_jobs::StartFault;
 use std::alloc::{AllocError, Global};
 use std::fmt;
 
@@ -21,8 +22,10 @@ pub enum LiveError {
     GateShut,
     /// An output refused a text.
     Writer,
-    /// Memory ran out, or a thread could not be started.
+    /// Memory ran out.
     Memory,
+    /// A thread could not be started.
+    NoThread,
 }
 
 impl LiveError {
@@ -32,7 +35,7 @@ impl LiveError {
         match self {
             LiveError::Plan(_) | LiveError::TooFewSections | LiveError::Writer => 1,
             LiveError::TurnsSpent | LiveError::GateShut => 3,
-            LiveError::Memory => 5,
+            LiveError::Memory | LiveError::NoThread => 5,
         }
     }
 }
@@ -59,6 +62,20 @@ impl From<AllocError> for LiveError {
 
     fn from(_e: AllocError) -> LiveError {
         LiveError::Memory
+    }
+}
+
+impl From<StartFault> for LiveError {
+    ghost use Rattle.std.specs.Prelude.{◌≡◌};
+    ghost use Rattle.mx_live.specs.LiveErrors.{error_of_start};
+
+    ghost from_gives = { λ fault error. error ≡ error_of_start fault };
+
+    fn from(fault: StartFault) -> LiveError {
+        match fault {
+            StartFault::Memory => LiveError::Memory,
+            StartFault::NoThread => LiveError::NoThread,
+        }
     }
 }
 
@@ -89,6 +106,9 @@ impl fmt::Display for LiveErrorLine<'_> {
             LiveError::TurnsSpent => writeln!(f, "mx: turns spent"),
             LiveError::GateShut => writeln!(f, "mx: gate shut"),
             LiveError::Memory => writeln!(f, "mx: out of memory"),
+            LiveError::NoThread => {
+                f.write_str("mx: out of memory\nmx: a thread could not be started\n")
+            }
             LiveError::Writer => Ok(()),
         }
     }

@@ -4,7 +4,7 @@ ghost use Rattle.std.specs.Prelude.{◌≡◌, ◌⊎◌, length, IfErr, IfNone,
 ghost use Rattle.mx_cli.specs.Requests.{live_request_of};
 ghost use Rattle.mx_stations.specs.Gathered.{IsGathered, OfOneTable};
 ghost use Rattle.mx_jobs.specs.Serial.{AreSerial};
-ghost use Rattle.mx_live.specs.LiveErrors.{EndInVain, FirstNotDone, HasNone, RunsInVain};
+ghost use Rattle.mx_live.specs.LiveErrors.{EndInVain, FirstNotDone, HasNone, IsShort, RunsInVain};
 ghost use Rattle.mx_live.specs.Progress.{TellsProgress};
 ghost use Rattle.mx_live.specs.Stations.{AreAtRest};
 ghost use Rattle.mx_live.specs.Together.{AreGathered, ComeOf, HaveSections};
@@ -78,15 +78,13 @@ where
     ensures err { (shape : C.Shape) → AreAtRest C.core shape plan.now stations.items
         → IfErr result (λ error.
         RunsInVain C.core shape plan.now (orders_in (live_request_of request.now)) error
-        ⊎ (error ≡ LiveError.Memory)) }
+        ⊎ IsShort error) }
     ensures progress { TellsProgress request.now.progress
         (E.written err.old) (E.written err.new) }
     ensures stays { E.takes_all err.new ≡ E.takes_all err.old }
 {
-    match run_stations(rt, alloc, plan, stations, request, err) {
-        Ok(left) => gather_left(alloc, left),
-        Err(AllocError) => Err(LiveError::Memory),
-    }
+    let left = run_stations(rt, alloc, plan, stations, request, err)?;
+    gather_left(alloc, left)
 }
 
 /// Creates new idle stations for the nodes of a plan, one for each, in order.
@@ -108,8 +106,11 @@ pub fn stations_in<C: Exclusion>(
 }
 
 /// Runs each station in a thread, until all threads have ended. Returns the stations, in the same
-/// order, and how their workers ended. An `Err` means that memory ran out, or that a thread could
-/// not be started.
+/// order, and how their workers ended.
+///
+/// # Errors
+///
+/// Returns `Memory` if memory runs out, and `NoThread` if a thread can't be started.
 pub fn run_stations<C: Exclusion + Send + 'static, R: Host, E: Output>(
     rt: &R,
     alloc: Global,
@@ -117,12 +118,13 @@ pub fn run_stations<C: Exclusion + Send + 'static, R: Host, E: Output>(
     stations: Vec<Station<C>>,
     request: &LiveRequest<'_>,
     err: &mut E,
-) -> Result<Vec<Ended<C>>, AllocError>
+) -> Result<Vec<Ended<C>>, LiveError>
 where
     C::Msg: Send + 'static,
     C::Shape: Send + 'static,
     ensures left { IfOk result (λ left.
         AreLeft C.core (orders_in (live_request_of request.now)) stations.items left.items) }
+    ensures short { IfErr result IsShort }
     ensures progress { TellsProgress request.now.progress
         (E.written err.old) (E.written err.new) }
     ensures stays { E.takes_all err.new ≡ E.takes_all err.old }
@@ -130,7 +132,7 @@ where
     let watch = watch_over(stations.as_slice())?;
     let workers = start_all(rt, alloc, plan.nodes(), stations, orders_of(request))?;
     report_if_asked(rt, alloc, request.progress, watch, &workers, err);
-    join_all(rt, workers)
+    Ok(join_all(rt, workers)?)
 }
 
 fn orders_of(request: &LiveRequest<'_>) -> WorkerConfig

@@ -5,7 +5,7 @@ ghost use Rattle.std.specs.List.{AllZip};
 ghost use Rattle.mx_live.specs.Workers.{IsLeft, weather_of, worker_of};
 
 use mx_explorer::Weather;
-use mx_jobs::{Host, StartGate, ThreadGroup, Work};
+use mx_jobs::{Host, StartFault, StartGate, ThreadGroup, Work};
 use mx_letters::Fates;
 use mx_nodelaws::Exclusion;
 use mx_stamps::NodeId;
@@ -99,11 +99,11 @@ where
     Ok(group)
 }
 
-/// Waits until all workers have ended. If one got no thread, what they left is dropped.
+/// Waits until all workers have ended. If one got no thread, returns why, and drops what they left.
 pub(crate) fn join_all<C: Exclusion + Send + 'static, R: Host>(
     rt: &R,
     workers: Workers<C, R>,
-) -> Result<Vec<Ended<C>>, AllocError>
+) -> Result<Vec<Ended<C>>, StartFault>
 where
     C::Msg: Send + 'static,
     C::Shape: Send + 'static,
@@ -113,6 +113,6 @@ where
 {
     match workers.join(rt) {
         (all, None) => Ok(all),
-        (_, Some(_)) => Err(AllocError),
+        (_, Some(fault)) => Err(fault),
     }
 }

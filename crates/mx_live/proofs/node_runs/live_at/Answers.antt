@@ -16,24 +16,24 @@ run_stations-requires-send-C-Shape g c κs within = c.type_bounds.send-C-Shape
 pub gather_left-requires : goal.gather_left-requires
 gather_left-requires g c =
     let at = c.requires in
-    (search (c.requires-raw.1.1.1.1.1.1), of_one_table g.C.Exclusion.core at.0 c.args.plan.now _ _ (record { stations = c.args.stations.items; rested = at.1; worked = c.in-Ok.ensures.left }))
+    (search (c.requires-raw.1.1.1.1.1.1), of_one_table g.C.Exclusion.core at.0 c.args.plan.now _ _ (record { stations = c.args.stations.items; rested = at.1; worked = c.in_ok-left.ensures.left }))
 
-pub returns-in-Ok-clause-come : goal.returns-in-Ok-clause-come
-returns-in-Ok-clause-come g c = λ shape rested.
+pub returns-clause-come : goal.returns-clause-come
+returns-clause-come g c = λ shape rested.
     both_ok c.gather_left.result _ _ _ c.gather_left.ensures.done c.gather_left.ensures.gathered
-    (λ all done gathered. come_gathered g.C.Exclusion.core shape c.args.plan.now _ _ _ _ (record { stations = c.args.stations.items; rested = rested; worked = c.in-Ok.ensures.left }) done gathered)
+    (λ all done gathered. come_gathered g.C.Exclusion.core shape c.args.plan.now _ _ _ _ (record { stations = c.args.stations.items; rested = rested; worked = c.in_ok-left.ensures.left }) done gathered)
 
-pub returns-in-Ok-clause-err : goal.returns-in-Ok-clause-err
-returns-in-Ok-clause-err g c = λ shape rested.
+pub returns-clause-err : goal.returns-clause-err
+returns-clause-err g c = λ shape rested.
     IfErr-weaker c.gather_left.result _ _
     (λ error vain. elim vain [
-      | inl first ↦ inl (record { left = _; run = record { stations = c.args.stations.items; rested = rested; worked = c.in-Ok.ensures.left }; first = first })
-      | inr out ↦ inr out.1
+      | inl first ↦ inl (record { left = _; run = record { stations = c.args.stations.items; rested = rested; worked = c.in_ok-left.ensures.left }; first = first })
+      | inr out ↦ inr (inl out.1)
     ])
     c.gather_left.ensures.err
 
-pub returns-in-Err-clause-err : goal.returns-in-Err-clause-err
-returns-in-Err-clause-err g c = λ shape at. inr refl
+pub returns-in_err-left-clause-err : goal.returns-in_err-left-clause-err
+returns-in_err-left-clause-err g c = λ shape at. inr c.in_err-left.ensures.short
 
 pub run_stations-requires-after_bounds : goal.run_stations-requires-after_bounds
 run_stations-requires-after_bounds g c κs within = search (c.requires-raw.1.1.1.1.1.1)
