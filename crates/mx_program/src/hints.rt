@@ -1,9 +1,11 @@
 //! What follows the line of a fault: where the fault is, as `explain` says it first; or, for a
 //! reader at a terminal, the command that says so.
 
-use mx_cli::{Request, parse, write_line};
+use crate::remembered::Remembered;
+use mx_cli::{Names, Request, fetch_both, fetch_plan, parse, write_line};
 use mx_explain::explain;
-use mx_io::{Output, Streams};
+use mx_io::{Output, Streams, Table};
+use mx_judge::trace_in;
 use std::alloc::Global;
 use std::rt::Files;
 use std::{fmt, fs};
@@ -33,6 +35,27 @@ impl fmt::Display for FaultyFiles<'_> {
     }
 }
 
+/// How many sections a live run wants, which are more than its plan allows.
+#[derive(Clone, Copy)]
+struct Wanted {
+    nodes: u8,
+    /// How many sections each node wants.
+    each: u64,
+    /// How many sections the plan allows.
+    most: u64,
+}
+
+impl fmt::Display for Wanted {
+    fn fmt<W: fmt::Write>(&self, f: &mut fmt::Formatter<W>) -> fmt::Result {
+        let Wanted { nodes, each, most } = *self;
+        let all = u64::from(nodes).saturating_mul(each);
+        writeln!(
+            f,
+            "mx: {nodes} nodes with {each} sections each want {all}, and the plan allows {most}"
+        )
+    }
+}
+
 /// Writes what follows the line of a fault of the command line `words`: where the fault is, or else
 /// a hint. Writes nothing if a file is standard input (`-`), which cannot be read twice.
 pub(crate) fn tell_place<R: Files + Input, E: Output>(
@@ -55,15 +78,64 @@ pub(crate) fn tell_place<R: Files + Input, E: Output>(
     if files.plan == "-" || files.second == Some("-") {
         return;
     }
-    match place_in(rt, alloc, &files) {
-        Some(line) => {
-            let _ = err.put(line.as_bytes());
-        }
-        None if is_terminal && has_hint(&request) => {
-            let _ = write_line(alloc, err, files);
-        }
-        None => {}
+    if let Some(line) = place_in(rt, alloc, &files) {
+        let _ = err.put(line.as_bytes());
+    } else if let Some(wanted) = too_few_sections(rt, alloc, &request) {
+        let _ = write_line(alloc, err, wanted);
+    } else if is_terminal && has_hint(&request) {
+        let _ = write_line(alloc, err, files);
     }
+}
+
+/// Returns how many sections a live run wants, if those are more than its plan allows.
+fn too_few_sections<R: Files + Input>(
+    rt: &R,
+    alloc: Global,
+    request: &Request<'_>,
+) -> Option<Wanted> {
+    let Request::Live(run) = request else {
+        return None;
+    };
+    let plan = fetch_plan(alloc, &mut Streams { rt }, run.plan).ok()?;
+    let wanted = Wanted {
+        nodes: plan.nodes(),
+        each: run.sections,
+        most: plan.sections(),
+    };
+    let is_too_few = u64::from(wanted.nodes).saturating_mul(wanted.each) > wanted.most;
+    is_too_few.then_some(wanted)
+}
+
+/// Writes that the trace of the command line `words` is empty, if it is.
+pub(crate) fn tell_empty<R: Files + Input, E: Output>(
+    alloc: Global,
+    words: &[&str],
+    source: &Remembered<'_, R>,
+    err: &mut E,
+) {
+    match parse(alloc, words) {
+        Ok(Some(Request::Judge { names, .. })) | Ok(Some(Request::PictureTrace(names, _)))
+            if is_empty_trace(alloc, source, &names) == Some(true) => {
+            let _ = err.put("mx: the trace is empty\n".as_bytes());
+        }
+        _ => {}
+    }
+}
+
+/// Whether the files that were read have a trace without an event; `None` if they are not
+/// remembered.
+fn is_empty_trace<R: Files + Input>(
+    alloc: Global,
+    source: &Remembered<'_, R>,
+    names: &Names<'_>,
+) -> Option<bool> {
+    let entries = source.entries(alloc).ok()?;
+    let mut table = Table {
+        entries: entries.as_slice(),
+    };
+    let both = fetch_both(alloc, &mut table, names).ok()?;
+    let trace = trace_in(alloc, &both.plan, both.text.as_slice()).ok()?;
+    Some(trace.entries.is_empty())
 }
 
 /// Whether the place of a fault follows its line: of most commands, only at a terminal. The faults of

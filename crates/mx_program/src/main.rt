@@ -4,22 +4,27 @@
 #![tactic(auto)]
 
 mod hints;
+mod patient;
+mod remembered;
 
-use crate::hints::tell_place;
+use crate::hints::{tell_empty, tell_place};
+use crate::patient::Patient;
+use crate::remembered::Remembered;
 use mx_dispatch::command;
-use mx_io::{Output, Stream, Streams, as_slices, given_words, status_of};
+use mx_io::{Output, Stream, as_slices, given_words, status_of};
 use mx_jobs::Host;
 use mx_live::live;
 use mx_play::{Typed, play};
 use std::alloc::AllocError;
-use std::io;
 use std::io::{BufWriter, IsTerminal, Write};
 use std::process::ExitCode;
 use std::rt::{Env, Files};
+use std::{env, io};
 
-fn carry_out<R: Files + Input + AllocGlobal + Host, O: Output, E: Output>(
+fn carry_out<R: Files + Env + Input + AllocGlobal + Host, O: Output, E: Output>(
     rt: &R,
     words: &[&str],
+    source: &mut Remembered<'_, R>,
     out: &mut O,
     err: &mut E,
 ) -> u8
@@ -27,25 +32,26 @@ where
     R::Reader: IsTerminal,
 {
     let alloc = rt.alloc();
-    let mut source = Streams { rt };
     match words.first() {
-        Some(&"live") => live(rt, alloc, words, &mut source, out, err),
-        Some(&"play") => play(alloc, words, &mut source, &mut typed_lines(rt), out, err),
-        _ => command(alloc, words, &mut source, out, err),
+        Some(&"live") => live(rt, alloc, words, source, out, err),
+        Some(&"play") => play(alloc, words, source, &mut typed_lines(rt), out, err),
+        _ => command(alloc, words, source, out, err),
     }
 }
 
-fn typed_lines<R: Input>(rt: &R) -> Typed<R::Reader>
+/// Returns the lines of standard input. They are typed if they come from a terminal, or through a
+/// pipe of `./mx`, which sets `MX_TYPED`.
+fn typed_lines<R: Env + Input + AllocGlobal>(rt: &R) -> Typed<R::Reader>
 where
     R::Reader: IsTerminal,
 {
     let reader = rt.reader();
-    let is_terminal = reader.is_terminal();
-    Typed::new(reader, is_terminal)
+    let are_typed = reader.is_terminal() || env::var(rt, "MX_TYPED").is_ok();
+    Typed::new(reader, are_typed)
 }
 
 /// Runs the command line of the process. If its files have a fault, the place of the fault, or a
-/// hint, may follow on standard error.
+/// hint, may follow on standard error; so does that a trace is empty.
 fn run_words<
     R: Files + Env + Input + AllocGlobal + Host,
     O: Write + Drop,
@@ -58,12 +64,15 @@ where
     let given = given_words(rt)?;
     let words = with_help(as_slices(alloc, given.as_slice())?)?;
     let is_terminal = err.is_terminal();
-    let mut out = Stream::new(BufWriter::new(alloc, out)?);
+    let mut out = Stream::new(BufWriter::new(alloc, Patient::new(rt, out))?);
     // Without room, the buffer passes each line on at once.
-    let mut err = Stream::new(BufWriter::with_capacity(alloc, 0, err)?);
-    let status = carry_out(rt, words.as_slice(), &mut out, &mut err);
-    if status == 1 {
-        tell_place(rt, alloc, words.as_slice(), is_terminal, &mut err);
+    let mut err = Stream::new(BufWriter::with_capacity(alloc, 0, Patient::new(rt, err))?);
+    let mut source = Remembered::new(rt, alloc);
+    let status = carry_out(rt, words.as_slice(), &mut source, &mut out, &mut err);
+    match status {
+        0 => tell_empty(alloc, words.as_slice(), &source, &mut err),
+        1 => tell_place(rt, alloc, words.as_slice(), is_terminal, &mut err),
+        _ => {}
     }
     Ok(status)
 }
