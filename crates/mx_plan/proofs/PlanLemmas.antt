@@ -6,13 +6,14 @@ use Rattle.serde_json.specs.Find.{get}
 use Rattle.mx_plan.specs.Text.{Text, AreNames}
 use Rattle.mx_plan.specs.Fields.{Fields}
 use Rattle.mx_plan.specs.Shapes.{PlannedShape}
-use Rattle.mx_plan.specs.Values.{Answers, and_then, is_object, number_of}
+use Rattle.mx_plan.specs.Values.{Answers, and_then, is_object}
 use Rattle.mx_plan.specs.NameLists.{names_of}
-use Rattle.mx_plan.specs.Plans.{Draft, IsOutcome, algorithm_of, draft_of, in_range, origin_of, planned_of}
+use Rattle.mx_plan.specs.Plans.{Draft, IsOutcome, algorithm_of, draft_of, origin_of, planned_of, sections_of}
 use Rattle.mx_plan.specs.PlanParts.{SettingAnswers, IsSettingOutcome, both_names, plan_of, setting_of}
 use Rattle.mx_plan.specs.declared.place.Place.TheVariants as place
 use Rattle.mx_plan.specs.declared.shape.Shape.{Shape}
 use Rattle.mx_plan.specs.declared.algorithm.Algorithm.{Algorithm}
+use Rattle.mx_plan.specs.declared.needs.Needs.{Needs}
 use Rattle.mx_plan.specs.declared.faults.PlanFault.{PlanFault}
 use Rattle.mx_plan.specs.declared.faults.PlanFault.TheVariants.{NotJson, NotPlan, DoubleName, UnknownName, BadShape, Memory}
 
@@ -92,37 +93,37 @@ settled nodes registers (Ok w) (Err Memory) r is made = absurd is
 settled nodes registers (Err w) (Ok s) r is made = absurd is
 settled nodes registers (Err w) (Err e) r is made = rw made is
 
-module _ (d : Data) (algorithm : Algorithm) (object : is_object d ≡ true) (named : algorithm_of d ≡ Ok algorithm) where
+module _ (needs : Needs) (d : Data) (algorithm : Algorithm) (object : is_object d ≡ true) (named : algorithm_of needs (get (codes "algorithm") d) ≡ Ok algorithm) where
   -- the plan that is described, once its names are read
   rest_of : List Text → List Text → Result Draft PlanFault
   rest_of nodes registers =
-      and_then (in_range place.Sections (number_of (get (codes "sections") d)))
+      and_then (sections_of needs (get (codes "sections") d))
       (λ sections. and_then (origin_of (get (codes "origin") d))
       (λ origin. and_then (planned_of algorithm nodes d)
       (λ shape_planned. Ok (drafted nodes registers sections origin shape_planned))))
 
-  names_first : draft_of d
+  names_first : draft_of needs d
       ≡ and_then (names_of 21 place.Nodes (get (codes "nodes") d))
       (λ nodes. and_then (names_of 32 place.Registers (get (codes "registers") d)) (rest_of nodes))
   unfolding drafted rest_of
   names_first = rw (object, named) refl
 
   pub names_refused : (e : PlanFault) (r : Result Fields PlanFault) → Answers (both_names d) (Err e) → r ≡ Err e
-      → IsOutcome (draft_of d) r ⊎ (r ≡ Err Memory)
+      → IsOutcome (draft_of needs d) r ⊎ (r ≡ Err Memory)
   names_refused e r (inl is) err = inl (rw (err, names_first, both_refuse _ _ rest_of e (sym is)) refl)
   names_refused e r (inr is) err = let memory : e ≡ Memory = cc in inr (err ∙ ap Err memory)
 
   pub plan_made : (nodes registers : List Text) (s : Result (ℕ × ℕ × Shape) PlanFault) (r : Result Fields PlanFault)
       → Answers (both_names d) (Ok (nodes, registers))
-      → SettingAnswers (length nodes) (setting_of algorithm nodes d) s
+      → SettingAnswers (length nodes) (setting_of needs algorithm nodes d) s
       → MatchResult s (λ x. IsOkAnd r (λ p. p ≡ plan_of nodes registers x.0 x.1 x.2)) (λ e. r ≡ Err e)
-      → IsOutcome (draft_of d) r ⊎ (r ≡ Err Memory)
+      → IsOutcome (draft_of needs d) r ⊎ (r ≡ Err Memory)
   unfolding rest_of
   plan_made nodes registers s r names (inl is) made =
       inl (rw (
         names_first,
         both_answer _ _ rest_of nodes registers (answered _ (nodes, registers) names),
-        in_turn (in_range place.Sections (number_of (get (codes "sections") d))) (origin_of (get (codes "origin") d)) (planned_of algorithm nodes d) (λ a b c. Ok (drafted nodes registers a b c)),
-      ) (settled nodes registers (setting_of algorithm nodes d) s r is made))
+        in_turn (sections_of needs (get (codes "sections") d)) (origin_of (get (codes "origin") d)) (planned_of algorithm nodes d) (λ a b c. Ok (drafted nodes registers a b c)),
+      ) (settled nodes registers (setting_of needs algorithm nodes d) s r is made))
   plan_made nodes registers s r names (inr is) made =
       inr (subst (λ t. MatchResult t (λ x. IsOkAnd r (λ p. p ≡ plan_of nodes registers x.0 x.1 x.2)) (λ e. r ≡ Err e)) is made)

@@ -6,12 +6,13 @@ use Rattle.mx_stamps.specs.declared.limits.TheConstants.{MAX_NODES, MAX_REGISTER
 use Rattle.mx_plan.specs.Text.{Text}
 use Rattle.mx_plan.specs.Fields.{Fields}
 use Rattle.mx_plan.specs.Shapes.{PlannedShape, IsShapeOf, IsRefusalOf}
-use Rattle.mx_plan.specs.Values.{and_then, number_of}
+use Rattle.mx_plan.specs.Values.{and_then}
 use Rattle.mx_plan.specs.NameLists.{names_of}
-use Rattle.mx_plan.specs.Plans.{in_range, origin_of, planned_of}
+use Rattle.mx_plan.specs.Plans.{origin_of, planned_of, sections_of}
 use Rattle.mx_plan.specs.declared.place.Place.TheVariants as place
 use Rattle.mx_plan.specs.declared.shape.Shape.{Shape}
 use Rattle.mx_plan.specs.declared.algorithm.Algorithm.{Algorithm}
+use Rattle.mx_plan.specs.declared.needs.Needs.{Needs}
 use Rattle.mx_plan.specs.declared.faults.PlanFault.{PlanFault}
 use Rattle.mx_plan.specs.declared.faults.PlanFault.TheVariants.{BadShape, Memory}
 
@@ -22,9 +23,10 @@ both_names d =
     (λ registers. Ok (nodes, registers)))
 
 -- the last section number, the origin and the shape of a plan for an algorithm over these nodes
-abbrev pub setting_of : Algorithm → List Text → Data → Result (ℕ × ℕ × PlannedShape) PlanFault
-setting_of algorithm nodes d =
-    and_then (in_range place.Sections (number_of (get (codes "sections") d)))
+abbrev pub setting_of : Needs → Algorithm → List Text → Data
+    → Result (ℕ × ℕ × PlannedShape) PlanFault
+setting_of needs algorithm nodes d =
+    and_then (sections_of needs (get (codes "sections") d))
     (λ sections. and_then (origin_of (get (codes "origin") d))
     (λ origin. and_then (planned_of algorithm nodes d)
     (λ shape_planned. Ok (sections, origin, shape_planned))))

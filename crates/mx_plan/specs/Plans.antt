@@ -1,5 +1,5 @@
 -- The plan in a text.
-use Rattle.std.specs.Prelude.{◌≡◌, ◌⊎◌, ◌&&◌, ℕ, List, not, length, nat_le, codes, if◌then◌else◌, Option, Some, None, Result, Ok, Err, option_and_then}
+use Rattle.std.specs.Prelude.{◌≡◌, ◌⊎◌, ◌&&◌, ℕ, List, not, length, nat_le, codes, if◌then◌else◌, Option, Some, None, Result, Ok, Err}
 use Rattle.std.specs.Option.{option_map_or}
 use Rattle.std.specs.Str.{bytes_eq}
 use Rattle.serde_json.specs.Data.{Data}
@@ -17,10 +17,17 @@ use Rattle.mx_plan.specs.declared.place.Place.TheVariants as place
 use Rattle.mx_plan.specs.declared.shape.Shape.{Shape}
 use Rattle.mx_plan.specs.declared.algorithm.Algorithm.{Algorithm}
 use Rattle.mx_plan.specs.declared.algorithm.Algorithm.TheVariants.{Ricart, Maekawa, Raymond}
+use Rattle.mx_plan.specs.declared.needs.Needs.{Needs}
+use Rattle.mx_plan.specs.declared.needs.Needs.TheVariants.{All, Names}
 use Rattle.mx_plan.specs.declared.faults.PlanFault.{PlanFault}
 use Rattle.mx_plan.specs.declared.faults.PlanFault.TheVariants.{NotPlan, BadShape, Memory}
 
 -- ---- the keys
+
+-- a missing key: it counts as this if a plan needs only names, and else is a fault
+abbrev pub missing : {T : Type 0} → Needs → Place → T → Result T PlanFault
+missing All p t = Err (NotPlan p)
+missing Names p t = Ok t
 
 abbrev pub algorithm_named : Text → Result Algorithm PlanFault
 algorithm_named word =
@@ -29,15 +36,21 @@ algorithm_named word =
     else if bytes_eq word (codes "raymond") then Ok Raymond
     else Err (NotPlan place.Algorithm)
 
-abbrev pub algorithm_of : Data → Result Algorithm PlanFault
-algorithm_of d =
-    option_map_or algorithm_named (option_and_then as_str (get (codes "algorithm") d))
-    (Err (NotPlan place.Algorithm))
+-- the algorithm in the value of a key
+abbrev pub algorithm_of : Needs → Option Data → Result Algorithm PlanFault
+algorithm_of needs None = missing needs place.Algorithm Ricart
+algorithm_of needs (Some d) =
+    option_map_or algorithm_named (as_str d) (Err (NotPlan place.Algorithm))
 
 -- the number, if it is from 1 to the greatest section number
 abbrev pub in_range : Place → Option ℕ → Result ℕ PlanFault
 in_range p None = Err (NotPlan p)
 in_range p (Some n) = if nat_le 1 n && nat_le n MAX_SECTIONS then Ok n else Err (NotPlan p)
+
+-- the last section number in the value of a key
+abbrev pub sections_of : Needs → Option Data → Result ℕ PlanFault
+sections_of needs None = missing needs place.Sections MAX_SECTIONS
+sections_of needs (Some d) = in_range place.Sections (number_of (Some d))
 
 -- the origin in the value of a key: 0 if the key is absent
 abbrev pub origin_of : Option Data → Result ℕ PlanFault
@@ -68,13 +81,13 @@ pub record Draft : Type 0 where
   pub shape_planned : PlannedShape
 
 -- the plan that a value describes, or the fault of the first part that is wrong, in this order
-abbrev pub draft_of : Data → Result Draft PlanFault
-draft_of d =
+abbrev pub draft_of : Needs → Data → Result Draft PlanFault
+draft_of needs d =
     if not (is_object d) then Err (NotPlan place.Plan)
-    else and_then (algorithm_of d)
+    else and_then (algorithm_of needs (get (codes "algorithm") d))
     (λ algorithm. and_then (names_of MAX_NODES place.Nodes (get (codes "nodes") d))
     (λ nodes. and_then (names_of MAX_REGISTERS place.Registers (get (codes "registers") d))
-    (λ registers. and_then (in_range place.Sections (number_of (get (codes "sections") d)))
+    (λ registers. and_then (sections_of needs (get (codes "sections") d))
     (λ sections. and_then (origin_of (get (codes "origin") d))
     (λ origin. and_then (planned_of algorithm nodes d)
     (λ shape_planned. Ok (record {
@@ -86,8 +99,8 @@ draft_of d =
     })))))))
 
 -- the plan that a text describes
-abbrev pub draft_at : List ℕ → Result Draft PlanFault
-draft_at = of_text draft_of
+abbrev pub draft_at : Needs → List ℕ → Result Draft PlanFault
+draft_at needs = of_text (draft_of needs)
 
 -- the plan has the described parts
 pub record IsPlanOf (draft : Draft) (p : Fields) : Type 0 where

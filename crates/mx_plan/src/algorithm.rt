@@ -1,8 +1,10 @@
-ghost use Rattle.std.specs.Prelude.{◌≡◌};
+ghost use Rattle.std.specs.Prelude.{◌≡◌, codes};
+ghost use Rattle.serde_json.specs.Find.{get};
 ghost use Rattle.serde_json.specs.View.{view};
 ghost use Rattle.mx_plan.specs.Plans as spec;
 
 use crate::faults::PlanFault;
+use crate::needs::Needs;
 use crate::place::Place;
 use serde_json::Value;
 
@@ -32,11 +34,15 @@ fn named(word: &str) -> Result<Algorithm, PlanFault>
 ///
 /// # Errors
 ///
-/// Returns `NotPlan` if the key `algorithm` is missing, or its value names no algorithm.
-pub fn algorithm_in(plan: &Value) -> Result<Algorithm, PlanFault>
-    ensures { result ≡ spec.algorithm_of (view plan.now) }
+/// Returns `NotPlan` if the key `algorithm` is missing and needed, or its value names no algorithm.
+pub fn algorithm_in(plan: &Value, needs: Needs) -> Result<Algorithm, PlanFault>
+    ensures { result ≡ spec.algorithm_of needs (get (codes "algorithm") (view plan.now)) }
 {
-    match plan.get("algorithm").and_then(Value::as_str) {
+    let algorithm = plan.get("algorithm");
+    if algorithm.is_none() && matches!(needs, Needs::Names) {
+        return Ok(Algorithm::Ricart);
+    }
+    match algorithm.and_then(Value::as_str) {
         Some(word) => named(word),
         None => Err(PlanFault::NotPlan(Place::Algorithm)),
     }

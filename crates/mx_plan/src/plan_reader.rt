@@ -3,7 +3,7 @@ ghost use Rattle.serde_json.specs.Find.{get};
 ghost use Rattle.serde_json.specs.View.{view};
 ghost use Rattle.mx_plan.specs.Text.{AreNames};
 ghost use Rattle.mx_plan.specs.Fields.{IsPlan, IsShape};
-ghost use Rattle.mx_plan.specs.Values.{Answers, number_of};
+ghost use Rattle.mx_plan.specs.Values.{Answers};
 ghost use Rattle.mx_plan.specs.PlanParts as part;
 ghost use Rattle.mx_plan.specs.Plans as spec;
 
@@ -11,6 +11,7 @@ use crate::algorithm::{Algorithm, algorithm_in};
 use crate::faults::PlanFault;
 use crate::name_reader::names_at;
 use crate::names::Names;
+use crate::needs::Needs;
 use crate::place::Place;
 use crate::plan::Plan;
 use crate::quorum_reader::quorums_in;
@@ -32,25 +33,38 @@ use std::alloc::Global;
 /// (`NotPlan`), then for double names (`DoubleName`) and unknown ones (`UnknownName`). The shape is
 /// checked after all places (`BadShape`).
 pub fn read_plan(alloc: Global, text: &[u8]) -> Result<Plan, PlanFault>
-    ensures answers { spec.IsOutcome (spec.draft_at text.now) result
+    ensures answers { spec.IsOutcome (spec.draft_at Needs.All text.now) result
+        ⊎ (result ≡ Err PlanFault.Memory) }
+    ensures valid { IfOk result (λ plan. IsPlan plan) }
+{
+    read_plan_for(alloc, text, Needs::All)
+}
+
+/// Reads a plan as [`read_plan`] does, except that the plan has to have only the needed keys.
+///
+/// # Errors
+///
+/// Returns the errors of [`read_plan`], and none for a missing key that is not needed.
+pub fn read_plan_for(alloc: Global, text: &[u8], needs: Needs) -> Result<Plan, PlanFault>
+    ensures answers { spec.IsOutcome (spec.draft_at needs text.now) result
         ⊎ (result ≡ Err PlanFault.Memory) }
     ensures valid { IfOk result (λ plan. IsPlan plan) }
 {
     let value = parse(alloc, text)?;
-    plan_in(alloc, &value)
+    plan_in(alloc, &value, needs)
 }
 
-fn plan_in(alloc: Global, value: &Value) -> Result<Plan, PlanFault>
-    ensures answers { spec.IsOutcome (spec.draft_of (view value.now)) result
+fn plan_in(alloc: Global, value: &Value, needs: Needs) -> Result<Plan, PlanFault>
+    ensures answers { spec.IsOutcome (spec.draft_of needs (view value.now)) result
         ⊎ (result ≡ Err PlanFault.Memory) }
     ensures valid { IfOk result (λ plan. IsPlan plan) }
 {
     if !value.is_object() {
         return Err(PlanFault::NotPlan(Place::Plan));
     }
-    let algorithm = algorithm_in(value)?;
+    let algorithm = algorithm_in(value, needs)?;
     let (nodes, registers) = both_names(alloc, value)?;
-    setting_in(alloc, algorithm, value, &nodes).map(|(sections, origin, shape)| Plan::of(
+    setting_in(alloc, needs, algorithm, value, &nodes).map(|(sections, origin, shape)| Plan::of(
         nodes, registers, sections, origin, shape,
     ))
 }
@@ -73,29 +87,33 @@ fn both_names(alloc: Global, value: &Value) -> Result<(Names, Names), PlanFault>
 /// Returns the greatest section number, the origin and the shape of a plan, in this order.
 fn setting_in(
     alloc: Global,
+    needs: Needs,
     algorithm: Algorithm,
     value: &Value,
     nodes: &Names,
 ) -> Result<(u64, u64, Shape), PlanFault>
     requires { AreNames MAX_NODES nodes.now }
     ensures answers { part.SettingAnswers (length nodes.now)
-        (part.setting_of algorithm nodes.now (view value.now)) result }
+        (part.setting_of needs algorithm nodes.now (view value.now)) result }
     ensures low { IfOk result (λ setting. 1 ≤ setting.0) }
     ensures high { IfOk result (λ setting. setting.0 ≤ MAX_SECTIONS) }
     ensures shape { IfOk result (λ setting. IsShape (length nodes.now) setting.2) }
 {
-    let sections = sections_in(value)?;
+    let sections = sections_in(value, needs)?;
     let origin = origin_in(value)?;
     shape_in(alloc, algorithm, value, nodes).map(|shape| (sections, origin, shape))
 }
 
-fn sections_in(value: &Value) -> Result<u64, PlanFault>
-    ensures value { result
-        ≡ spec.in_range Place.Sections (number_of (get (codes "sections") (view value.now))) }
+fn sections_in(value: &Value, needs: Needs) -> Result<u64, PlanFault>
+    ensures value { result ≡ spec.sections_of needs (get (codes "sections") (view value.now)) }
     ensures low { IfOk result (λ n. 1 ≤ n) }
     ensures high { IfOk result (λ n. n ≤ MAX_SECTIONS) }
 {
-    match number_in(value.get("sections")) {
+    let sections = value.get("sections");
+    if sections.is_none() && matches!(needs, Needs::Names) {
+        return Ok(MAX_SECTIONS);
+    }
+    match number_in(sections) {
         Some(n) if 1 <= n && n <= MAX_SECTIONS => Ok(n),
         _ => Err(PlanFault::NotPlan(Place::Sections)),
     }
