@@ -4,11 +4,12 @@ use Rattle.std.specs.Io.KnownBytes.{Appends, Keeps}
 use Rattle.std.specs.List.{concat}
 use Rattle.mx_plan.specs.Text.{Text}
 use Rattle.mx_plan.specs.Fields.{Fields}
+use Rattle.mx_plan.specs.declared.needs.Needs.{Needs}
 use Rattle.mx_plan.specs.declared.faults.PlanFault.{PlanFault}
 use Rattle.mx_plan.specs.declared.faults.PlanFault.TheVariants as plan_fault
 use Rattle.mx_io.specs.Outputs.{Held}
 use Rattle.mx_io.specs.Told.{Telling}
-use Rattle.mx_cli.specs.Reading.{IsPlanOf, IsUnread, ReadsBoth}
+use Rattle.mx_cli.specs.Reading.{IsPlanFor, IsUnread, ReadsBoth}
 use Rattle.mx_cli.specs.Reports.{Seen}
 use Rattle.mx_cli.specs.declared.faults.Fault.{Fault}
 use Rattle.mx_cli.specs.declared.faults.Named.TheVariants.{Plan, Events}
@@ -121,23 +122,23 @@ module _ (b : Bool) where
 
 -- ---- the files
 
-module _ (reports : Fields → Text → Report → Type 0) (b : Bool) (plan text : Option Telling) where
+module _ (reports : Fields → Text → Report → Type 0) (needs : Needs) (b : Bool) (plan text : Option Telling) where
   -- they were read, and a command ran
-  abbrev is_read : (p : Fields) (bytes : Text) → IsPlanOf plan p → IfSome text (λ telling. telling ≡ Some bytes) → (r : Report) → reports p bytes r → IsReportOf reports b plan text (report_for b r)
+  abbrev is_read : (p : Fields) (bytes : Text) → IsPlanFor needs plan p → IfSome text (λ telling. telling ≡ Some bytes) → (r : Report) → reports p bytes r → IsReportOf reports needs b plan text (report_for b r)
   is_read p bytes read fetched r is = inr (p, bytes, r, read, fetched, is, refl)
 
-  pub ok_prints : (p : Fields) (bytes : Text) (o n : Sight) (status : ℕ) → IsPlanOf plan p → IfSome text (λ telling. telling ≡ Some bytes) → Prints (reports p bytes) o n (Ok status)
-      → Prints (IsReportOf reports b plan text) o n (Ok status)
+  pub ok_prints : (p : Fields) (bytes : Text) (o n : Sight) (status : ℕ) → IsPlanFor needs plan p → IfSome text (λ telling. telling ≡ Some bytes) → Prints (reports p bytes) o n (Ok status)
+      → Prints (IsReportOf reports needs b plan text) o n (Ok status)
   ok_prints p bytes o n status read fetched h =
-      prints_for b (reports p bytes) (IsReportOf reports b plan text) (is_read p bytes read fetched) (course_of (Ok status)) (Ok status) refl o n h.shows h.refused h.stays
+      prints_for b (reports p bytes) (IsReportOf reports needs b plan text) (is_read p bytes read fetched) (course_of (Ok status)) (Ok status) refl o n h.shows h.refused h.stays
 
-  pub stop_prints : (p : Fields) (bytes : Text) (o n : Sight) (s : Stop) → IsPlanOf plan p → IfSome text (λ telling. telling ≡ Some bytes) → Prints (reports p bytes) o n (Err s)
-      → Prints (IsReportOf reports b plan text) o n (Err (stop_for b Events s))
+  pub stop_prints : (p : Fields) (bytes : Text) (o n : Sight) (s : Stop) → IsPlanFor needs plan p → IfSome text (λ telling. telling ≡ Some bytes) → Prints (reports p bytes) o n (Err s)
+      → Prints (IsReportOf reports needs b plan text) o n (Err (stop_for b Events s))
   stop_prints p bytes o n s read fetched h =
-      prints_for b (reports p bytes) (IsReportOf reports b plan text) (is_read p bytes read fetched) (course_of (Err s)) (Err (stop_for b Events s)) (course_stopped b s) o n h.shows h.refused h.stays
+      prints_for b (reports p bytes) (IsReportOf reports needs b plan text) (is_read p bytes read fetched) (course_of (Err s)) (Err (stop_for b Events s)) (course_stopped b s) o n h.shows h.refused h.stays
 
   -- they were not
-  pub unread_prints : (o : Sight) (s : Stop) → ReadsBoth plan text (Err s) → IsUnread s → Prints (IsReportOf reports b plan text) o o (Err (stop_for b Plan s))
+  pub unread_prints : (o : Sight) (s : Stop) → ReadsBoth needs plan text (Err s) → IsUnread s → Prints (IsReportOf reports needs b plan text) o o (Err (stop_for b Plan s))
   unread_prints o (stop.Fault fault) unread is = record {
     shows = inr (ends (has_fault _), inl (fault, unread, refl), (refl, Appends-nil o.held));
     refused = refl;
@@ -145,7 +146,7 @@ module _ (reports : Fields → Text → Report → Type 0) (b : Bool) (plan text
   }
   unread_prints o (stop.Line line) unread is = absurd is
   unread_prints o stop.Writer unread is = absurd is
-  unread_prints o stop.Memory unread is = memory_prints (IsReportOf reports b plan text) o
+  unread_prints o stop.Memory unread is = memory_prints (IsReportOf reports needs b plan text) o
 
 -- ---- the end
 

@@ -4,12 +4,14 @@ use Rattle.std.specs.Io.KnownBytes.{Appends, Keeps}
 use Rattle.std.specs.List.{concat}
 use Rattle.mx_plan.specs.Text.{Text}
 use Rattle.mx_plan.specs.Fields.{Fields}
+use Rattle.mx_plan.specs.declared.needs.Needs.{Needs}
+use Rattle.mx_plan.specs.declared.needs.Needs.TheVariants.{All, Names}
 use Rattle.mx_plan.specs.declared.faults.PlanFault.{PlanFault}
 use Rattle.mx_plan.specs.declared.faults.PlanFault.TheVariants as plan_fault
 use Rattle.mx_io.specs.Outputs.{Held}
 use Rattle.mx_io.specs.Told.{Asks, Telling}
 use Rattle.mx_cli.specs.FaultLines.{fault_line}
-use Rattle.mx_cli.specs.Reading.{IsPlanOf, is_dash, ReadsBoth, plan_told, text_told}
+use Rattle.mx_cli.specs.Reading.{IsPlanFor, is_dash, ReadsBoth, plan_told, text_told}
 use Rattle.mx_cli.specs.Reports.{MayReport, Seen}
 use Rattle.mx_cli.specs.declared.faults.Fault.{Fault}
 use Rattle.mx_cli.specs.declared.faults.Fault.TheVariants.{CannotRead, BadText, NotJson, NoParcel}
@@ -22,25 +24,35 @@ use Rattle.mx_cli.specs.declared.stop.Stop.TheVariants as stop
 
 -- ---- files
 
--- the name of the plan; that of the text that comes with it, if there is one; and whether the fault
--- that a text is not JSON says which text that is
+-- the name of the plan; the keys that it has to have; the name of the text that comes with it, if
+-- there is one; and whether the fault that a text is not JSON says which text that is
 pub record Files : Type 0 where
   pub plan : Text
+  pub needs : Needs
   pub text : Option Text
   pub names_texts : Bool
 
 abbrev pub files_of : Given → Files
 files_of f =
-    record { plan = f.plan.now; text = option_map (λ t. t.now) f.text; names_texts = f.names_texts }
+    record {
+      plan = f.plan.now;
+      needs = f.needs;
+      text = option_map (λ t. t.now) f.text;
+      names_texts = f.names_texts;
+    }
 
 -- the file of a plan, without a text that comes with it
 abbrev pub alone : Text → Files
-alone plan = record { plan = plan; text = None; names_texts = false }
+alone plan = record { plan = plan; needs = All; text = None; names_texts = false }
 
 -- the files of these names
 abbrev pub both : Text × Text → Bool → Files
 both names names_texts =
-    record { plan = names.0; text = Some names.1; names_texts = names_texts }
+    record { plan = names.0; needs = All; text = Some names.1; names_texts = names_texts }
+
+-- the files of a plan and a trace. Of the plan only the names count
+abbrev pub of_trace : Text × Text → Files
+of_trace names = record { plan = names.0; needs = Names; text = Some names.1; names_texts = true }
 
 -- the names for the lines of faults
 abbrev pub names_of : Files → Text × Text
@@ -106,24 +118,25 @@ stop_for names_texts part stop.Memory = stop.Memory
 -- ---- the reports of files
 
 -- the files were not read, for this fault
-abbrev pub IsUnreadReport : Bool → Option Telling → Option Telling → Report → Type 0
-IsUnreadReport names_texts plan text r =
-    (fault : Fault) × ReadsBoth plan text (Err (stop.Fault fault))
+abbrev pub IsUnreadReport : Needs → Bool → Option Telling → Option Telling → Report → Type 0
+IsUnreadReport needs names_texts plan text r =
+    (fault : Fault) × ReadsBoth needs plan text (Err (stop.Fault fault))
     × (r ≡ ends (has_fault (fault_for names_texts Plan fault)))
 
 -- the files were read, and it is a report of the plan and the text in them
-abbrev pub IsReadReport : (Fields → Text → Report → Type 0) → Bool → Option Telling
+abbrev pub IsReadReport : (Fields → Text → Report → Type 0) → Needs → Bool → Option Telling
     → Option Telling → Report → Type 0
-IsReadReport reports names_texts plan text r =
-    (p : Fields) × (bytes : Text) × (told : Report) × IsPlanOf plan p
+IsReadReport reports needs names_texts plan text r =
+    (p : Fields) × (bytes : Text) × (told : Report) × IsPlanFor needs plan p
     × IfSome text (λ telling. telling ≡ Some bytes) × reports p bytes told
     × (r ≡ report_for names_texts told)
 
 -- a report of what the source states about the plan and the text
-abbrev pub IsReportOf : (Fields → Text → Report → Type 0) → Bool → Option Telling
+abbrev pub IsReportOf : (Fields → Text → Report → Type 0) → Needs → Bool → Option Telling
     → Option Telling → Report → Type 0
-IsReportOf reports names_texts plan text r =
-    IsUnreadReport names_texts plan text r ⊎ IsReadReport reports names_texts plan text r
+IsReportOf reports needs names_texts plan text r =
+    IsUnreadReport needs names_texts plan text r
+    ⊎ IsReadReport reports needs names_texts plan text r
 
 -- ---- the end
 
@@ -230,5 +243,6 @@ abbrev pub Runs : (Fields → Text → Report → Type 0) → (Text → Option T
 Runs reports told files takes_out takes_err old new status =
     FailsAtOnce takes_out old new status
     ⊎ ((r : Report)
-    × IsReportOf reports files.names_texts (told_plan told files) (told_text told files) r
+    × IsReportOf reports files.needs files.names_texts (told_plan told files)
+    (told_text told files) r
     × PrintsReport takes_out takes_err (names_of files) r old new status)

@@ -7,6 +7,8 @@ use Rattle.std.specs.declared.alloc.Global.{Global}
 use Rattle.mx_plan.specs.Text.{Text}
 use Rattle.mx_plan.specs.Fields.{Fields, IsPlan}
 use Rattle.mx_plan.specs.Plans.{IsOutcome, draft_at}
+use Rattle.mx_plan.specs.declared.needs.Needs.{Needs}
+use Rattle.mx_plan.specs.declared.needs.Needs.TheVariants.{All}
 use Rattle.mx_plan.specs.declared.faults.PlanFault.{PlanFault}
 use Rattle.mx_cli.specs.declared.faults.Fault.TheVariants.{CannotRead}
 use Rattle.mx_cli.specs.declared.faults.Named.{Named}
@@ -48,10 +50,11 @@ Fetches named None (Ok v) = ⊥
 Fetches named (Some bytes) (Err fault) = fault ≡ stop.Memory
 Fetches named None (Err fault) = (fault ≡ stop.Fault (CannotRead named)) ⊎ (fault ≡ stop.Memory)
 
--- what the bytes of a plan give by the rules of plans: a plan, with the properties of every plan,
--- or a fault
-pub record IsRead (bytes : List ℕ) (planned : Result Fields PlanFault) : Type 0 where
-  pub outcome : IsOutcome (draft_at bytes) planned
+-- what the bytes of a plan give by the rules of plans with these needs: a plan, with the properties
+-- of every plan, or a fault
+pub record IsReadFor (needs : Needs) (bytes : List ℕ) (planned : Result Fields PlanFault)
+    : Type 0 where
+  pub outcome : IsOutcome (draft_at needs bytes) planned
   pub valid : IfOk planned IsPlan
 
 -- why nothing is read: a fault, or that memory ran out
@@ -62,23 +65,35 @@ IsUnread stop.Writer = ⊥
 IsUnread stop.Memory = ⊤
 
 -- a plan was read from what the source holds, or this is why it was not
-abbrev pub Reads : Telling → Result Fields Stop → Type 0
-Reads None (Ok p) = ⊥
-Reads None (Err end) = (end ≡ stop.Fault (CannotRead Plan)) ⊎ (end ≡ stop.Memory)
-Reads (Some bytes) (Ok p) = IsRead bytes (Ok p)
-Reads (Some bytes) (Err end) =
-    (end ≡ stop.Memory) ⊎ ((fault : PlanFault) × IsRead bytes (Err fault)
+abbrev pub ReadsFor : Needs → Telling → Result Fields Stop → Type 0
+ReadsFor needs None (Ok p) = ⊥
+ReadsFor needs None (Err end) = (end ≡ stop.Fault (CannotRead Plan)) ⊎ (end ≡ stop.Memory)
+ReadsFor needs (Some bytes) (Ok p) = IsReadFor needs bytes (Ok p)
+ReadsFor needs (Some bytes) (Err end) =
+    (end ≡ stop.Memory) ⊎ ((fault : PlanFault) × IsReadFor needs bytes (Err fault)
     × (end ≡ stop_at fault))
 
 -- the plan was read, if the source states what it holds
-abbrev pub IsPlanOf : Option Telling → Fields → Type 0
-IsPlanOf told p = IfSome told (λ telling. Reads telling (Ok p))
+abbrev pub IsPlanFor : Needs → Option Telling → Fields → Type 0
+IsPlanFor needs told p = IfSome told (λ telling. ReadsFor needs telling (Ok p))
 
 -- a plan was read, and the text that comes with it was fetched; or the plan was not read; or the
 -- plan was, and the text was not fetched
-abbrev pub ReadsBoth : Option Telling → Option Telling → Result PlanAndText Stop → Type 0
-ReadsBoth plan text (Ok both) =
-    IsPlanOf plan both.plan × IfSome text (λ telling. telling ≡ Some both.text.items)
-ReadsBoth plan text (Err end) =
-    IfSome plan (λ telling. Reads telling (Err end))
-    ⊎ ((p : Fields) × IsPlanOf plan p × IfSome text (λ telling. Fetches Events telling (Err end)))
+abbrev pub ReadsBoth : Needs → Option Telling → Option Telling → Result PlanAndText Stop → Type 0
+ReadsBoth needs plan text (Ok both) =
+    IsPlanFor needs plan both.plan × IfSome text (λ telling. telling ≡ Some both.text.items)
+ReadsBoth needs plan text (Err end) =
+    IfSome plan (λ telling. ReadsFor needs telling (Err end))
+    ⊎ ((p : Fields) × IsPlanFor needs plan p
+    × IfSome text (λ telling. Fetches Events telling (Err end)))
+
+-- ---- the same for plans that need all keys
+
+abbrev pub IsRead : List ℕ → Result Fields PlanFault → Type 0
+IsRead = IsReadFor All
+
+abbrev pub Reads : Telling → Result Fields Stop → Type 0
+Reads = ReadsFor All
+
+abbrev pub IsPlanOf : Option Telling → Fields → Type 0
+IsPlanOf = IsPlanFor All

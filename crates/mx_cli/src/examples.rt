@@ -131,7 +131,7 @@ docs/FORMATS.md has all formats.";
 
 pub(crate) const JUDGE: &str = "Example: two nodes whose sections overlap.
 
-  plan.json    {\"algorithm\":\"ricart\",\"nodes\":[\"a\",\"b\"],\"registers\":[\"count\"],\"sections\":10}
+  plan.json    {\"nodes\":[\"a\",\"b\"],\"registers\":[\"count\"]}
   trace.json   {\"act\":\"enter\",\"node\":\"a\",\"outcome\":\"entered\",\"number\":1}
                {\"act\":\"enter\",\"node\":\"b\",\"outcome\":\"entered\",\"number\":2}
 

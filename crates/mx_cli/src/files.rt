@@ -7,17 +7,19 @@ ghost use Rattle.mx_cli.specs.Words.{names_of};
 ghost use Rattle.mx_cli.specs.Frames as spec;
 
 use crate::faults::{Fault, Named};
-use crate::planning::{PlanAndText, fetch_both, fetch_plan};
+use crate::planning::{PlanAndText, fetch_both_for, fetch_plan_for};
 use crate::request::Names;
 use crate::stop::Stop;
 use mx_io::Source;
-use mx_plan::PlanFault;
+use mx_plan::{Needs, PlanFault};
 use std::alloc::Global;
 
 /// The files that a command reads.
 #[derive(Clone, Copy)]
 pub struct Files<'a> {
     pub plan: &'a str,
+    /// The keys that the plan has to have.
+    pub needs: Needs,
     /// The text that comes with the plan: events, a script or a trace. Without it, the text is empty.
     pub text: Option<&'a str>,
     /// Whether the fault that a text is not JSON says which text that is.
@@ -31,6 +33,7 @@ impl<'a> Files<'a> {
     {
         Files {
             plan,
+            needs: Needs::All,
             text: None,
             names_texts: false,
         }
@@ -42,8 +45,22 @@ impl<'a> Files<'a> {
     {
         Files {
             plan: names.plan,
+            needs: Needs::All,
             text: Some(names.events),
             names_texts,
+        }
+    }
+
+    /// Returns the files of a plan and of a trace. Of the plan only the names of nodes and registers
+    /// count, so it needs no other keys.
+    pub fn of_trace(names: &Names<'a>) -> Files<'a>
+        ensures { spec.files_of result ≡ spec.of_trace (names_of names.now) }
+    {
+        Files {
+            plan: names.plan,
+            needs: Needs::Names,
+            text: Some(names.events),
+            names_texts: true,
         }
     }
 
@@ -64,7 +81,8 @@ pub(crate) fn fetch_files<S: Source>(
     source: &mut S,
     files: &Files<'_>,
 ) -> Result<PlanAndText, Stop>
-    ensures read { ReadsBoth (spec.told_plan (S.told source.old) (spec.files_of files.now))
+    ensures read { ReadsBoth files.now.needs
+        (spec.told_plan (S.told source.old) (spec.files_of files.now))
         (spec.told_text (S.told source.old) (spec.files_of files.now)) result }
     ensures asks { spec.AsksFiles (spec.files_of files.now) (S.asked source.old) (S.asked source.new) }
     ensures unread { IfErr result IsUnread }
@@ -75,19 +93,24 @@ pub(crate) fn fetch_files<S: Source>(
                 plan: files.plan,
                 events: text,
             };
-            fetch_both(alloc, source, &names)
+            fetch_both_for(alloc, source, &names, files.needs)
         }
-        None => fetch_alone(alloc, source, files.plan),
+        None => fetch_alone(alloc, source, files.plan, files.needs),
     }
 }
 
 /// Reads the plan of this name. The text that comes with it is empty.
-fn fetch_alone<S: Source>(alloc: Global, source: &mut S, name: &str) -> Result<PlanAndText, Stop>
-    ensures read { ReadsBoth (S.told source.old name.now) (Some (Some [])) result }
+fn fetch_alone<S: Source>(
+    alloc: Global,
+    source: &mut S,
+    name: &str,
+    needs: Needs,
+) -> Result<PlanAndText, Stop>
+    ensures read { ReadsBoth needs (S.told source.old name.now) (Some (Some [])) result }
     ensures asks { Asks (S.asked source.old) (S.asked source.new) (name.now ∷ []) }
     ensures unread { IfErr result IsUnread }
 {
-    match fetch_plan(alloc, source, name) {
+    match fetch_plan_for(alloc, source, name, needs) {
         Ok(plan) => Ok(PlanAndText {
             plan,
             text: Vec::new(alloc),

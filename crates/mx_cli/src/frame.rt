@@ -47,7 +47,7 @@ pub fn run_files<C: Command, S: Source, O: Output>(
     source: &mut S,
     out: &mut O,
 ) -> Result<u8, Stop>
-    ensures prints { Prints (IsReportOf (C.reports command.now) files.now.names_texts
+    ensures prints { Prints (IsReportOf (C.reports command.now) files.now.needs files.now.names_texts
         (told_plan (S.told source.old) (files_of files.now))
         (told_text (S.told source.old) (files_of files.now)))
         (sight O.Output out.old) (sight O.Output out.new) result }

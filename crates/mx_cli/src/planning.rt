@@ -4,14 +4,14 @@ ghost use Rattle.std.specs.Prelude.{◌≡◌, ◌≤◌, ◌==◌, ◌&&◌, []
 ghost use Rattle.std.specs.List.{after_first, before_first, position_or_len};
 ghost use Rattle.mx_io.specs.Told.{Asks};
 ghost use Rattle.mx_cli.specs.Asked.{AsksBoth, AsksInTurn};
-ghost use Rattle.mx_cli.specs.Reading.{Fetches, IsUnread, Reads, ReadsBoth, is_dash, line_of, plan_told, rest_of, text_told};
+ghost use Rattle.mx_cli.specs.Reading.{Fetches, IsUnread, Reads, ReadsBoth, ReadsFor, is_dash, line_of, plan_told, rest_of, text_told};
 ghost use Rattle.mx_cli.specs.Words.{names_of};
 
 use crate::faults::{Fault, Named};
 use crate::request::Names;
 use crate::stop::Stop;
 use mx_io::{Source, SourceFault};
-use mx_plan::{Plan, read_plan};
+use mx_plan::{Needs, Plan, read_plan_for};
 use std::alloc::Global;
 
 /// A plan, and the bytes that come with it: its events, or a script.
@@ -48,8 +48,23 @@ pub fn fetch_plan<S: Source>(alloc: Global, source: &mut S, name: &str) -> Resul
     ensures unread { IfErr result IsUnread }
     ensures stays { S.told source.new ≡ S.told source.old }
 {
+    fetch_plan_for(alloc, source, name, Needs::All)
+}
+
+/// Reads the plan that the source has under a name. Only the needed keys have to be there.
+pub(crate) fn fetch_plan_for<S: Source>(
+    alloc: Global,
+    source: &mut S,
+    name: &str,
+    needs: Needs,
+) -> Result<Plan, Stop>
+    ensures told { IfSome (S.told source.old name.now) (λ telling. ReadsFor needs telling result) }
+    ensures asks { Asks (S.asked source.old) (S.asked source.new) (name.now ∷ []) }
+    ensures unread { IfErr result IsUnread }
+    ensures stays { S.told source.new ≡ S.told source.old }
+{
     let bytes = fetch(alloc, source, name, Named::Plan)?;
-    plan_in(alloc, bytes.as_slice())
+    plan_for(alloc, bytes.as_slice(), needs)
 }
 
 /// Reads a plan from its text.
@@ -57,7 +72,14 @@ pub fn plan_in(alloc: Global, text: &[u8]) -> Result<Plan, Stop>
     ensures read { Reads (Some text.now) result }
     ensures unread { IfErr result IsUnread }
 {
-    match read_plan(alloc, text) {
+    plan_for(alloc, text, Needs::All)
+}
+
+fn plan_for(alloc: Global, text: &[u8], needs: Needs) -> Result<Plan, Stop>
+    ensures read { ReadsFor needs (Some text.now) result }
+    ensures unread { IfErr result IsUnread }
+{
+    match read_plan_for(alloc, text, needs) {
         Ok(plan) => Ok(plan),
         Err(fault) => Err(Stop::from(fault)),
     }
@@ -72,35 +94,56 @@ pub fn fetch_both<S: Source>(
     source: &mut S,
     names: &Names<'_>,
 ) -> Result<PlanAndText, Stop>
-    ensures read { ReadsBoth (plan_told (S.told source.old) (names_of names.now))
+    ensures read { ReadsBoth Needs.All (plan_told (S.told source.old) (names_of names.now))
+        (text_told (S.told source.old) (names_of names.now)) result }
+    ensures asks { AsksBoth (names_of names.now) (S.asked source.old) (S.asked source.new) result }
+    ensures unread { IfErr result IsUnread }
+{
+    fetch_both_for(alloc, source, names, Needs::All)
+}
+
+/// Reads the plan of the first name, of which only the needed keys have to be there, and returns it
+/// with the bytes of the second, as `fetch_both` does.
+pub(crate) fn fetch_both_for<S: Source>(
+    alloc: Global,
+    source: &mut S,
+    names: &Names<'_>,
+    needs: Needs,
+) -> Result<PlanAndText, Stop>
+    ensures read { ReadsBoth needs (plan_told (S.told source.old) (names_of names.now))
         (text_told (S.told source.old) (names_of names.now)) result }
     ensures asks { AsksBoth (names_of names.now) (S.asked source.old) (S.asked source.new) result }
     ensures unread { IfErr result IsUnread }
 {
     if are_dashes(names) {
-        fetch_one(alloc, source, names.plan)
+        fetch_one(alloc, source, names.plan, needs)
     } else {
-        fetch_two(alloc, source, names)
+        fetch_two(alloc, source, names, needs)
     }
 }
 
-fn fetch_one<S: Source>(alloc: Global, source: &mut S, name: &str) -> Result<PlanAndText, Stop>
-    ensures read { ReadsBoth (option_map line_of (S.told source.old name.now))
+fn fetch_one<S: Source>(
+    alloc: Global,
+    source: &mut S,
+    name: &str,
+    needs: Needs,
+) -> Result<PlanAndText, Stop>
+    ensures read { ReadsBoth needs (option_map line_of (S.told source.old name.now))
         (option_map rest_of (S.told source.old name.now)) result }
     ensures asks { Asks (S.asked source.old) (S.asked source.new) (name.now ∷ []) }
     ensures unread { IfErr result IsUnread }
 {
     let one = fetch(alloc, source, name, Named::Plan)?;
-    both_in(alloc, one.as_slice())
+    both_in(alloc, one.as_slice(), needs)
 }
 
-fn both_in(alloc: Global, bytes: &[u8]) -> Result<PlanAndText, Stop>
-    ensures read { ReadsBoth (Some (line_of (Some bytes.now)))
+fn both_in(alloc: Global, bytes: &[u8], needs: Needs) -> Result<PlanAndText, Stop>
+    ensures read { ReadsBoth needs (Some (line_of (Some bytes.now)))
         (Some (rest_of (Some bytes.now))) result }
     ensures unread { IfErr result IsUnread }
 {
     let (line, rest) = split_line(bytes);
-    let plan = plan_in(alloc, line)?;
+    let plan = plan_for(alloc, line, needs)?;
     let text = Vec::from_slice(alloc, rest)?;
     Ok(PlanAndText { plan, text })
 }
@@ -109,13 +152,14 @@ fn fetch_two<S: Source>(
     alloc: Global,
     source: &mut S,
     names: &Names<'_>,
+    needs: Needs,
 ) -> Result<PlanAndText, Stop>
-    ensures read { ReadsBoth (S.told source.old names.now.plan.now)
+    ensures read { ReadsBoth needs (S.told source.old names.now.plan.now)
         (S.told source.old names.now.events.now) result }
     ensures asks { AsksInTurn (names_of names.now) (S.asked source.old) (S.asked source.new) result }
     ensures unread { IfErr result IsUnread }
 {
-    let plan = fetch_plan(alloc, source, names.plan)?;
+    let plan = fetch_plan_for(alloc, source, names.plan, needs)?;
     let text = fetch(alloc, source, names.events, Named::Events)?;
     Ok(PlanAndText { plan, text })
 }

@@ -40,11 +40,11 @@ pub fn read_plan(alloc: Global, text: &[u8]) -> Result<Plan, PlanFault>
     read_plan_for(alloc, text, Needs::All)
 }
 
-/// Reads a plan as [`read_plan`] does, except that the plan has to have only the needed keys.
+/// Reads a plan as `read_plan` does, except that only the needed keys have to be there.
 ///
 /// # Errors
 ///
-/// Returns the errors of [`read_plan`], and none for a missing key that is not needed.
+/// Returns the errors of `read_plan`, but none for a missing key that is not needed.
 pub fn read_plan_for(alloc: Global, text: &[u8], needs: Needs) -> Result<Plan, PlanFault>
     ensures answers { spec.IsOutcome (spec.draft_at needs text.now) result
         ⊎ (result ≡ Err PlanFault.Memory) }

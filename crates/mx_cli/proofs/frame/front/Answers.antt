@@ -16,5 +16,5 @@ returns-clause-runs g c =
     let new = seen g.O.Output g.E.Output c.close.new.out c.close.new.err in
     let takes = subst (λ (t : Bool). Closes (given_names c.names.result) t u course mid new c.close.result) c.run_files-ended.ensures.prints.stays c.close.ensures.closes in
     let named = subst (λ (names : Text × Text). Closes names (g.O.Output.takes_all c.args.out.now) u course mid new c.close.result) c.names.ensures takes in
-    closed (IsReportOf (g.C.Command.reports c.args.command.now) c.args.files.now.names_texts (told_plan told (files_of c.args.files.now)) (told_text told (files_of c.args.files.now))) (names_of (files_of c.args.files.now)) (g.O.Output.takes_all c.args.out.now) u (seen g.O.Output g.E.Output c.args.out.now c.args.err.now) new mid.out mid.refused mid.kept_back
+    closed (IsReportOf (g.C.Command.reports c.args.command.now) c.args.files.now.needs c.args.files.now.names_texts (told_plan told (files_of c.args.files.now)) (told_text told (files_of c.args.files.now))) (names_of (files_of c.args.files.now)) (g.O.Output.takes_all c.args.out.now) u (seen g.O.Output g.E.Output c.args.out.now c.args.err.now) new mid.out mid.refused mid.kept_back
     c.close.result course c.run_files-ended.ensures.prints.shows c.run_files-ended.ensures.prints.refused named
