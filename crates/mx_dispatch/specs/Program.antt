@@ -3,7 +3,7 @@ use Rattle.std.specs.Prelude.{ℕ, Bool, true, false, Option}
 use Rattle.mx_plan.specs.Text.{Text}
 use Rattle.mx_plan.specs.Fields.{Fields}
 use Rattle.mx_io.specs.Told.{Telling}
-use Rattle.mx_cli.specs.Frames.{Runs, alone, both}
+use Rattle.mx_cli.specs.Frames.{Runs, alone, both, of_trace}
 use Rattle.mx_cli.specs.Printing.{Report}
 use Rattle.mx_cli.specs.Reports.{Declines, ReportsUsage, Seen}
 use Rattle.mx_cli.specs.Requests.{Request, check, count, draw, explain, explore, judge, live, misfit, picture, picture_trace, play, replay, script}
@@ -44,12 +44,12 @@ Does told (picture names part only_letters is_script) t u old new status =
     Runs (IsOnEither is_script (IsOnScript (IsPictured part)) (IsPictured part)) told
     (both names true) t u old new status
 Does told (picture_trace names part) t u old new status =
-    Runs (IsTracePictured part) told (both names true) t u old new status
+    Runs (IsTracePictured part) told (of_trace names) t u old new status
 Does told (count names is_json is_script) t u old new status =
     Runs (IsOnEither is_script (IsOnScript (IsCount is_json)) (IsCount is_json)) told
     (both names true) t u old new status
 Does told (judge names is_json) t u old new status =
-    Runs (IsJudgement is_json) told (both names true) t u old new status
+    Runs (IsJudgement is_json) told (of_trace names) t u old new status
 Does told (explain plan second is_script) t u old new status =
     Explains told plan second is_script t u old new status
 Does told (misfit reason) t u old new status = ReportsUsage old new status

@@ -2,7 +2,7 @@
 
 ghost use Rattle.std.specs.Prelude.{◌≡◌, IfSome};
 ghost use Rattle.mx_cli.specs.Table.{mx_app};
-ghost use Rattle.mx_cli.specs.Frames.{Runs, alone, both};
+ghost use Rattle.mx_cli.specs.Frames.{Runs, alone, both, of_trace};
 ghost use Rattle.mx_cli.specs.Words.{names_of, texts_of};
 ghost use Rattle.mx_cli.specs.Requests.{AskNothing, request_asked, request_of};
 ghost use Rattle.mx_cli.specs.Reports.{Answers, Declines, seen};
@@ -120,7 +120,7 @@ fn carry_out<S: Source, O: Output, E: Output>(
             )
         }
         Request::PictureTrace(names, part) => {
-            run_both(alloc, &TracePicture(*part), names, true, source, out, err)
+            run_trace(alloc, &TracePicture(*part), names, source, out, err)
         }
         Request::Count {
             names,
@@ -135,7 +135,7 @@ fn carry_out<S: Source, O: Output, E: Output>(
         }
         Request::Judge { names, is_json } => {
             let judge = Judge { is_json: *is_json };
-            run_both(alloc, &judge, names, true, source, out, err)
+            run_trace(alloc, &judge, names, source, out, err)
         }
         Request::Explain {
             plan,
@@ -203,4 +203,20 @@ fn run_both<C: Command, S: Source, O: Output, E: Output>(
 {
     let files = Files::both(names, names_texts);
     front(alloc, command, &files, source, out, err)
+}
+
+/// Runs a command on a plan and a trace. The plan needs only its names.
+fn run_trace<C: Command, S: Source, O: Output, E: Output>(
+    alloc: Global,
+    command: &C,
+    names: &Names<'_>,
+    source: &mut S,
+    out: &mut O,
+    err: &mut E,
+) -> u8
+    ensures { Runs (C.reports command.now) (S.told source.old) (of_trace (names_of names.now))
+        (O.takes_all out.old) (E.takes_all err.old)
+        (seen O.Output E.Output out.old err.old) (seen O.Output E.Output out.new err.new) result }
+{
+    front(alloc, command, &Files::of_trace(names), source, out, err)
 }

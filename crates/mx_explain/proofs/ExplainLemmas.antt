@@ -4,6 +4,7 @@ use Rattle.std.specs.Prelude.{◌↔◌, is_ok, string_bytes, ⊤}
 use Rattle.std.specs.Io.KnownBytes.{Appends, Keeps}
 use Rattle.mx_plan.specs.Text.{Text}
 use Rattle.mx_plan.specs.Fields.{Fields}
+use Rattle.mx_plan.specs.declared.needs.Needs.TheVariants.{All}
 use Rattle.mx_io.specs.Outputs.{Held, refused_by}
 use Rattle.mx_io.specs.Told.{Telling}
 use Rattle.mx_io.specs.declared.output.OutputFault.{OutputFault}
@@ -33,9 +34,9 @@ same_report true p text r (inr h) = subst (λ (q : Report). q ≡ report_for tru
 module _ (b : Bool) (plan text : Option Telling) where
   -- they were read
   pub text_runs : (p : Fields) (bytes : Text) (res : Result ℕ Stop) → IsPlanOf plan p → IfSome text (λ telling. telling ≡ Some bytes) → Prints (IsTextReport b p bytes) null_output null_output res
-      → Prints (IsReportOf (IsTextReport b) b plan text) null_output null_output res
+      → Prints (IsReportOf (IsTextReport b) All b plan text) null_output null_output res
   text_runs p bytes res read fetched h =
-      prints_as (IsTextReport b p bytes) (IsReportOf (IsTextReport b) b plan text) (λ r is. inr (p, bytes, r, read, fetched, is, same_report b p bytes r is)) null_output null_output res h
+      prints_as (IsTextReport b p bytes) (IsReportOf (IsTextReport b) All b plan text) (λ r is. inr (p, bytes, r, read, fetched, is, same_report b p bytes r is)) null_output null_output res h
 
 -- ---- an explanation
 

@@ -18,7 +18,7 @@ use Rattle.mx_explain.specs.declared.explanation.Asked.{Asked}
 abbrev pub IsReportFor : (Fields → Text → Report → Type 0) → (Text → Option Telling) → Files
     → Report → Type 0
 IsReportFor reports told files =
-    IsReportOf reports files.names_texts (told_plan told files) (told_text told files)
+    IsReportOf reports files.needs files.names_texts (told_plan told files) (told_text told files)
 
 -- a report of a script, or of events
 abbrev pub IsTextReport : Bool → Fields → Text → Report → Type 0

@@ -1,5 +1,6 @@
 use Rattle.std.proofs.Common.{Err, subst, sym}
 use Rattle.mx_plan.specs.Text.{Text}
+use Rattle.mx_plan.specs.declared.needs.Needs.TheVariants.{All}
 use Rattle.mx_cli.specs.Printing.{Prints, null_output}
 use Rattle.mx_cli.specs.Reading.{plan_told, text_told}
 use Rattle.mx_cli.specs.Words.{names_of}
@@ -27,5 +28,5 @@ returns-in-Err g c =
     let names = names_of c.args.names.now in
     let plan = plan_told told names in
     let text = text_told told names in
-    subst (λ (s : Stop). Prints (IsReportOf (IsTextReport b) b plan text) null_output null_output (Err s)) (sym c.stop_for.ensures)
-    (unread_prints (IsTextReport b) b plan text null_output c.in-Err.stop c.in-Err.ensures.read c.in-Err.ensures.unread)
+    subst (λ (s : Stop). Prints (IsReportOf (IsTextReport b) All b plan text) null_output null_output (Err s)) (sym c.stop_for.ensures)
+    (unread_prints (IsTextReport b) All b plan text null_output c.in-Err.stop c.in-Err.ensures.read c.in-Err.ensures.unread)
