@@ -23,8 +23,8 @@ start_all-requires-send-C-Shape g c κs within = record { owned = c.type_bounds.
 
 pub returns-clause-left : goal.returns-clause-left
 returns-clause-left g c =
-    subst (λ (o : WorkerConfig). IfOk c.join_all.result (λ all. AreLeft g.C.Exclusion.core o c.args.stations.items all.items)) c.orders_of.ensures
-    (IfOk-weaker c.join_all.result _ _ (λ all kept. left_by g.C.Exclusion.core _ _ _ all.items c.in_ok-workers.ensures kept) c.join_all.ensures)
+    subst (λ (o : WorkerConfig). AreLeft g.C.Exclusion.core o c.args.stations.items c.in_ok-join_all.field-0.items) c.orders_of.ensures
+    (left_by g.C.Exclusion.core _ _ _ _ c.in_ok-workers.ensures c.in_ok-join_all.ensures)
 
 pub start_all-requires-after_bounds : goal.start_all-requires-after_bounds
 start_all-requires-after_bounds g c κs within = (search (c.requires-raw.1.1.1.1.1.1), omega (arith, c.nodes.ensures.high))
