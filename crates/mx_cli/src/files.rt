@@ -76,7 +76,11 @@ impl<'a> Files<'a> {
 }
 
 /// Reads the plan, and then the text that comes with it.
-pub(crate) fn fetch_files<S: Source>(
+///
+/// # Errors
+///
+/// Returns the fault of the first file that is at fault, and `Memory` if memory runs out.
+pub fn fetch_files<S: Source>(
     alloc: Global,
     source: &mut S,
     files: &Files<'_>,

@@ -21,7 +21,7 @@ mod table;
 
 pub use command::{Command, print};
 pub use faults::{Fault, FaultLine, Named};
-pub use files::Files;
+pub use files::{Files, fetch_files};
 pub use frame::{close, front, run_files, stop_for};
 pub use planning::{PlanAndText, are_dashes, fetch, fetch_both, fetch_plan, plan_in, split_line};
 pub use reader::parse;

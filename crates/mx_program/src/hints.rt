@@ -2,7 +2,7 @@
 //! reader at a terminal, the command that says so.
 
 use crate::remembered::Remembered;
-use mx_cli::{Names, Request, fetch_both, fetch_plan, parse, write_line};
+use mx_cli::{Names, Request, fetch_files, fetch_plan, parse, write_line};
 use mx_explain::explain;
 use mx_io::{Output, Streams, Table};
 use mx_judge::trace_in;
@@ -133,7 +133,7 @@ fn is_empty_trace<R: Files + Input>(
     let mut table = Table {
         entries: entries.as_slice(),
     };
-    let both = fetch_both(alloc, &mut table, names).ok()?;
+    let both = fetch_files(alloc, &mut table, &mx_cli::Files::of_trace(names)).ok()?;
     let trace = trace_in(alloc, &both.plan, both.text.as_slice()).ok()?;
     Some(trace.entries.is_empty())
 }
