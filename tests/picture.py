@@ -7,6 +7,7 @@ each thing that only one of the two has, and is silent where they have the same;
 the page, and that it has nothing but drawing.
 """
 import argparse
+import itertools
 import json
 import re
 import sys
@@ -14,6 +15,7 @@ import xml.etree.ElementTree as xml
 from collections import Counter
 
 ROW = 13  # how far apart rows are
+ASIDE = 26  # how far the piece of an arrow goes to the side
 CUT = 6  # how much shorter a bar is where the event at its end is left out
 COLUMNS = 60, 180  # how far apart the lines of nodes are, at least and at most
 SPAN = 2000  # how far apart the first and the last line are, at most
@@ -114,6 +116,10 @@ class Part:
     def has_index(self, index):
         return self.first <= index and (self.last is None or index <= self.last)
 
+    def has_loss(self, place):
+        """Whether a loss, before which this many events happened, does not come after the last event."""
+        return self.last is None or place <= self.last
+
     def has_node(self, node):
         return self.node is None or node == self.node
 
@@ -161,7 +167,7 @@ class Drawing:
         self.shown, self.delivered, self.since, self.best, self.used = {}, set(), {}, {}, set()
         named, skipped = 0, False
         for index in range(len(run.events)):
-            self.lose([number for place, number in run.losses if place == index])
+            self.lose(index)
             if not part.has_event(run, index, self.delivered):
                 skipped |= not (part.letters and part.has_index(index))
                 self.leave_out(index)
@@ -176,7 +182,7 @@ class Drawing:
                 named, self.row = self.row, self.row + 1
             self.draw(index)
             self.row += 1
-        self.lose([number for place, number in run.losses if place == len(run.events)])
+        self.lose(len(run.events))
         if skipped:
             self.add("index", self.row, "..")
             self.row += 1
@@ -208,10 +214,8 @@ class Drawing:
         word, args, outcome, _ = self.run.events[index]
         if word == "deliver":
             number = int(args[0])
-            _, start, to, _ = self.run.parcels[number]
             if number in self.shown and number not in self.delivered:
-                side = "left" if to < start else "right"
-                self.add("start", self.look(number), start, side, self.shown[number])
+                self.add("start", self.look(number), *self.start_of(number))
                 self.add("title", self.title(number))
             self.delivered.add(number)
         elif self.part.last is None or index <= self.part.last:
@@ -269,14 +273,27 @@ class Drawing:
         is_far = is_cut or abs(start - node) >= LONG_NODES or self.row - self.shown[number] >= LONG_ROWS
         return f"#{number} {text}" + (f" from {self.run.names[start]}" if is_far else "")
 
-    def lose(self, numbers):
-        """The parcels that are lost before an event, if their sendings are drawn, in a row of their own."""
-        if not (numbers := [number for number in numbers if number in self.shown]):
+    def start_of(self, number):
+        """Where an arrow starts: the sender, the side of the addressee, and the row."""
+        _, start, to, _ = self.run.parcels[number]
+        return start, "left" if to < start else "right", self.shown[number]
+
+    def lose(self, place):
+        """The parcels that are lost after so many events, if their sendings are drawn, in a row of their own. After the
+        drawn part, the arrow of such a parcel only starts, as that of one that is delivered there."""
+        numbers = [number for at, number in self.run.losses if at == place and number in self.shown]
+        if not numbers:
             return
-        for number in numbers:
-            _, start, to, _ = self.run.parcels[number]
-            self.add("lost", start, self.shown[number], to, self.row)
-            self.add("title", f"{self.title(number)}, lost")
+        if not self.part.has_loss(place):
+            for number in numbers:
+                if number not in self.run.arriving:
+                    self.add("start", self.look(number), *self.start_of(number))
+                    self.add("title", self.title(number))
+            return
+        arrows = [(self.start_of(number), f"{self.title(number)}, lost") for number in numbers]
+        for (start, side, above), same in itertools.groupby(arrows, key=lambda arrow: arrow[0]):
+            self.add("lost", start, side, above, self.row)
+            self.add("title", "\n".join(title for _, title in same))
         _, start, to, text = self.run.parcels[numbers[0]]
         more = f", and {len(numbers) - 1} more" if len(numbers) > 1 else ""
         self.best[start, self.row] = "right" if start <= to else "left"
@@ -391,11 +408,18 @@ def room_of(text):
 
 
 def is_crossed(arrow, places, node, row, side, reach):
-    """Whether an arrow runs through a text at this side of a node, which is from one to another point away from it."""
-    _, _, start, above, end, below = arrow
-    x, to, top, bottom = places[start], places[end], above * ROW, below * ROW
-    if start == end:
-        x, to = x - 20, to - 20
+    """Whether an arrow, or that of a lost parcel, runs through a text at this side of a node, which is from one to
+    another point away from it."""
+    if arrow[0] == "lost":
+        _, start, toward, above, below = arrow
+        x = places[start]
+        to = x + (ASIDE if toward == "right" else -ASIDE)
+    else:
+        _, _, start, above, end, below = arrow
+        x, to = places[start], places[end]
+        if start == end:
+            x, to = x - 20, to - 20
+    top, bottom = above * ROW, below * ROW
     high, low = max(top, row * ROW - 5), min(bottom, row * ROW + 5)
     if low < high:
         return False
@@ -405,16 +429,21 @@ def is_crossed(arrow, places, node, row, side, reach):
     return min(ways) <= max(near, far) and max(ways) >= min(near, far)
 
 
+def ends_of(arrow):
+    """The nodes between which an arrow runs; that of a lost parcel stays with its sender."""
+    return arrow[1:2] if arrow[0] == "lost" else (arrow[2], arrow[4])
+
+
 def badly_placed(things, places, sides, best):
     """The texts at a side where arrows run through them that are worse than those at the other side, and those at the
     other in vain. An arrow between other nodes is worse than one from or to the node of the text."""
-    arrows = [thing for thing in things if thing[0] == "arrow"]
+    arrows = [thing for thing in things if thing[0] in ("arrow", "lost")]
     for kind, node, row, text in (thing for thing in things if thing[0] in NEAR):
         own, other = best[node, row], "left" if best[node, row] == "right" else "right"
 
         def worst(side, reach):
             across = [arrow for arrow in arrows if is_crossed(arrow, places, node, row, side, reach)]
-            return max((1 if node in (arrow[2], arrow[4]) else 2 for arrow in across), default=0)
+            return max((1 if node in ends_of(arrow) else 2 for arrow in across), default=0)
 
         # the program counts in whole points
         near = NEAR[kind]
@@ -449,12 +478,6 @@ def path_of(look, d, node_at):
     def node(x):
         return node_at[int(x)]
 
-    if look == "lost":  # half of an arrow, and a cross
-        way = re.fullmatch(r"M(\d+) (\d+)(?:l(-?\d+) |q-40 (\d+) 0 )(\d+)m-3-3l6 6m0-6l-6 6", d)
-        x, y, aside, half, down = (int(number or 0) for number in way.groups())
-        (to,) = [other for at, other in node_at.items() if (at + x) // 2 == x + aside]
-        assert half in (0, down // 2) and (half == 0 or to == node(x))
-        return "lost", node(x), row_of(y), to, row_of(y + down)
     if box := re.fullmatch(r"M(\d+) (\d+)m-12-6h24v(\d+)h-24z", d):
         x, y, high = map(int, box.groups())
         return "inside", node(x), top_of(y), foot_of(y + high - 12)
@@ -476,7 +499,7 @@ def path_of(look, d, node_at):
         return "tip", look, node(x), "left" if aside else "right", row_of(y)
     if arrow := re.fullmatch(r"M(\d+) (\d+)l(-?\d+) (\d+)", d):
         x, y, aside, down = map(int, arrow.groups())
-        if abs(aside) == 26:
+        if abs(aside) == ASIDE:
             assert down == ROW
             return "start", look, node(x), "left" if aside < 0 else "right", row_of(y)
         return "arrow", look, node(x), row_of(y), node(x + aside), row_of(y + down)
@@ -484,6 +507,15 @@ def path_of(look, d, node_at):
     x, y, half, down = map(int, bow.groups())
     assert half == down // 2
     return "arrow", look, node(x), row_of(y), node(x), row_of(y + down)
+
+
+def lost_of(group, node_at):
+    """The thing that the arrow of a lost parcel draws: a line that starts at the sender, with a cross at its end."""
+    line, cross, title = group
+    assert (line.tag, cross.tag, title.tag) == (SVG + "path", SVG + "path", SVG + "title") and cross.get("class") == "cross"
+    x, y, side, down = re.fullmatch(r"M(\d+) (\d+)l(-?)26 (\d+)", line.get("d")).groups()
+    assert cross.get("d") == f"M{x} {y}m{side}26 {down}m-3-3l6 6m0-6l-6 6" and int(down) >= ROW
+    return "lost", node_at[int(x)], "left" if side else "right", row_of(y), row_of(int(y) + int(down))
 
 
 def places_in(root, names):
@@ -519,10 +551,12 @@ def read_back(picture, names):
             across = f"M-{-left} (\\d+)h{width}"
             assert re.fullmatch(f"({across})*", part.get("d"))
             things += [("guide", row_of(y)) for y in re.findall(across, part.get("d"))]
+        elif look == "lost":
+            things += [lost_of(part, node_at), ("title", part[2].text)]
         elif part.tag == SVG + "path":
             thing = path_of(look, part.get("d"), node_at)
             (boxes if thing[0] == "inside" else things).append(thing)
-            if thing[0] in ("arrow", "tip", "start", "lost", "overtaken", "pending", "broken"):
+            if thing[0] in ("arrow", "tip", "start", "overtaken", "pending", "broken"):
                 things.append(("title", part[0].text))
             if thing[0] == "inside":
                 box_titles.append(part[0].text)

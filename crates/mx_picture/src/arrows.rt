@@ -2,11 +2,8 @@
 
 use crate::columns::Columns;
 use crate::route::Route;
-use crate::segment::{ROW, Segment};
+use crate::segment::{ASIDE, ROW, Segment};
 use std::alloc::AllocError;
-
-/// How far the piece of an arrow goes to the side, in pixels.
-pub(crate) const ASIDE: u64 = 26;
 
 /// What of a parcel's arrow is drawn. It is dashed if the parcel was delivered before.
 #[derive(Clone, Copy)]
@@ -17,7 +14,7 @@ pub(crate) enum End {
     Sending,
     /// The tip: the sending is not shown.
     Delivery { is_repeat: bool },
-    /// Half of it, to where the parcel is lost, this many pixels down.
+    /// A start that goes down to where the parcel is lost, this many pixels, and ends in a cross.
     Loss { down: u64 },
 }
 
@@ -34,19 +31,40 @@ pub(crate) struct Arrow {
 
 impl Arrow {
     pub(crate) fn segment(&self, columns: &Columns) -> Segment {
-        let down = match self.end {
-            End::Whole { down, .. } => down,
-            _ => 0,
+        match self.end {
+            End::Whole { down, .. } => Segment::new(self.route, columns, self.y, down),
+            End::Loss { down } => Segment::piece(self.route, columns, self.y, down),
+            _ => Segment::new(self.route, columns, self.y, 0),
+        }
+    }
+
+    /// Takes over the title of an arrow that looks the same, if both are of losses. Returns whether it
+    /// did.
+    pub(crate) fn absorb(&mut self, other: &Arrow) -> Result<bool, AllocError> {
+        let (End::Loss { down: own }, End::Loss { down }) = (self.end, other.end) else {
+            return Ok(false);
         };
-        Segment::new(self.route, columns, self.y, down)
+        let is_same = own == down
+            && self.y == other.y
+            && self.route.from == other.route.from
+            && self.route.is_left() == other.route.is_left();
+        if is_same {
+            self.title.push('\n')?;
+            self.title.push_str(other.title.as_str())?;
+        }
+        Ok(is_same)
     }
 
     pub(crate) fn add_to(&self, columns: &Columns, text: &mut String) -> Result<(), AllocError> {
         self.add_path(columns, text)?;
-        write!(text, "<title>{}</title></path>\n", self.title)
+        let tag = match self.end {
+            End::Loss { .. } => "g",
+            _ => "path",
+        };
+        write!(text, "<title>{}</title></{tag}>\n", self.title)
     }
 
-    /// Appends the start tag.
+    /// Appends the start tag, and the two paths of a loss after it.
     fn add_path(&self, columns: &Columns, text: &mut String) -> Result<(), AllocError> {
         let class = self.route.class();
         let (back, aside) = if self.route.is_left() {
@@ -76,9 +94,14 @@ impl Arrow {
                 )
             }
             End::Loss { down } => {
-                write!(text, "<path class=\"lost\" d=\"M{from} {y}")?;
-                add_way(from, from.midpoint(to), down, text)?;
-                text.push_str("m-3-3l6 6m0-6l-6 6\">")
+                write!(
+                    text,
+                    "<g class=\"lost\"><path d=\"M{from} {y}l{aside}{ASIDE} {down}\"/>"
+                )?;
+                write!(
+                    text,
+                    "<path class=\"cross\" d=\"M{from} {y}m{aside}{ASIDE} {down}m-3-3l6 6m0-6l-6 6\"/>"
+                )
             }
         }
     }

@@ -13,7 +13,6 @@ use std::alloc::{AllocError, Global};
 const HALF_HIGH: u64 = 5;
 
 /// A text beside a node, at the height `y`, `width` pixels wide, with the side that it prefers.
-/// `arrows` is the number of arrows that were added before it: they end in its row or above.
 #[derive(Drop)]
 pub(crate) struct Label {
     pub(crate) node: NodeId,
@@ -21,7 +20,6 @@ pub(crate) struct Label {
     pub(crate) side: Side,
     pub(crate) tone: Tone,
     pub(crate) width: u64,
-    pub(crate) arrows: usize,
     /// The text, escaped.
     pub(crate) text: String,
 }
@@ -43,9 +41,13 @@ impl Label {
         Rect {
             left,
             right,
-            top: self.y.saturating_sub(HALF_HIGH),
+            top: self.top(),
             bottom: self.bottom(),
         }
+    }
+
+    fn top(&self) -> u64 {
+        self.y.saturating_sub(HALF_HIGH)
     }
 
     fn bottom(&self) -> u64 {
@@ -100,8 +102,7 @@ fn sides_of(
     let mut sides = Vec::new(alloc);
     let mut arrows = OpenArrows::new(alloc, segments);
     for label in labels.iter().rev() {
-        // the last arrow before the text may end in its row
-        arrows.rise(label.arrows.saturating_sub(1), label.bottom())?;
+        arrows.rise(label.top(), label.bottom())?;
         sides.push(label.better_side(columns.x_of(label.node), &arrows))?;
     }
     Ok(sides)

@@ -57,9 +57,9 @@ pub(crate) static MARKS_LEGEND: Legend = Legend {
 
 /// What the legend of a script that loses parcels has beside that of a run, at its right.
 pub(crate) static LOSSES_LEGEND: Legend = Legend {
-    styles: ".lost{stroke:#d55e00;stroke-dasharray:2 3}\n",
-    width: 906,
-    svg: "<path class=\"lost\" d=\"M836 11l24 12m-3-3l6 6m0-6l-6 6\"/><text x=\"872\" y=\"22\">lost</text>
+    styles: ".lost{stroke:#d55e00;stroke-dasharray:3 3}.cross{stroke-width:1.8px;stroke-dasharray:none}\n",
+    width: 902,
+    svg: "<g class=\"lost\"><path d=\"M836 12l26 13\"/><path class=\"cross\" d=\"M836 12m26 13m-3-3l6 6m0-6l-6 6\"/></g><text x=\"872\" y=\"22\">lost</text>
 ",
 };
 

@@ -1,7 +1,7 @@
 //! The parcels that a script loses, and how they are drawn.
 
 use crate::drawing::Drawing;
-use crate::parcels::{draw_loss, write_loss};
+use crate::parcels::{draw_loss, pass_loss, write_loss};
 use mx_format::Letter;
 use mx_network::Cluster;
 use mx_nodelaws::Exclusion;
@@ -117,9 +117,13 @@ where
         return Ok(());
     };
     let number = loss.number;
+    let is_shown = drawing.rows.part.has_loss(loss.place);
     let Some(sent) = cluster.sent_parcel(number) else {
         return Ok(());
     };
+    if !is_shown {
+        return pass_loss(plan, number, &sent, drawing);
+    }
     if !draw_loss(plan, number, &sent, &mut drawing.rows)? {
         return Ok(());
     }

@@ -31,14 +31,16 @@ impl OpenArrows {
         }
     }
 
-    /// Goes up to the height `y`, where this many arrows end above.
-    pub(crate) fn rise(&mut self, above: usize, y: u64) -> Result<(), AllocError> {
-        for _ in above..self.above.len() {
+    /// Goes up to a text from the height `top` to `bottom`.
+    pub(crate) fn rise(&mut self, top: u64, bottom: u64) -> Result<(), AllocError> {
+        let below = self.above.iter().rev();
+        let opened = below.take_while(|segment| segment.ends_from(top)).count();
+        for _ in 0..opened {
             if let Some(segment) = self.above.pop() {
                 self.open.push(segment)?;
             }
         }
-        self.remove_closed(y);
+        self.remove_closed(bottom);
         Ok(())
     }
 

@@ -116,6 +116,23 @@ pub(crate) fn draw_loss<S: Sent>(
     rows.sheet.lose(number, sent.route(), title)
 }
 
+/// Takes note of the loss of a parcel after the drawn part: the start of its arrow is drawn, by this
+/// or by its delivery.
+pub(crate) fn pass_loss<S: Sent>(
+    plan: &Plan,
+    number: u64,
+    sent: &S,
+    drawing: &mut Drawing,
+) -> Result<(), AllocError> {
+    if drawing.arriving.contains(&number) {
+        return Ok(());
+    }
+    let rows = &mut drawing.rows;
+    write_route(plan, number, sent, &mut rows.label)?;
+    let title = rows.label.as_str();
+    rows.sheet.start(number, sent.route(), title)
+}
+
 /// Writes that a parcel was lost, and `more` others, and ends the row.
 pub(crate) fn write_loss<S: Sent>(
     plan: &Plan,

@@ -1,4 +1,5 @@
 ghost use Rattle.std.specs.Prelude.{◌≡◌};
+ghost use Rattle.mx_picture.specs.Falls.{shows_loss};
 ghost use Rattle.mx_picture.specs.Marks.{shows_index, shows_node};
 
 use crate::route::Route;
@@ -19,6 +20,14 @@ impl Part {
         ensures { result ≡ shows_index self.now index }
     {
         self.from <= index && index <= self.to
+    }
+
+    /// Returns whether a loss, before which this many events happened, does not come after the last
+    /// event of the part.
+    pub(crate) fn has_loss(&self, place: u64) -> bool
+        ensures { result ≡ shows_loss self.now place }
+    {
+        place <= self.to
     }
 
     pub(crate) fn has_node(&self, node: NodeId) -> bool

@@ -1,5 +1,7 @@
 //! The routes of parcels, and the styles of their arrows.
 
+ghost use Rattle.std.specs.Prelude.{◌≡◌, nat_lt};
+
 use crate::side::Side;
 use mx_format::{Letter, Style};
 use mx_member::{Parcel, SentParcel};
@@ -35,7 +37,11 @@ impl Route {
         }
     }
 
-    pub(crate) fn is_left(&self) -> bool {
+    /// Returns whether the addressee comes before the sender in the plan, whose line is thus right of
+    /// that of the addressee.
+    pub(crate) fn is_left(&self) -> bool
+        ensures { result ≡ nat_lt self.now.to self.now.from }
+    {
         self.to.get() < self.from.get()
     }
 

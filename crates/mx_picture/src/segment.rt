@@ -9,6 +9,9 @@ use mx_stamps::NodeId;
 /// The distance between two rows, in pixels.
 pub(crate) const ROW: u64 = 13;
 
+/// How far the piece of an arrow goes to the side, in pixels.
+pub(crate) const ASIDE: u64 = 26;
+
 pub(crate) const MAX_ROWS: u64 = 1_000_000_000_000;
 
 /// Returns the height of this many rows, which is also the vertical position of the row of this
@@ -53,6 +56,26 @@ impl Segment {
         }
     }
 
+    /// The piece of an arrow beside its sender, which is an arrow of no other node.
+    pub(crate) fn piece(route: Route, columns: &Columns, y: u64, down: u64) -> Self {
+        let from = columns.x_of(route.from).saturating_add(SHIFT);
+        let to = if route.is_left() {
+            from.saturating_sub(ASIDE)
+        } else {
+            from.saturating_add(ASIDE)
+        };
+        Segment {
+            route: Route {
+                to: route.from,
+                ..route
+            },
+            from,
+            top: y,
+            to,
+            bottom: y.saturating_add(down),
+        }
+    }
+
     fn across(&self, y: u64) -> u64 {
         let down = self.bottom.saturating_sub(self.top).max(1);
         let part = y.saturating_sub(self.top);
@@ -71,6 +94,11 @@ impl Segment {
     /// Returns whether the arrow begins at the height `y` or above.
     pub(crate) fn begins_by(&self, y: u64) -> bool {
         self.top <= y
+    }
+
+    /// Returns whether the arrow ends at the height `y` or below.
+    pub(crate) fn ends_from(&self, y: u64) -> bool {
+        self.bottom >= y
     }
 
     /// Returns whether the rectangle around the arrow meets this one.

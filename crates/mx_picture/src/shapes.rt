@@ -63,10 +63,10 @@ pub(crate) struct Shapes {
     /// The parcels that no event delivers.
     pub(crate) undelivered: Vec<Undelivered>,
     pub(crate) links: Links,
-    /// Whether some of these end at a loss.
-    pub(crate) has_losses: bool,
     /// The other arrows. None ends in a lower row than a later one.
     pub(crate) arrows: Vec<Arrow>,
+    /// Whether some of these end at a loss.
+    pub(crate) has_losses: bool,
     pub(crate) names: Vec<NameRow>,
     pub(crate) dots: Vec<Dot>,
     pub(crate) marks: Vec<Mark>,
@@ -89,8 +89,8 @@ impl Shapes {
             pieces: Vec::new(alloc),
             undelivered: Vec::new(alloc),
             links: Links::new(),
-            has_losses: false,
             arrows: Vec::new(alloc),
+            has_losses: false,
             names: Vec::new(alloc),
             dots: Vec::new(alloc),
             marks: Vec::new(alloc),
@@ -118,8 +118,22 @@ impl Shapes {
         };
         match end {
             End::Whole { .. } => self.arrows.push(arrow)?,
-            _ => self.pieces.push(arrow)?,
+            End::Loss { .. } => self.add_loss(arrow)?,
+            End::Sending | End::Delivery { .. } => self.pieces.push(arrow)?,
         }
+        Ok(())
+    }
+
+    /// Adds the arrow of a lost parcel. It shares the last arrow if that looks the same.
+    fn add_loss(&mut self, arrow: Arrow) -> Result<(), AllocError> {
+        self.has_losses = true;
+        let index = self.arrows.len().saturating_sub(1);
+        if let Some(last) = self.arrows.get_mut(index)
+            && last.absorb(&arrow)?
+        {
+            return Ok(());
+        }
+        self.arrows.push(arrow)?;
         Ok(())
     }
 

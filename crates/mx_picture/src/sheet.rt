@@ -1,7 +1,8 @@
 //! A picture in progress, row by row from the top.
 
-ghost use Rattle.std.specs.Prelude.{◌<◌, ◌≤◌, IsTrue, length, nat_le};
+ghost use Rattle.std.specs.Prelude.{◌≡◌, ◌<◌, ◌≤◌, IsTrue, length, nat_le, slice_get};
 ghost use Rattle.std.specs.List.{list_all};
+ghost use Rattle.mx_picture.specs.Falls.{fall_of};
 
 use crate::arrows::End;
 use crate::labels::Label;
@@ -34,6 +35,14 @@ pub(crate) struct Flight {
     pub(crate) is_original: bool,
     /// Whether an event so far delivered the parcel.
     pub(crate) is_delivered: bool,
+}
+
+/// How a lost parcel goes: from the height `y` of its sending, `down` pixels down, to the row of its
+/// loss.
+#[derive(Clone, Copy)]
+pub(crate) struct Fall {
+    pub(crate) y: u64,
+    pub(crate) down: u64,
 }
 
 /// The shapes of a picture, and what has to be known of the rows above.
@@ -171,7 +180,6 @@ impl Sheet {
             side,
             tone,
             width: width_of(raw),
-            arrows: self.shapes.arrows.len(),
             text,
         })?;
         Ok(())
@@ -273,15 +281,42 @@ impl Sheet {
         route: Route,
         title: &str,
     ) -> Result<bool, AllocError> {
-        let sent = match self.flights.get(number as usize) {
-            Some(flight) if flight.is_shown => flight.row.min(self.row),
-            _ => return Ok(false),
+        let Some(fall) = self.fall_of(number) else {
+            return Ok(false);
         };
-        let down = y_of(self.row - sent);
-        self.shapes.has_losses = true;
-        self.shapes
-            .add_arrow(route, End::Loss { down }, y_of(sent), title)?;
+        let end = End::Loss { down: fall.down };
+        self.shapes.add_arrow(route, end, fall.y, title)?;
         Ok(true)
+    }
+
+    /// Draws the start of the arrow of the parcel of this number, if the picture shows the sending.
+    pub(crate) fn start(
+        &mut self,
+        number: u64,
+        route: Route,
+        title: &str,
+    ) -> Result<(), AllocError> {
+        match self.fall_of(number) {
+            Some(fall) => self.shapes.add_arrow(route, End::Sending, fall.y, title),
+            None => Ok(()),
+        }
+    }
+
+    /// Returns the way of the parcel of this number if it is lost in the current row. Returns `None`
+    /// if the picture does not show the sending.
+    fn fall_of(&self, number: u64) -> Option<Fall>
+        ensures { result ≡ fall_of self.now.row (slice_get self.now.flights.items number) }
+    {
+        match self.flights.get(number as usize) {
+            Some(flight) if flight.is_shown => {
+                let sent = flight.row.min(self.row);
+                Some(Fall {
+                    y: y_of(sent),
+                    down: y_of(self.row - sent),
+                })
+            }
+            _ => None,
+        }
     }
 
     /// Returns whether the arrow of the parcel of this number, delivered in the current row, is

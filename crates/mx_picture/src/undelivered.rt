@@ -1,11 +1,10 @@
 //! The parcels that no event delivers. One is overtaken if a later one from the same node to the
 //! same is delivered; else it is under way at the end of the run.
 
-use crate::arrows::ASIDE;
 use crate::columns::Columns;
 use crate::links::Links;
 use crate::route::Route;
-use crate::segment::ROW;
+use crate::segment::{ASIDE, ROW};
 use std::alloc::AllocError;
 
 /// A parcel that no event delivers, sent by the event at the height `y`.
