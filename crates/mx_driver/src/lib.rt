@@ -16,7 +16,7 @@ pub use check_plan::Check;
 pub use closing::node_at;
 pub use driver::{NullOutput, drive, observe};
 pub use plan_cluster::start;
-pub use replays::Replay;
+pub use replays::{Replay, node_in};
 pub use sink::{Running, Sink, newest};
 pub use standstill::{is_ready, stuck_in, stuck_nodes};
 pub use verdicts::{VerdictLine, add_verdict, verdict_status};

@@ -75,7 +75,7 @@ fn show<O: Output>(
 
 /// Returns the node of this name, or `None` if no name is given. Stops with a line if the plan has
 /// no such node.
-fn node_in(alloc: Global, plan: &Plan, name: Option<&str>) -> Result<Option<NodeId>, Stop>
+pub fn node_in(alloc: Global, plan: &Plan, name: Option<&str>) -> Result<Option<NodeId>, Stop>
     ensures { IsFound plan.now (option_map (λ text. text.now) name.entry) result }
 {
     let Some(name) = name else {

@@ -1,7 +1,6 @@
 -- A picture, from its lines, and what is printed where there is none.
-use Rattle.std.proofs.Common.{◌≡◌, ◌∙◌, ◌⊎◌, ◌++◌, ℕ, Bool, List, [], None, Result, Ok, Err, ap, false, inl, inr, length, refl, subst, sym, true}
-use Rattle.std.specs.Prelude.{codes, string_bytes}
-use Rattle.std.specs.Result.{result_err, result_map_both}
+use Rattle.std.proofs.Common.{◌≡◌, ◌∙◌, ◌⊎◌, ◌++◌, ℕ, Bool, List, [], Option, None, Some, Result, Ok, Err, ap, false, inl, inr, length, refl, subst, sym, true}
+use Rattle.std.specs.Prelude.{codes, option_map, string_bytes}
 use Rattle.mx_events.specs.declared.event.Event.{Event}
 use Rattle.mx_plan.specs.Text.{Text, line_feed}
 use Rattle.mx_plan.specs.Fields.{Fields}
@@ -15,9 +14,11 @@ use Rattle.mx_cli.specs.declared.faults.Fault.TheVariants.{BadText}
 use Rattle.mx_cli.specs.declared.stop.Stop.{Stop}
 use Rattle.mx_cli.specs.declared.stop.Stop.TheVariants as stop
 use Rattle.mx_cli.proofs.FrameLemmas.{fault_prints, line_prints, memory_prints, silent_end, text_prints}
+use Rattle.mx_driver.specs.Jobs.{run_by}
+use Rattle.mx_driver.specs.Viewed.{IsFound, node_in}
 use Rattle.mx_picture.specs.declared.opening.Frame.{Frame}
 use Rattle.mx_picture.specs.Drawn.{IsPage, IsPicture, names_text, opening_line, trace_title}
-use Rattle.mx_picture.specs.Pictures.{IsDrawn, IsPictured, IsPicturedBy, node_fault, node_in, part_in, part_on}
+use Rattle.mx_picture.specs.Pictures.{IsDrawn, IsPictured, IsPicturedBy, IsRunDrawn, IsRunDrawnOn, IsUnknown, part_on}
 use Rattle.mx_picture.specs.declared.part.Part.{Part as Shown}
 
 -- a text to which each part of a page was appended
@@ -63,17 +64,38 @@ module _ (p : Fields) (es : List Event) where
     run_stops r stop.Writer h = absurd (never_refused r h.shows)
     run_stops r stop.Memory h = memory_prints (IsDrawn p es r.end) o
 
--- the fault of a part is that of its node
-pub part_fault : (p : Fields) (part : Part) (only_letters : Bool) (r : Result Shown Fault) → r ≡ part_in p part only_letters → result_err r ≡ node_fault p part.node
-part_fault p part only_letters r is = ap result_err is ∙ elim (node_in p part.node) as (λ n. result_err (result_map_both (part_on part only_letters) (λ fault. fault) n) ≡ result_err n) [ Ok node ↦ refl | Err fault ↦ refl ]
+-- what holds of a part holds where a node was found, or none was named
+module _ (Is : Option (Option ℕ) → Type 0) (part : Part) (only_letters : Bool) (shown : Shown) where
+  pub with_part : ((node : Option ℕ) → Is (Some node)) → (n : Option (Option ℕ)) → option_map (part_on part only_letters) n ≡ Some shown → Is n
+  with_part h (Some node) is = h node
+  with_part h None is = cc
+
+-- the plan lacks the named node, or memory ran out
+module _ (P : Report → Type 0) (p : Fields) (name : Option Text) (o : Sight) where
+  pub not_found : ((r : Report) → node_in p name ≡ None → IsUnknown r → P r) → (s : Stop) → IsFound p name (Err s) → Prints P o o (Err s)
+  not_found lacks (stop.Line line) h =
+      line_prints P (string_bytes line) o (stop.Line line) (lacks (ends (has_line (string_bytes line))) h.0 (string_bytes line, h.1, refl)) refl
+  not_found lacks stop.Memory h = memory_prints P o
+  not_found lacks (stop.Fault fault) h = absurd h
+  not_found lacks stop.Writer h = absurd h
+
+module _ (part : Part) (p : Fields) (es : List Event) where
+  -- a run of which a part is drawn
+  pub part_drawn : (only_letters : Bool) (shown : Shown) → option_map (part_on part only_letters) (node_in p part.node) ≡ Some shown → (r : Report) → IsDrawn p es (run_by p p.shape es).end r
+      → IsRunDrawn part p es r
+  part_drawn only_letters shown is r h =
+      with_part (λ n. IsRunDrawnOn p es n r) part only_letters shown (λ node. h) (node_in p part.node) is
+
+  pub part_unknown : (r : Report) → node_in p part.node ≡ None → IsUnknown r → IsRunDrawn part p es r
+  part_unknown r none is = subst (λ (n : Option (Option ℕ)). IsRunDrawnOn p es n r) (sym none) is
 
 module _ (part : Part) (p : Fields) (text : Text) where
   -- the events that a text lists
-  pub listed : (es : List Event) → events_at p text ≡ Ok es → (r : Report) → IsPicturedBy part.node p (Ok es) r → IsPictured part p text r
-  listed es read r h = subst (λ (t : Result (List Event) PlanFault). IsPicturedBy part.node p t r) (sym read) h
+  pub listed : (es : List Event) → events_at p text ≡ Ok es → (r : Report) → IsPicturedBy part p (Ok es) r → IsPictured part p text r
+  listed es read r h = subst (λ (t : Result (List Event) PlanFault). IsPicturedBy part p t r) (sym read) h
 
   -- a text that lists none
   pub unlisted : (fault : PlanFault) (o : Sight) (s : Stop) → (events_at p text ≡ Err fault) ⊎ (fault ≡ plan_fault.Memory) → s ≡ stop_at fault → Prints (IsPictured part p text) o o (Err s)
   unlisted fault o s (inl read) is =
-      text_prints (IsPictured part p text) o s fault (inl (subst (λ (t : Result (List Event) PlanFault). IsPicturedBy part.node p t (ends (has_fault (BadText fault)))) (sym read) refl)) is
+      text_prints (IsPictured part p text) o s fault (inl (subst (λ (t : Result (List Event) PlanFault). IsPicturedBy part p t (ends (has_fault (BadText fault)))) (sym read) refl)) is
   unlisted fault o s (inr out) is = text_prints (IsPictured part p text) o s fault (inr out) is

@@ -1,13 +1,11 @@
 -- What is printed of a trace that is drawn.
-use Rattle.std.proofs.Common.{◌≡◌, ◌∙◌, ℕ, Option, None, Some, Result, Ok, Err, ap, refl, subst, sym}
-use Rattle.std.specs.Prelude.{MatchResult}
+use Rattle.std.proofs.Common.{◌≡◌, ◌∙◌, ℕ, Option, None, Some, Result, Ok, Err, ap, false, subst, sym}
+use Rattle.std.specs.Prelude.{MatchResult, option_map}
 use Rattle.mx_plan.specs.Text.{Text}
 use Rattle.mx_plan.specs.Fields.{Fields}
-use Rattle.mx_cli.specs.Printing.{Prints, Report, Sight, ends, has_fault}
+use Rattle.mx_cli.specs.Printing.{Report}
 use Rattle.mx_cli.specs.Requests.{Part}
-use Rattle.mx_cli.specs.declared.faults.Fault.{Fault}
-use Rattle.mx_cli.specs.declared.stop.Stop.TheVariants as stop
-use Rattle.mx_cli.proofs.FrameLemmas.{fault_prints}
+use Rattle.mx_driver.specs.Viewed.{node_in}
 use Rattle.mx_explorer.specs.declared.verdict.Clause.{Clause}
 use Rattle.mx_explorer.specs.declared.verdict.Verdict.{Verdict}
 use Rattle.mx_explorer.specs.declared.verdict.Verdict.TheVariants.{Broken}
@@ -16,8 +14,10 @@ use Rattle.mx_judge.specs.Listed.{Listed, place_of}
 use Rattle.mx_judge.specs.Reasons.{reason_at, reason_for}
 use Rattle.mx_judge.specs.Traces.{place_word, trace_at}
 use Rattle.mx_picture.specs.Marks.{Mark, marked_by, why_text}
-use Rattle.mx_picture.specs.Pictures.{node_fault}
+use Rattle.mx_picture.specs.Pictures.{IsUnknown, part_on}
 use Rattle.mx_picture.specs.TracePictures.{IsTraceDrawn, IsTracePictured, IsTracePicturedBy, IsTraceShown}
+use Rattle.mx_picture.specs.declared.part.Part.{Part as Shown}
+use Rattle.mx_picture.proofs.PictureLemmas.{with_part}
 
 -- what holds of the value of a result, or of its error
 module _ {T E : Type 0} (P : T → Type 0) (Q : E → Type 0) (x : Result T E) where
@@ -34,14 +34,13 @@ module _ (p : Fields) (text : Text) where
       match_ok (λ (t : Listed). IsTraceShown p (place_word text) t r) (λ fault. IsFaultReport fault r) (trace_at p text) t read (subst (λ (w : Text). IsTraceShown p w t r) same h)
 
   module _ (part : Part) where
-    -- the plan has the named node, or names none
-    pub known : node_fault p part.node ≡ None → (r : Report) → IsTraceDrawn p text r → IsTracePictured part p text r
-    known none r h = subst (λ (f : Option Fault). IsTracePicturedBy f p text r) (sym none) h
+    -- a trace of which a part is drawn
+    pub known : (shown : Shown) → option_map (part_on part false) (node_in p part.node) ≡ Some shown → (r : Report) → IsTraceDrawn p text r → IsTracePictured part p text r
+    known shown is r h = with_part (λ n. IsTracePicturedBy n p text r) part false shown (λ node. h) (node_in p part.node) is
 
-    -- the plan lacks it
-    pub unknown : (fault : Fault) (o : Sight) → node_fault p part.node ≡ Some fault → Prints (IsTracePictured part p text) o o (Err (stop.Fault fault))
-    unknown fault o some =
-        fault_prints (IsTracePictured part p text) fault o (subst (λ (f : Option Fault). IsTracePicturedBy f p text (ends (has_fault fault))) (sym some) refl)
+    -- the plan lacks the named node
+    pub unknown : (r : Report) → node_in p part.node ≡ None → IsUnknown r → IsTracePictured part p text r
+    unknown r none is = subst (λ (n : Option (Option ℕ)). IsTracePicturedBy n p text r) (sym none) is
 
 -- the mark of a broken trace, from the parts of its text
 pub marked_is : (p : Fields) (word : Text) (t : Listed) (k : ℕ) (clause : Clause) (verdict : Verdict) (why : Text) (place : ℕ) (reason : Text) → verdict ≡ Broken k clause

@@ -1,18 +1,18 @@
 -- What `picture --trace` prints.
-use Rattle.std.specs.Prelude.{◌≡◌, Option, None, Some, MatchResult, false}
+use Rattle.std.specs.Prelude.{ℕ, Option, None, Some, MatchResult, false}
 use Rattle.mx_plan.specs.Text.{Text}
 use Rattle.mx_plan.specs.Fields.{Fields}
 use Rattle.mx_explorer.specs.declared.verdict.Verdict.{Verdict}
 use Rattle.mx_driver.specs.VerdictLines.{verdict_status}
-use Rattle.mx_cli.specs.Printing.{IsWhole, Report, ends, has_fault}
+use Rattle.mx_cli.specs.Printing.{IsWhole, Report}
 use Rattle.mx_cli.specs.Requests.{Part}
-use Rattle.mx_cli.specs.declared.faults.Fault.{Fault}
+use Rattle.mx_driver.specs.Viewed.{node_in}
 use Rattle.mx_judge.specs.Faults.{IsFaultReport}
 use Rattle.mx_judge.specs.Judged.{IsVerdictOf, judgement_text}
 use Rattle.mx_judge.specs.Listed.{Listed}
 use Rattle.mx_judge.specs.Traces.{place_word, trace_at}
 use Rattle.mx_picture.specs.Drawn.{IsTracePicture}
-use Rattle.mx_picture.specs.Pictures.{node_fault}
+use Rattle.mx_picture.specs.Pictures.{IsUnknown}
 
 -- the picture of a trace, whose title has what `judge` prints of the trace, with the status of its
 -- verdict
@@ -28,11 +28,11 @@ IsTraceDrawn p text r =
     MatchResult (trace_at p text) (λ t. IsTraceShown p (place_word text) t r)
     (λ fault. IsFaultReport fault r)
 
-abbrev pub IsTracePicturedBy : Option Fault → Fields → Text → Report → Type 0
-IsTracePicturedBy None p text r = IsTraceDrawn p text r
-IsTracePicturedBy (Some fault) p text r = r ≡ ends (has_fault fault)
+abbrev pub IsTracePicturedBy : Option (Option ℕ) → Fields → Text → Report → Type 0
+IsTracePicturedBy (Some node) p text r = IsTraceDrawn p text r
+IsTracePicturedBy None p text r = IsUnknown r
 
--- a report of `picture --trace`: of the trace in a text, or the fault that the plan lacks the named
+-- a report of `picture --trace`: of the trace in a text, or the line that the plan lacks the named
 -- node
 abbrev pub IsTracePictured : Part → Fields → Text → Report → Type 0
-IsTracePictured part p = IsTracePicturedBy (node_fault p part.node) p
+IsTracePictured part p = IsTracePicturedBy (node_in p part.node) p

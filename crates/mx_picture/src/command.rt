@@ -1,22 +1,21 @@
 //! `picture`: the events of a text happen as in a replay, and are drawn.
 
-ghost use Rattle.std.specs.Prelude.{◌≡◌, length};
+ghost use Rattle.std.specs.Prelude.{length};
 ghost use Rattle.mx_cli.specs.Printing.{Prints, sight};
-ghost use Rattle.mx_cli.specs.Requests.{part_of, text_of};
+ghost use Rattle.mx_cli.specs.Requests.{part_of};
 ghost use Rattle.mx_driver.specs.Jobs.{run_by};
 ghost use Rattle.mx_driver.specs.Runs.{AllNameNodes};
-ghost use Rattle.mx_picture.specs.Pictures.{IsDrawn, IsPictured, end_of_run, node_in, part_in};
+ghost use Rattle.mx_picture.specs.Pictures.{IsDrawn, IsPartOf, IsPictured, IsRunDrawn};
 
 use crate::drawing::Drawing;
 use crate::losses::Losses;
 use crate::page::page_of;
 use crate::part::Part;
-use mx_cli::{Command, Fault, PicturePart, Stop, print};
-use mx_driver::observe;
+use mx_cli::{Command, PicturePart, Stop, print};
+use mx_driver::{node_in, observe};
 use mx_io::Output;
 use mx_network::Event;
-use mx_plan::{Place, Plan, PlanFault, read_events};
-use mx_stamps::NodeId;
+use mx_plan::{Plan, read_events};
 use std::alloc::Global;
 
 /// `picture`: a picture of the outcomes of the events that the text lists.
@@ -69,42 +68,32 @@ fn draw<O: Output>(
     out: &mut O,
 ) -> Result<u8, Stop>
     requires { AllNameNodes (length plan.now.nodes) events.now }
-    ensures prints { Prints (IsDrawn plan.now events.now
-        (end_of_run plan.now (text_of picture.now.part.node) events.now))
+    ensures prints { Prints (IsRunDrawn (part_of picture.now.part) plan.now events.now)
         (sight O.Output out.old) (sight O.Output out.new) result }
 {
-    match part_of(plan, &picture.part, picture.only_letters) {
+    match part_of(alloc, plan, &picture.part, picture.only_letters) {
         Ok(part) => print_picture(alloc, plan, &part, events, losses, out),
-        Err(fault) => Err(Stop::Fault(fault)),
+        Err(unknown) => Err(unknown),
     }
 }
 
-/// Returns the part that is named, or the fault that the plan does not have its node.
+/// Returns the part that is named. Stops with a line if the plan does not have its node.
 pub(crate) fn part_of(
+    alloc: Global,
     plan: &Plan,
     named: &PicturePart<'_>,
     only_letters: bool,
-) -> Result<Part, Fault>
-    ensures { result ≡ part_in plan.now (part_of named.now) only_letters }
+) -> Result<Part, Stop>
+    ensures { IsPartOf plan.now (part_of named.now) only_letters result }
 {
-    let node = node_in(plan, named.node)?;
-    Ok(Part {
-        from: named.from,
-        to: named.to,
-        node,
-        only_letters,
-    })
-}
-
-fn node_in(plan: &Plan, name: Option<&str>) -> Result<Option<NodeId>, Fault>
-    ensures { result ≡ node_in plan.now (text_of name.entry) }
-{
-    let Some(name) = name else {
-        return Ok(None);
-    };
-    match plan.node(name) {
-        Some(node) => Ok(Some(node)),
-        None => Err(Fault::BadText(PlanFault::UnknownName(Place::Nodes))),
+    match node_in(alloc, plan, named.node) {
+        Ok(node) => Ok(Part {
+            from: named.from,
+            to: named.to,
+            node,
+            only_letters,
+        }),
+        Err(stop) => Err(stop),
     }
 }
 

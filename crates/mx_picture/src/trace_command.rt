@@ -36,9 +36,9 @@ impl Command for TracePicture<'_> {
         text: &[u8],
         out: &mut O,
     ) -> Result<u8, Stop> {
-        match part_of(plan, &self.0, false) {
+        match part_of(alloc, plan, &self.0, false) {
             Ok(part) => draw_text(alloc, plan, &part, text, out),
-            Err(fault) => Err(Stop::Fault(fault)),
+            Err(stop) => Err(stop),
         }
     }
 }

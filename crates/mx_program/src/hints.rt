@@ -35,6 +35,17 @@ impl fmt::Display for FaultyFiles<'_> {
     }
 }
 
+/// Where the fault of some files is.
+#[derive(Drop)]
+enum Place {
+    /// The first line that `explain` says of it.
+    Line(String),
+    /// Nothing is at fault in the files.
+    Nowhere,
+    /// They cannot be read twice, or memory ran out.
+    Unknown,
+}
+
 /// How many sections a live run wants, which are more than its plan allows.
 #[derive(Clone, Copy)]
 struct Wanted {
@@ -78,12 +89,19 @@ pub(crate) fn tell_place<R: Files + Input, E: Output>(
     if files.plan == "-" || files.second == Some("-") {
         return;
     }
-    if let Some(line) = place_in(rt, alloc, &files) {
-        let _ = err.put(line.as_bytes());
-    } else if let Some(wanted) = too_few_sections(rt, alloc, &request) {
-        let _ = write_line(alloc, err, wanted);
-    } else if is_terminal && has_hint(&request) {
-        let _ = write_line(alloc, err, files);
+    match place_in(rt, alloc, &files) {
+        Place::Line(line) => {
+            let _ = err.put(line.as_bytes());
+        }
+        Place::Nowhere => {
+            if let Some(wanted) = too_few_sections(rt, alloc, &request) {
+                let _ = write_line(alloc, err, wanted);
+            }
+        }
+        Place::Unknown if is_terminal && has_hint(&request) => {
+            let _ = write_line(alloc, err, files);
+        }
+        Place::Unknown => {}
     }
 }
 
@@ -181,27 +199,34 @@ fn files_of<'a>(request: &Request<'a>) -> Option<FaultyFiles<'a>> {
     })
 }
 
-/// Returns the first line that `explain` says of the fault of these files; of a script, only a line
-/// about the same line of the script. Returns `None` if there is none, if a file cannot be read
-/// twice, or if memory runs out.
-fn place_in<R: Files + Input>(rt: &R, alloc: Global, files: &FaultyFiles<'_>) -> Option<String> {
+/// Returns the place of the fault of these files.
+fn place_in<R: Files + Input>(rt: &R, alloc: Global, files: &FaultyFiles<'_>) -> Place {
     let FaultyFiles {
         plan,
         second,
         is_script,
     } = *files;
     if is_read_once(rt, plan) || second.is_some_and(|name| is_read_once(rt, name)) {
-        return None;
+        return Place::Unknown;
     }
     let mut source = Streams { rt };
     let (mut out, mut err) = (Vec::new(alloc), Vec::new(alloc));
     let (told, fault) = (&mut out, &mut err);
-    let status = explain(alloc, plan, second, is_script, &mut source, told, fault);
-    if status != 1 {
-        return None;
+    match explain(alloc, plan, second, is_script, &mut source, told, fault) {
+        0 => Place::Nowhere,
+        1 => match line_about(alloc, out.as_slice(), err.as_slice()) {
+            Some(line) => Place::Line(line),
+            None => Place::Unknown,
+        },
+        _ => Place::Unknown,
     }
-    let told = str::from_utf8(out.as_slice()).ok()?;
-    let number = script_line(str::from_utf8(err.as_slice()).ok()?);
+}
+
+/// Returns the first line that `explain` says of a fault; of a script, the first about the same line
+/// of the script. Returns `None` if there is none, or if memory runs out.
+fn line_about(alloc: Global, told: &[u8], fault: &[u8]) -> Option<String> {
+    let told = str::from_utf8(told).ok()?;
+    let number = script_line(str::from_utf8(fault).ok()?);
     let line = told.lines().find(|line| is_of_fault(line, number))?;
     format!(in alloc; "{line}\n").ok()
 }

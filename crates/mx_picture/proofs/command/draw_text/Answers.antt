@@ -5,7 +5,7 @@ use Rattle.mx_cli.specs.Requests.{part_of}
 use Rattle.mx_cli.proofs.FrameLemmas.{prints_as}
 use Rattle.mx_driver.specs.Runs.{AllNameNodes}
 use Rattle.mx_driver.proofs.EventLemmas.{events_named}
-use Rattle.mx_picture.specs.Pictures.{IsDrawn, IsPictured, end_of_run}
+use Rattle.mx_picture.specs.Pictures.{IsPictured, IsRunDrawn}
 use Rattle.mx_picture.proofs.PictureLemmas.{listed, unlisted}
 use Rattle.mx_picture.proofs.command.draw_text.Goals as goal
 
@@ -22,9 +22,9 @@ returns-in-Ok g c =
     let es = c.in-Ok.events.items in
     let o = sight g.O.Output c.args.out.now in
     let n = sight g.O.Output c.draw.new.out in
-    let drawn = subst (λ (l : List Event). Prints (IsDrawn p l (end_of_run p part.node l)) o n c.draw.result) c.as_slice.ensures.value c.draw.ensures.prints in
+    let drawn = subst (λ (l : List Event). Prints (IsRunDrawn part p l) o n c.draw.result) c.as_slice.ensures.value c.draw.ensures.prints in
     record {
-      prints = prints_as (IsDrawn p es (end_of_run p part.node es)) (IsPictured part p c.args.text.now) (listed part p c.args.text.now es c.in-Ok.ensures) o n c.draw.result drawn;
+      prints = prints_as (IsRunDrawn part p es) (IsPictured part p c.args.text.now) (listed part p c.args.text.now es c.in-Ok.ensures) o n c.draw.result drawn;
     }
 
 pub returns-in-Err : goal.returns-in-Err
