@@ -1,9 +1,10 @@
-//! The files of the system and the standard input of the process, as a source.
+//! The files of the system and the standard input of the process, as a source; the files as a store.
 
 ghost use Rattle.std.specs.Prelude.{◌≡◌, ◌≤◌, length, IfOk, IfSome};
 
 use crate::counted::Counted;
 use crate::source::{Source, SourceFault};
+use crate::store::Store;
 use std::alloc::Global;
 use std::io::{ErrorKind, Read};
 use std::rt::Files;
@@ -12,10 +13,10 @@ use std::{fs, io};
 /// The greatest length, in bytes, of a file or of standard input.
 pub const MAX_BYTES: u64 = 268_435_456;
 
-/// Why a name cannot be read.
+/// Why a name cannot be read or written.
 #[derive(Clone, Copy)]
 pub enum Refusal {
-    /// It cannot be read, for this reason.
+    /// It cannot be read or written, for this reason.
     Because(&'static str),
     /// Memory ran out.
     Memory,
@@ -31,7 +32,7 @@ impl Refusal {
     }
 }
 
-/// A source of files, by their paths, and of standard input, by the name `-`.
+/// A source and a store of files, by their paths; and of standard input, by the name `-`, a source.
 #[derive(Drop)]
 pub struct Streams<'a, R: Files + Input> {
     /// The runtime that opens files and reads standard input.
@@ -48,6 +49,15 @@ impl<R: Files + Input> Source for Streams<'_, R> {
 
     fn fetched(&mut self, alloc: Global, name: &str) -> Result<Vec<u8>, Refusal> {
         read_name(self.rt, alloc, name)
+    }
+}
+
+impl<R: Files + Input> Store for Streams<'_, R> {
+    fn put(&mut self, name: &str, bytes: &[u8]) -> Result<(), Refusal> {
+        match fs::write(self.rt, name, bytes) {
+            Ok(()) => Ok(()),
+            Err(e) => Err(unwritten_for(&e)),
+        }
     }
 }
 
@@ -92,5 +102,17 @@ fn refused_for(e: &io::Error) -> Refusal {
         ErrorKind::NotADirectory => Refusal::Because("a part of its path is no folder"),
         ErrorKind::TimedOut => Refusal::Because("it takes more than 268435456 reads"),
         _ => Refusal::Because("the system fails to read it"),
+    }
+}
+
+fn unwritten_for(e: &io::Error) -> Refusal {
+    match e.kind() {
+        ErrorKind::OutOfMemory => Refusal::Memory,
+        ErrorKind::NotFound => Refusal::Because("there is no folder of this path"),
+        ErrorKind::PermissionDenied => Refusal::Because("who runs mx may not write it"),
+        ErrorKind::IsADirectory => Refusal::Because("it is a folder"),
+        ErrorKind::NotADirectory => Refusal::Because("a part of its path is no folder"),
+        ErrorKind::StorageFull => Refusal::Because("no space is left"),
+        _ => Refusal::Because("the system fails to write it"),
     }
 }

@@ -13,7 +13,7 @@ use Rattle.mx_lines.specs.declared.errors.Expected.TheVariants as expected
 use Rattle.mx_lines.specs.declared.errors.LineError.{LineError}
 use Rattle.mx_lines.specs.declared.errors.LineFault.TheVariants as fault
 use Rattle.mx_lines.specs.declared.errors.OwnWord.{OwnWord}
-use Rattle.mx_lines.specs.declared.errors.OwnWord.TheVariants.{Show, Undo, Redo, Events, Script, Mark, Help, End}
+use Rattle.mx_lines.specs.declared.errors.OwnWord.TheVariants.{Show, Undo, Redo, Events, Script, Save, Mark, Help, End}
 use Rattle.mx_lines.specs.declared.line.ScriptLine.{ScriptLine}
 use Rattle.mx_lines.specs.declared.line.ScriptLine.TheVariants as line
 
@@ -29,6 +29,7 @@ own_word text =
     else if bytes_eq text (codes "redo") then Some Redo
     else if bytes_eq text (codes "events") then Some Events
     else if bytes_eq text (codes "script") then Some Script
+    else if bytes_eq text (codes "save") then Some Save
     else if bytes_eq text (codes "mark") then Some Mark
     else if bytes_eq text (codes "help") then Some Help
     else if is_end text then Some End
@@ -41,6 +42,7 @@ alone Undo = Ok (command.Undo 1)
 alone Redo = Ok command.Redo
 alone Events = Ok command.Events
 alone Script = Ok command.Script
+alone Save = refused fault.WordCount 0 (expected.OwnArguments Save)
 alone Mark = refused fault.WordCount 0 (expected.OwnArguments Mark)
 alone Help = Ok command.Help
 alone End = Ok command.End
@@ -63,6 +65,7 @@ module _ (names : Known) where
   abbrev pub with_one : OwnWord → Text → Bool → Result SessionCommand LineError
   with_one Show name true = shown name
   with_one Undo count true = taken_back count
+  with_one Save name true = Ok command.Save
   with_one Mark text true = Ok command.Mark
   with_one word text is_last = refused fault.WordCount 0 (expected.OwnArguments word)
 

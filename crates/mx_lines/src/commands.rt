@@ -25,6 +25,8 @@ pub enum SessionCommand {
     Events,
     /// Shows what has happened so far, as a script.
     Script,
+    /// Writes that script to the file that the second word of this line names.
+    Save,
     /// Shows `mark` and the second word of this line.
     Mark,
     /// Shows which lines a session may have.
@@ -74,6 +76,9 @@ fn own_word(text: &str) -> Option<OwnWord>
     if text == "script" {
         return Some(OwnWord::Script);
     }
+    if text == "save" {
+        return Some(OwnWord::Save);
+    }
     if text == "mark" {
         return Some(OwnWord::Mark);
     }
@@ -105,6 +110,7 @@ fn own_command<N: Names>(
     match word {
         OwnWord::Show if more.is_empty() => shown(names, argument),
         OwnWord::Undo if more.is_empty() => taken_back(argument),
+        OwnWord::Save if more.is_empty() => Ok(SessionCommand::Save),
         OwnWord::Mark if more.is_empty() => Ok(SessionCommand::Mark),
         _ => refuse(LineFault::WordCount, 0, Expected::OwnArguments(word)),
     }
@@ -119,7 +125,9 @@ fn alone(word: OwnWord) -> Result<SessionCommand, LineError>
         OwnWord::Redo => Ok(SessionCommand::Redo),
         OwnWord::Events => Ok(SessionCommand::Events),
         OwnWord::Script => Ok(SessionCommand::Script),
-        OwnWord::Mark => refuse(LineFault::WordCount, 0, Expected::OwnArguments(word)),
+        OwnWord::Save | OwnWord::Mark => {
+            refuse(LineFault::WordCount, 0, Expected::OwnArguments(word))
+        }
         OwnWord::Help => Ok(SessionCommand::Help),
         OwnWord::End => Ok(SessionCommand::End),
     }

@@ -69,6 +69,7 @@ pub enum OwnWord {
     Redo,
     Events,
     Script,
+    Save,
     Mark,
     Help,
     End,

@@ -24,12 +24,12 @@ const ORDER_WORDS: [&str; 5] = ["lose", "again", "cut", "partition", "heal"];
 /// The words with which lines of scripts may begin, beside those.
 const SCRIPT_WORDS: [&str; 2] = ["times", "expect"];
 
-const SESSION_WORDS: [&str; 10] = [
-    "show", "undo", "redo", "events", "script", "mark", "help", "end", "quit", "exit",
+const SESSION_WORDS: [&str; 11] = [
+    "show", "undo", "redo", "events", "script", "save", "mark", "help", "end", "quit", "exit",
 ];
 
-/// The words that end a session. None is suggested in place of a wrong word.
-const ENDING_WORDS: [&str; 3] = ["end", "quit", "exit"];
+/// The words that end a session or overwrite a file. None is suggested in place of a wrong word.
+const UNSUGGESTED_WORDS: [&str; 4] = ["save", "end", "quit", "exit"];
 
 /// Words that neither events nor scripts use, each with the word that is meant instead.
 const MEANT_WORDS: [(&str, &str); 6] = [
@@ -114,7 +114,8 @@ pub fn message<N: Names>(
     Ok(text)
 }
 
-/// Returns the nearest of the known names or words, but no word that ends a session.
+/// Returns the nearest of the known names or words, but no word that ends a session or overwrites a
+/// file.
 fn suggested<'a>(
     alloc: Global,
     word: &str,
@@ -123,7 +124,7 @@ fn suggested<'a>(
 ) -> Result<Option<&'a str>, AllocError> {
     let near = nearest(alloc, word, known)?;
     match near {
-        Some(ending) if are_words && is_among(ending, &ENDING_WORDS) => Ok(None),
+        Some(word) if are_words && is_among(word, &UNSUGGESTED_WORDS) => Ok(None),
         _ => Ok(near),
     }
 }
@@ -225,6 +226,7 @@ fn expected_text(expected: Expected) -> &'static str {
         Expected::Arguments(_) => "two nodes after the word",
         Expected::OwnArguments(OwnWord::Show) => "a node or nothing after the word",
         Expected::OwnArguments(OwnWord::Undo) => "a number or nothing after the word",
+        Expected::OwnArguments(OwnWord::Save) => "a file after the word",
         Expected::OwnArguments(OwnWord::Mark) => "a word after the word",
         Expected::OwnArguments(_) => "nothing after the word",
     }
