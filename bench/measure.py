@@ -8,7 +8,8 @@ import subprocess
 import time
 
 ROOT = os.path.dirname(os.path.dirname(os.path.abspath(__file__)))
-PROGRAM = os.path.join(ROOT, "crates", "mx_program", "out", "mx_program")
+# the program that MX_PROGRAM names, as for `./mx`, or else the one that is built
+PROGRAM = os.environ.get("MX_PROGRAM") or os.path.join(ROOT, "crates", "mx_program", "out", "mx_program")
 # times stations and journals; `bench/live` proves and builds it
 BENCHES = os.path.join(ROOT, "crates", "benches", "out", "benches")
 # as `mx` sets it
@@ -16,8 +17,9 @@ TUNABLES = {**os.environ, "GLIBC_TUNABLES": "glibc.malloc.hugetlb=1:glibc.malloc
 
 
 def build():
-    """Builds the program where it has to be."""
-    subprocess.run([os.path.join(ROOT, "mx"), "build"], check=True)
+    """Builds the program where it has to be, unless MX_PROGRAM names one."""
+    if not os.environ.get("MX_PROGRAM"):
+        subprocess.run([os.path.join(ROOT, "mx"), "build"], check=True)
 
 
 def measured(words, printed, wanted=0, program=PROGRAM, environment=TUNABLES):
