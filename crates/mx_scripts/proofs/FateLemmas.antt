@@ -1,11 +1,11 @@
 -- What has become of parcels.
-use Rattle.std.proofs.Common.{◌≡◌, ◌≤◌, ◌<◌, ℕ, zero, suc, Bool, true, false, not, List, [], ◌∷◌, Option, None, get_or, length, slice_get, ap, sym, subst, refl, arith, inl, inr}
-use Rattle.std.proofs.lemmas.Bool.{cases_eq, cases_lt, true≢false}
+use Rattle.std.proofs.Common.{◌≡◌, ℕ, zero, suc, Bool, true, false, not, List, [], ◌∷◌, get_or, slice_get, ap, sym, refl}
+use Rattle.std.proofs.lemmas.Bool.{true≢false}
 use Rattle.std.specs.Prelude.{◌&&◌, IsTrue}
 use Rattle.mx_events.specs.declared.event.Event.{Event}
 use Rattle.mx_events.specs.declared.event.Event.TheVariants as event
 use Rattle.mx_lines.specs.declared.orders.Scope.{Scope}
-use Rattle.mx_scripts.specs.Fates.{Fates, delivered, is_held, is_in, is_under_way, is_waiting, is_wanted, AreGone, AreGoneBetween}
+use Rattle.mx_scripts.specs.Fates.{Fates, delivered, is_held, is_in, is_under_way, is_waiting, is_wanted}
 use Rattle.mx_scripts.specs.declared.in_flight.Wanted.{Wanted}
 use Rattle.mx_scripts.specs.declared.in_flight.Wanted.TheVariants.{Waiting, Arriving}
 
@@ -29,18 +29,12 @@ first_of : (a b : Bool) → (a && b) ≡ true → IsTrue a
 first_of true b e = refl
 first_of false b e = absurd (true≢false (sym e))
 
--- ---- no parcel below a number is under way
+-- ---- parcels that are not wanted
 
-true_there : (gone : List Bool) (k : ℕ) → IsTrue (get_or gone k false) → get_or gone k true ≡ true
+pub true_there : (gone : List Bool) (k : ℕ) → IsTrue (get_or gone k false) → get_or gone k true ≡ true
 true_there [] k h = refl
 true_there (g ∷ gone) zero h = h
 true_there (g ∷ gone) (suc k) h = true_there gone k h
-
-get_past : {X : Type 0} (xs : List X) (k : ℕ) → length xs ≤ k → slice_get xs k ≡ None
-get_past [] zero le = refl
-get_past [] (suc k) le = refl
-get_past (x ∷ xs) zero le = absurd (omega (arith, le))
-get_past (x ∷ xs) (suc k) le = get_past xs k (omega (arith, le))
 
 module _ {P : Type 0} (f : Fates) (sent : List (ℕ × ℕ × P)) (scope : Scope) where
   abbrev within : ℕ → Bool
@@ -55,34 +49,13 @@ module _ {P : Type 0} (f : Fates) (sent : List (ℕ × ℕ × P)) (scope : Scope
   not_wanted Arriving k e = and_left (is_waiting f sent scope k) (not (is_held f (slice_get sent k))) e
 
   -- one that is under way no more is not wanted
-  gone_wanted : (wanted : Wanted) (k : ℕ) → IsTrue (get_or f.gone k false) → is_wanted f sent scope wanted k ≡ false
-  gone_wanted wanted k gone = not_wanted wanted k (and_left (is_under_way f k) (within k) (ap not (true_there f.gone k gone)))
+  pub gone_wanted : (wanted : Wanted) (k : ℕ) → get_or f.gone k true ≡ true → is_wanted f sent scope wanted k ≡ false
+  gone_wanted wanted k gone = not_wanted wanted k (and_left (is_under_way f k) (within k) (ap not gone))
 
-  -- ---- a walk over the parcels under way, the oldest first
+  -- one that was not sent, or is not in the scope, is not wanted
+  pub outside_wanted : (wanted : Wanted) (k : ℕ) → is_in scope (slice_get sent k) ≡ false → is_wanted f sent scope wanted k ≡ false
+  outside_wanted wanted k outside = not_wanted wanted k (and_right (is_under_way f k) (within k) outside)
 
-  -- none before this parcel is wanted
-  abbrev pub NoneBefore : Wanted → ℕ → Type 0
-  NoneBefore wanted number = (k : ℕ) → k < number → is_wanted f sent scope wanted k ≡ false
-
-  pub none_first : (wanted : Wanted) (first : ℕ) → AreGone first f.gone → NoneBefore wanted first
-  none_first wanted first gone k lt = gone_wanted wanted k (gone k lt)
-
-  pub none_next : (wanted : Wanted) (number next : ℕ) → NoneBefore wanted number → is_wanted f sent scope wanted number ≡ false → AreGoneBetween number next f.gone → NoneBefore wanted next
-  none_next wanted number next before here gone k lt = elim (cases_lt k number) [
-    | inl less ↦ before k less
-    | inr more ↦ elim (cases_eq k number) [
-      | inl is ↦ subst (λ (j : ℕ). is_wanted f sent scope wanted j ≡ false) (sym is) here
-      | inr other ↦ gone_wanted wanted k (gone k (omega (arith, more, other)) lt)
-    ]
-  ]
-
-  -- no parcel was sent with such a number
-  wanted_past : (wanted : Wanted) (k : ℕ) → length sent ≤ k → is_wanted f sent scope wanted k ≡ false
-  wanted_past wanted k le =
-      not_wanted wanted k (and_right (is_under_way f k) (within k) (ap (λ (o : Option (ℕ × ℕ × P)). is_in scope o) (get_past sent k le)))
-
-  pub none_at_all : (wanted : Wanted) (number : ℕ) → NoneBefore wanted number → length sent ≤ number → (k : ℕ) → is_wanted f sent scope wanted k ≡ false
-  none_at_all wanted number before past k = elim (cases_lt k number) [
-    | inl less ↦ before k less
-    | inr more ↦ wanted_past wanted k (omega (arith, past, more))
-  ]
+  -- one whose link is cut does not arrive
+  pub held_arriving : (k : ℕ) → is_held f (slice_get sent k) ≡ true → is_wanted f sent scope Arriving k ≡ false
+  held_arriving k held = and_right (is_waiting f sent scope k) (not (is_held f (slice_get sent k))) (ap not held)

@@ -1,5 +1,7 @@
 pub mod FateLemmas
 pub mod UnderWayLemmas
+pub mod ListedLemmas
+pub mod OldestLemmas
 pub mod FileLemmas
 pub mod PlayedLemmas
 pub mod ItemLemmas

@@ -1,5 +1,5 @@
 -- Which parcels are under way, and which links are cut.
-use Rattle.std.specs.Prelude.{ℕ, ◌≡◌, ◌<◌, ◌-◌, ◌==◌, ◌&&◌, Bool, true, false, IsTrue, not, List, [], ◌++◌, Option, Some, None, length, replicate, slice_get, slice_index_or, slice_set}
+use Rattle.std.specs.Prelude.{ℕ, ◌≡◌, ◌<◌, ◌-◌, ◌==◌, ◌&&◌, Bool, true, false, IsTrue, min, not, List, [], ◌++◌, Option, Some, None, length, replicate, slice_get, slice_index_or, slice_set}
 use Rattle.mx_events.specs.declared.event.Event.{Event}
 use Rattle.mx_events.specs.declared.event.Event.TheVariants.{Deliver}
 use Rattle.mx_lines.specs.declared.orders.LinkChange.{LinkChange}
@@ -94,17 +94,24 @@ module _ {P : Type 0} (f : Fates) (sent : List (ℕ × ℕ × P)) (scope : Scope
   abbrev pub NoneWaits : Type 0
   NoneWaits = (k : ℕ) → is_waiting k ≡ false
 
--- ---- the list of the parcels under way
+-- of two numbers the lesser, or the only one
+abbrev pub older : Option ℕ → Option ℕ → Option ℕ
+older None other = other
+older (Some one) None = Some one
+older (Some one) (Some other) = Some (min one other)
 
--- no parcel below this number is under way
-abbrev pub AreGone : ℕ → List Bool → Type 0
-AreGone first gone = (k : ℕ) → k < first → IsTrue (slice_index_or gone k false)
+-- the first number of a kind that satisfies `is_so`, or none of the kind does
+abbrev pub IsOldest : (ℕ → Type 0) → (ℕ → Bool) → Option ℕ → Type 0
+IsOldest IsOfKind is_so None = (k : ℕ) → IsOfKind k → is_so k ≡ false
+IsOldest IsOfKind is_so (Some k) =
+    IsTrue (is_so k) × ((j : ℕ) → j < k → IsOfKind j → is_so j ≡ false)
 
--- no parcel between these two numbers is under way
-abbrev pub AreGoneBetween : ℕ → ℕ → List Bool → Type 0
-AreGoneBetween from to gone =
-    (k : ℕ) → from < k → k < to → IsTrue (slice_index_or gone k false)
+-- the parcel was sent over the link of this index
+abbrev pub IsOver : {P : Type 0} → ℕ → Option (ℕ × ℕ × P) → Type 0
+IsOver link None = ⊥
+IsOver link (Some p) = link_of p.0 p.1 ≡ link
 
--- no parcel between a parcel and its entry in `next` is under way
-abbrev pub AreSkipped : List ℕ → List Bool → Type 0
-AreSkipped next gone = (k : ℕ) → AreGoneBetween k (slice_index_or next k 0) gone
+-- the parcel was sent over a link with an index below this
+abbrev pub IsBelow : {P : Type 0} → ℕ → Option (ℕ × ℕ × P) → Type 0
+IsBelow link None = ⊥
+IsBelow link (Some p) = link_of p.0 p.1 < link

@@ -3,6 +3,7 @@ pub mod Played
 pub mod Scripts
 pub mod Links
 pub mod Fates
+pub mod UnderWay
 pub mod States
 pub mod Standstill
 pub mod Expectations

@@ -1,9 +1,8 @@
-ghost use Rattle.std.specs.Prelude.{◌≡◌, ◌<◌, ℕ, false, IfNone, IfSome, None, OnOk, slice_get, slice_index_or};
-ghost use Rattle.mx_scripts.specs.Fates.{IsFirst, arrived, at_first, can_arrive, can_pass, delivered, is_held, is_in, is_under_way, is_waiting, is_wanted, is_within, lost, noted, relinked};
+ghost use Rattle.std.specs.Prelude.{◌≡◌, ◌<◌, ℕ, false, IfNone, IfSome, None, OnErr, OnOk, slice_get, slice_index_or};
+ghost use Rattle.mx_scripts.specs.Fates.{IsFirst, arrived, at_first, can_arrive, can_pass, delivered, grown, is_held, is_in, is_under_way, is_waiting, is_wanted, is_within, lost, noted, relinked};
 ghost use Rattle.mx_scripts.specs.Links.{is_across, is_cut, link_of};
 
 use crate::links::{LINKS, Links, link};
-use crate::under_way::UnderWay;
 use mx_lines::{LinkChange, Scope, Sides};
 use mx_network::{Cluster, Event};
 use mx_nodelaws::Exclusion;
@@ -14,13 +13,14 @@ use std::marker::Model;
 /// Which parcels are under way, which was delivered last over each link, and which links are cut.
 #[derive(Drop)]
 pub struct InFlight {
-    under_way: UnderWay,
+    /// For each parcel that was sent, whether it is under way no more.
+    gone: Vec<bool>,
     /// For each link, the number of the parcel that was delivered last over it.
     last: [Option<u64>; LINKS],
     links: Links,
 }
 
-/// Which of the parcels under way `oldest` looks for.
+/// Which of the parcels under way `State::oldest` looks for.
 #[derive(Clone, Copy)]
 pub(crate) enum Wanted {
     Waiting,
@@ -33,7 +33,7 @@ impl Model for InFlight {
 
     ghost Value = { Fates };
 
-    ghost view = { λ m. record { gone = m.under_way; last = m.last; links = m.links } };
+    ghost view = { λ m. record { gone = m.gone.items; last = m.last; links = m.links } };
 }
 
 fn is_in<C: Exclusion>(cluster: &Cluster<C>, scope: &Scope, number: u64) -> bool
@@ -54,12 +54,23 @@ fn is_within(scope: &Scope, from: NodeId, to: NodeId) -> bool
     }
 }
 
+/// Extends the list to this many parcels: the new ones are under way.
+fn grow(gone: &mut Vec<bool>, sent: usize) -> Result<(), AllocError>
+    ensures ok { OnOk result (gone.new.items ≡ grown sent gone.old.items) }
+    ensures err { OnErr result (gone.new.items ≡ gone.old.items) }
+{
+    if sent <= gone.len() {
+        return Ok(());
+    }
+    gone.resize(sent, false)
+}
+
 impl InFlight {
     pub(crate) fn new(alloc: Global) -> InFlight
         ensures { result ≡ at_first }
     {
         InFlight {
-            under_way: UnderWay::new(alloc),
+            gone: Vec::new(alloc),
             last: [None; LINKS],
             links: Links::uncut(),
         }
@@ -71,9 +82,10 @@ impl InFlight {
         event: &Event,
         cluster: &Cluster<C>,
     ) -> Result<(), AllocError>
-        ensures { OnOk result (self.new ≡ noted cluster.now.sent event.now self.old) }
+        ensures ok { OnOk result (self.new ≡ noted cluster.now.sent event.now self.old) }
+        ensures err { OnErr result (self.new ≡ self.old) }
     {
-        self.under_way.grow(cluster.sent())?;
+        grow(&mut self.gone, cluster.sent() as usize)?;
         self.take_in(event, cluster);
         Ok(())
     }
@@ -98,13 +110,19 @@ impl InFlight {
     pub(crate) fn lose(&mut self, number: u64)
         ensures { self.new ≡ lost number self.old }
     {
-        self.under_way.lose(number);
+        let place = number as usize;
+        if place < self.gone.len() {
+            self.gone[place] = true;
+        }
     }
 
     pub(crate) fn is_under_way(&self, number: u64) -> bool
         ensures { result ≡ is_under_way self.now number }
     {
-        self.under_way.is_under_way(number)
+        match self.gone.get(number as usize) {
+            Some(gone) => !*gone,
+            None => false,
+        }
     }
 
     pub(crate) fn change(&mut self, change: &LinkChange)
@@ -150,7 +168,7 @@ impl InFlight {
         self.is_waiting(cluster, scope, number) && !self.is_held(cluster, number)
     }
 
-    fn is_wanted<C: Exclusion>(
+    pub(crate) fn is_wanted<C: Exclusion>(
         &self,
         cluster: &Cluster<C>,
         scope: &Scope,
@@ -163,27 +181,6 @@ impl InFlight {
             Wanted::Waiting => self.is_waiting(cluster, scope, number),
             Wanted::Arriving => self.can_arrive(cluster, scope, number),
         }
-    }
-
-    pub(crate) fn oldest<C: Exclusion>(
-        &self,
-        cluster: &Cluster<C>,
-        scope: &Scope,
-        wanted: Wanted,
-    ) -> Option<u64>
-        ensures some { IfSome result
-            (IsFirst (is_wanted self.now cluster.now.sent scope.now wanted)) }
-        ensures none { IfNone result ((k : ℕ)
-            → is_wanted self.now cluster.now.sent scope.now wanted k ≡ false) }
-    {
-        let mut number = self.under_way.first();
-        while number < cluster.sent() {
-            if self.is_wanted(cluster, scope, wanted, number) {
-                return Some(number);
-            }
-            number = self.under_way.after(number);
-        }
-        None
     }
 
     /// Returns the first link from the left side to the right side that is not cut.

@@ -10,6 +10,7 @@ mod line_failure;
 mod links;
 mod next_event;
 mod objects;
+mod oldest;
 mod on_script;
 mod recorder;
 mod replay_script;

@@ -83,10 +83,7 @@ impl<C: Exclusion> State<C> {
         ensures { Finds (can_arrive self.now.fates self.now.cluster.sent scope.now)
             arrival result }
     {
-        match self
-            .in_flight
-            .oldest(&self.cluster, scope, Wanted::Arriving)
-        {
+        match self.oldest(scope, Wanted::Arriving) {
             Some(number) => Some(arrival(number)),
             None => None,
         }
@@ -96,7 +93,7 @@ impl<C: Exclusion> State<C> {
         ensures { Finds (is_waiting self.now.fates self.now.cluster.sent scope.now)
             SessionEvent.IsLost result }
     {
-        match self.in_flight.oldest(&self.cluster, scope, Wanted::Waiting) {
+        match self.oldest(scope, Wanted::Waiting) {
             Some(number) => Some(SessionEvent::IsLost(number)),
             None => None,
         }
@@ -188,11 +185,7 @@ impl<C: Exclusion> State<C> {
         ensures none { IfErr result (λ fault. (fault ≡ LineFault.NotUnderWay)
             × NoneWaits self.now.fates self.now.cluster.sent (Scope.Link from to)) }
     {
-        let scope = Scope::Link(from, to);
-        match self
-            .in_flight
-            .oldest(&self.cluster, &scope, Wanted::Waiting)
-        {
+        match self.oldest(&Scope::Link(from, to), Wanted::Waiting) {
             Some(number) => Ok(number),
             None => Err(LineFault::NotUnderWay),
         }

@@ -1,15 +1,14 @@
 //! Whether a session stands still, and which nodes wait then.
 
 ghost use Rattle.std.specs.Prelude.{◌≡◌, IfOk, length};
-ghost use Rattle.std.specs.List.{list_any};
-ghost use Rattle.mx_stamps.specs.Lists.{each_below};
-ghost use Rattle.mx_scripts.specs.Fates.{is_under_way};
 ghost use Rattle.mx_scripts.specs.Standstill.{has_under_way, stuck_in};
 
+use crate::in_flight::Wanted;
 use crate::state::State;
 use mx_driver::stuck_nodes;
 use mx_format::Waiter;
 use mx_knowledge::Knowledge;
+use mx_lines::Scope;
 use mx_nodelaws::Exclusion;
 use mx_plan::Plan;
 use std::alloc::{AllocError, Global};
@@ -36,17 +35,6 @@ impl<C: Exclusion> State<C> {
     fn has_under_way(&self) -> bool
         ensures { result ≡ has_under_way self.now }
     {
-        self.is_any_under_way(self.cluster().sent())
-    }
-
-    fn is_any_under_way(&self, sent: u64) -> bool
-        ensures { result ≡ list_any (is_under_way self.now.fates) (each_below (λ k. k) sent) }
-    {
-        for number in 0..sent {
-            if self.is_under_way(number) {
-                return true;
-            }
-        }
-        false
+        self.oldest(&Scope::All, Wanted::Waiting).is_some()
     }
 }

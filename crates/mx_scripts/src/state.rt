@@ -1,10 +1,11 @@
 ghost use Rattle.std.specs.Prelude.{◌≡◌, IfErr, IfOk, IsTrue, OnOk};
 ghost use Rattle.mx_driver.specs.Runs.{at_rest};
-ghost use Rattle.mx_scripts.specs.Fates.{can_pass, is_under_way};
+ghost use Rattle.mx_scripts.specs.Fates.{can_pass, is_under_way, noted};
 ghost use Rattle.mx_scripts.specs.States.{Brings, IsAllowed, IsNotApplied, before_any};
 
 use crate::in_flight::InFlight;
 use crate::line_failure::LineFailure;
+use crate::under_way::UnderWay;
 use mx_driver::start;
 use mx_lines::LinkChange;
 use mx_network::{Cluster, Entry, Event};
@@ -29,14 +30,19 @@ pub enum SessionEvent {
 pub struct State<C: Exclusion> {
     pub(crate) cluster: Cluster<C>,
     pub(crate) in_flight: InFlight,
+    /// Where to look for the oldest parcels of `in_flight`.
+    pub(crate) under_way: UnderWay,
 }
 
 impl<C: Exclusion> Model for State<C> {
+    ghost use Rattle.mx_scripts.specs.UnderWay.{IsListed};
     ghost use Rattle.mx_scripts.specs.States.{RunState};
 
     ghost Value = { RunState C C.Msg };
 
     ghost view = { λ s. record { cluster = s.cluster; fates = s.in_flight } };
+
+    ghost invariant = { λ s. IsListed s.cluster.sent s.in_flight.gone s.under_way };
 }
 
 impl<C: Exclusion> State<C> {
@@ -48,6 +54,7 @@ impl<C: Exclusion> State<C> {
         Ok(State {
             cluster: start(alloc, plan, shape)?,
             in_flight: InFlight::new(alloc),
+            under_way: UnderWay::new(alloc),
         })
     }
 
@@ -57,6 +64,7 @@ impl<C: Exclusion> State<C> {
         State {
             cluster,
             in_flight: InFlight::new(alloc),
+            under_way: UnderWay::new(alloc),
         }
     }
 
@@ -107,6 +115,7 @@ impl<C: Exclusion> State<C> {
             SessionEvent::Happens(event) => self.advance(event),
             SessionEvent::IsLost(number) => {
                 self.in_flight.lose(*number);
+                self.under_way.remove(*number);
                 Ok(())
             }
             SessionEvent::LinksChange(change) => {
@@ -124,7 +133,19 @@ impl<C: Exclusion> State<C> {
             (IsNotApplied C.core self.old (SessionEvent.Happens event.now) self.new) }
     {
         self.cluster.advance(*event)?;
+        self.note(event)?;
+        Ok(())
+    }
+
+    /// Notes which parcels an event sent and delivered, after the cluster has changed.
+    fn note(&mut self, event: &Event) -> Result<(), AllocError>
+        ensures same { OnOk result (self.new.cluster ≡ self.old.cluster) }
+        ensures noted { OnOk result
+            (self.new.fates ≡ noted self.old.cluster.sent event.now self.old.fates) }
+    {
+        self.under_way.grow(&self.cluster)?;
         self.in_flight.note(event, &self.cluster)?;
+        self.under_way.take_out(event);
         Ok(())
     }
 }

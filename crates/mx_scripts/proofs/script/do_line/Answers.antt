@@ -1,4 +1,4 @@
-use Rattle.std.proofs.Common.{◌≡◌, ◌⊎◌, List, [], OnOk, arith, refl, subst}
+use Rattle.std.proofs.Common.{◌≡◌, ◌⊎◌, List, [], OnOk, arith, refl, subst, rules}
 use Rattle.std.specs.Prelude.{IfErr}
 use Rattle.mx_trace.specs.declared.outcome.Entry.{Entry}
 use Rattle.mx_lines.specs.declared.line.ScriptLine.{ScriptLine}
@@ -14,7 +14,7 @@ pub line_in-requires : goal.line_in-requires
 line_in-requires g c = omega arith
 
 pub repeat-requires : goal.repeat-requires
-repeat-requires g c = omega arith
+repeat-requires g c = search rules
 
 pub returns-in_err-line-clause-err : goal.returns-in_err-line-clause-err
 returns-in_err-line-clause-err g c =

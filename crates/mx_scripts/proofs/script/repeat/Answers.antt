@@ -1,11 +1,11 @@
-use Rattle.std.proofs.Common.{◌≡◌, ◌++◌, ◌-◌, [], ℕ, arith, refl, subst}
+use Rattle.std.proofs.Common.{◌≡◌, ◌++◌, ◌-◌, [], ℕ, arith, refl, subst, rules}
 use Rattle.mx_scripts.specs.Lines.{Repeats, StopsWithin}
 use Rattle.mx_scripts.proofs.LineLemmas.{err_of, repeats_end, repeats_next, within_here, within_next}
 use Rattle.mx_scripts.proofs.ToldLemmas.{told_append}
 use Rattle.mx_scripts.proofs.script.repeat.Goals as goal
 
 pub perform-requires : goal.perform-requires
-perform-requires g c = omega arith
+perform-requires g c = search rules
 
 pub loop-count-init : goal.loop-count-init
 loop-count-init g c =

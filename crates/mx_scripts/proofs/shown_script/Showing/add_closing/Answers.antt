@@ -8,4 +8,4 @@ cluster-requires g c = (search c.requires-raw, grind (arith, common_steps))
 
 pub add_closing_with-requires : goal.add_closing_with-requires
 add_closing_with-requires g c =
-    (omega arith, ap (λ (x : ClusterState g.row.C.Denot g.row.C-Msg.Denot). length x.members) c.cluster.ensures ∙ c.requires)
+    (grind (arith, common_steps), ap (λ (x : ClusterState g.row.C.Denot g.row.C-Msg.Denot). length x.members) c.cluster.ensures ∙ c.requires)

@@ -1,4 +1,4 @@
-use Rattle.std.proofs.Common.{◌≡◌, ◌∙◌, ◌++◌, List, OnOk, ap, arith, length, string_bytes, subst, sym, ℕ}
+use Rattle.std.proofs.Common.{◌≡◌, ◌∙◌, ◌++◌, ap, length, List, OnOk, rules, string_bytes, subst, sym, ℕ}
 use Rattle.mx_network.specs.Step.{ClusterState}
 use Rattle.mx_plan.specs.Text.{Text}
 use Rattle.mx_scripts.specs.ShownScripts.{event_shown, with_line}
@@ -9,7 +9,7 @@ use Rattle.mx_scripts.proofs.shown_script.Showing.do_and_add.Goals as goal
 pub add_event-requires : goal.add_event-requires
 add_event-requires g c =
     let brings = from_ok (Brings g.C.Exclusion.core c.args.state.now c.args.happening.now.event c.apply.new.self) c.apply.result (sym c.is_err.ensures.value ∙ c.if-is_err.false) c.apply.ensures.ok in
-    (omega arith, (c.args.state.now, brings, c.sent-before.ensures ∙ ap (λ (x : ClusterState g.row.C.Denot g.row.C-Msg.Denot). length x.sent) c.cluster.ensures))
+    (search rules, (c.args.state.now, brings, c.sent-before.ensures ∙ ap (λ (x : ClusterState g.row.C.Denot g.row.C-Msg.Denot). length x.sent) c.cluster.ensures))
 
 pub returns-clause-brings : goal.returns-clause-brings
 returns-clause-brings g c =

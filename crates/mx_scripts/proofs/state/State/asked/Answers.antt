@@ -1,4 +1,4 @@
-use Rattle.std.proofs.Common.{arith}
+use Rattle.std.proofs.Common.{rules}
 use Rattle.mx_scripts.proofs.state.State.asked.Goals as goal
 
 pub returns-in-Arrives-clause-next : goal.returns-in-Arrives-clause-next
@@ -20,16 +20,16 @@ pub returns-in-IsLost-clause-err : goal.returns-in-IsLost-clause-err
 returns-in-IsLost-clause-err g c = rw c.in-IsLost.is c.loss_between.ensures.err
 
 pub next_arrival-requires : goal.next_arrival-requires
-next_arrival-requires g c = omega arith
+next_arrival-requires g c = search rules
 
 pub next_loss-requires : goal.next_loss-requires
-next_loss-requires g c = omega arith
+next_loss-requires g c = search rules
 
 pub arrival_between-requires : goal.arrival_between-requires
-arrival_between-requires g c = omega arith
+arrival_between-requires g c = search rules
 
 pub arrival_again-requires : goal.arrival_again-requires
-arrival_again-requires g c = omega arith
+arrival_again-requires g c = search rules
 
 pub loss_between-requires : goal.loss_between-requires
-loss_between-requires g c = omega arith
+loss_between-requires g c = search rules

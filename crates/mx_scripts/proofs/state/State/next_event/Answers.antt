@@ -1,4 +1,4 @@
-use Rattle.std.proofs.Common.{arith, rules}
+use Rattle.std.proofs.Common.{rules}
 use Rattle.mx_scripts.proofs.LineLemmas.{next_allowed}
 use Rattle.mx_scripts.proofs.state.State.next_event.Goals as goal
 
@@ -9,7 +9,7 @@ pub asked-requires : goal.asked-requires
 asked-requires g c = search rules
 
 pub admit-requires : goal.admit-requires
-admit-requires g c = omega arith
+admit-requires g c = search rules
 
 pub returns-clause-next : goal.returns-clause-next
 returns-clause-next g c = c.in_ok-next.ensures.next

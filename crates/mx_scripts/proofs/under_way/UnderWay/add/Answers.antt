@@ -1,21 +1,17 @@
-use Rattle.std.proofs.Common.{Bool, List, rules, subst, sym}
-use Rattle.mx_scripts.specs.Fates.{AreGone, AreSkipped}
-use Rattle.mx_scripts.proofs.UnderWayLemmas.{parcel_more, place_more}
+use Rattle.std.proofs.Common.{◌≡◌, length, rules}
+use Rattle.mx_scripts.proofs.UnderWayLemmas.{end_later, next_more, parcel_more}
 use Rattle.mx_scripts.proofs.under_way.UnderWay.add.Goals as goal
 
 pub invariant_of-self-in_err-push-2 : goal.invariant_of-self-in_err-push-2
 invariant_of-self-in_err-push-2 c =
-    let old = c.self.inside in
-    place_more old.first _ old.next.items c.push.new.self.items old.gone.items c.in_ok-push.ensures.items (search rules) c.self.invariant
-
-pub invariant_of-self-in_err-push-3 : goal.invariant_of-self-in_err-push-3
-invariant_of-self-in_err-push-3 c =
-    let old = c.self.inside in
-    subst (λ (l : List Bool). AreGone old.first l × AreSkipped c.push.new.self.items l) (sym c.in_err-push-3.ensures.items)
-    (place_more old.first _ old.next.items c.push.new.self.items old.gone.items c.in_ok-push.ensures.items (search rules) c.self.invariant)
+    let i = c.self.inside in
+    let count : c.len-2.result ≡ length i.parcels.items = search rules in
+    let more = next_more i.parcels.items i.next.items i.first i.end i.oldest c.self.invariant c.push.new.self.items _ c.in_ok-push.ensures.items (search rules) in
+    rw (c.in_err-push-2.ensures.items, count) (end_later i.parcels.items c.push.new.self.items i.first i.end i.oldest more c.args.link c.requires)
 
 pub invariant_of-self-2 : goal.invariant_of-self-2
 invariant_of-self-2 c =
-    let old = c.self.inside in
-    parcel_more old.first c.push.new.self.items old.gone.items c.push-3.new.self.items c.in_ok-push-3.ensures.items
-    (place_more old.first _ old.next.items c.push.new.self.items old.gone.items c.in_ok-push.ensures.items (search rules) c.self.invariant)
+    let i = c.self.inside in
+    let count : c.len-2.result ≡ length i.parcels.items = search rules in
+    let more = next_more i.parcels.items i.next.items i.first i.end i.oldest c.self.invariant c.push.new.self.items _ c.in_ok-push.ensures.items (search rules) in
+    rw (c.in_ok-push-2.ensures.items, count) (parcel_more i.parcels.items c.push.new.self.items i.first i.end i.oldest more c.args.link c.requires)

@@ -1,9 +1,9 @@
-use Rattle.std.proofs.Common.{◌≡◌, length}
-use Rattle.mx_scripts.specs.Fates.{grown}
+use Rattle.std.proofs.Common.{◌≡◌, Bool, List, length}
+use Rattle.mx_scripts.specs.UnderWay.{IsListed}
 use Rattle.mx_scripts.proofs.under_way.UnderWay.grow.Given as goal
 
 abbrev pub invariant-loop-number : goal.invariant-loop-number
-invariant-loop-number l = record {
+invariant-loop-number g l = record {
   count : l._number ≡ length l.self;
-  whole : grown l.sent l.self ≡ grown l.sent l.initial.self;
+  kept : (gone : List Bool) → IsListed l.cluster.sent gone l.initial.self → IsListed l.cluster.sent gone l.self;
 }
