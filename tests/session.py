@@ -18,7 +18,7 @@ class Session:
     def __init__(self, plan):
         self.plan = plan
         self.names = plan["nodes"]
-        # of each line that was done, what happened: events, ["lost", k], ["cut", a, b], ["cut", a], ["heal", ..] of
+        # each line that was done, as it was typed, with what happened: events, ["lost", k], ["cut", a, b], ["cut", a], ["heal", ..] of
         # as many nodes, or ["heal"]
         self.done = []
         self.undone = []  # what each undo took back, the last one last
@@ -61,8 +61,8 @@ class Session:
 
     def begin_again(self):
         self.begin()
-        for line in self.done:
-            for happening in line:
+        for _, made in self.done:
+            for happening in made:
                 self.happen(happening)
 
     def under_way(self):
@@ -131,7 +131,7 @@ class Session:
             raise Fault(f'other outcome: found "{self.outcome}", expected "{outcome}"')
         return []
 
-    def do(self, words):
+    def do(self, words, line):
         """Does a line of a script; gives what is printed, or raises a fault, and then nothing has changed."""
         times = 1
         if words[0] == "times":
@@ -145,7 +145,7 @@ class Session:
         except Fault:
             self.begin_again()
             raise
-        self.done.append(made)
+        self.done.append((line.strip(), made))
         self.undone = []
         return self.put[before:] or ["nothing to do"]
 
@@ -156,7 +156,7 @@ class Session:
         self.undone.append(self.done[left:])
         del self.done[left:]
         self.begin_again()
-        return [f"undone: lines {count}, events {events - len(self.events)}"]
+        return [f"undone: lines {count}, events {events - len(self.events)}", *self.typed(self.undone[-1])]
 
     def redo(self):
         if not self.undone:
@@ -164,7 +164,10 @@ class Session:
         lines, events = self.undone.pop(), len(self.events)
         self.done += lines
         self.begin_again()
-        return [f"redone: lines {len(lines)}, events {len(self.events) - events}"]
+        return [f"redone: lines {len(lines)}, events {len(self.events) - events}", *self.typed(lines)]
+
+    def typed(self, lines):
+        return [f"  {line}" for line, _ in lines]
 
     def parcel_line(self, number):
         sender, addressee, letter = self.cluster.parcels[number]
@@ -195,7 +198,7 @@ class Session:
 
     def scripted(self):
         """The script of what has happened: a line for each happening."""
-        return [self.words_of(happening) for line in self.done for happening in line]
+        return [self.words_of(happening) for _, made in self.done for happening in made]
 
     def words_of(self, happening):
         word, *others = happening
@@ -224,7 +227,7 @@ class Session:
             return self.scripted()
         if words[0] == "expect":
             return self.expect(" ".join(words[1:]))
-        return self.do(words)
+        return self.do(words, line)
 
     def close(self):
         return [*(self.standing(name) for name in self.names), "verdict sound"]

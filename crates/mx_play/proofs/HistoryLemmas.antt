@@ -1,5 +1,5 @@
 -- What happens, one event after another.
-use Rattle.std.proofs.Common.{◌≡◌, ◌≤◌, ◌<◌, ◌∙◌, ℕ, zero, suc, List, [], ◌∷◌, ◌++◌, Result, Ok, Err, OnOk, length, take, drop, get_or, drop-cons, add-one, ◌+◌, refl, sym, ap, subst, append_assoc}
+use Rattle.std.proofs.Common.{◌≡◌, ◌≤◌, ◌<◌, ◌∙◌, ℕ, zero, suc, List, [], ◌∷◌, ◌++◌, Result, Ok, Err, OnOk, length, drop, get_or, drop-cons, add-one, ◌+◌, refl, sym, ap, subst, append_assoc}
 use Rattle.std.proofs.lemmas.List.{drop_all}
 use Rattle.std.specs.Prelude.{string_bytes}
 use Rattle.mx_stamps.proofs.Lists.{append_nil}
@@ -13,7 +13,8 @@ use Rattle.mx_scripts.specs.declared.state.SessionEvent.TheVariants.{Happens, Is
 use Rattle.mx_scripts.specs.Told.{IsTold}
 use Rattle.mx_scripts.proofs.StateLemmas.{brings_members, brings_one}
 use Rattle.mx_play.specs.Histories.{CanLead, Leads, Makes, events_in, made_text}
-use Rattle.mx_play.specs.Sessions.{AddsOne}
+use Rattle.mx_play.specs.Sessions.{AddsOne, line_events}
+use Rattle.mx_play.specs.declared.session.DoneLine.{DoneLine}
 use Rattle.mx_play.specs.declared.printed_events.PrintedEvents.{PrintedEvents}
 
 module _ {H S M : Type 0} (core : Core H S M) where
@@ -32,14 +33,6 @@ module _ {H S M : Type 0} (core : Core H S M) where
   leads_split (e ∷ es) fs old new x =
       let rest = leads_split es fs x.0 new x.3 in
       (rest.0, (x.0, x.1, x.2, rest.1), rest.2)
-
-  -- the first of them can happen too
-  pub leads_prefix : (n : ℕ) (es : List SessionEvent) (old new : RunState S M) → Leads core old es new → CanLead core old (take n es)
-  leads_prefix zero es old new x = (old, refl)
-  leads_prefix (suc n) [] old new x = (old, refl)
-  leads_prefix (suc n) (e ∷ es) old new x =
-      let rest = leads_prefix n es x.0 new x.3 in
-      (rest.0, (x.0, x.1, x.2, rest.1))
 
   -- the cluster has as many nodes
   pub leads_members : (es : List SessionEvent) (old new : RunState S M) → Leads core old es new → length new.cluster.members ≡ length old.cluster.members
@@ -77,6 +70,29 @@ module _ {H S M : Type 0} (core : Core H S M) where
   -- all of them happened
   pub leads_end : (done : List SessionEvent) (i : ℕ) (now last : RunState S M) → length done ≤ i → Leads core now (drop i done) last → last ≡ now
   leads_end done i now last le x = subst (λ (l : List SessionEvent). Leads core now l last) (drop_all i done le) x
+
+  module _ (lines : List DoneLine) (i : ℕ) (d : DoneLine) (now last : RunState S M) (lt : i < length lines) (x : Leads core now (line_events (drop i lines)) last) where
+    abbrev its_events : List SessionEvent
+    its_events = (get_or lines i d).events.items
+
+    line_parts : (mid : RunState S M) × Leads core now its_events mid × Leads core mid (line_events (drop (i + 1) lines)) last
+    line_parts =
+        leads_split its_events (line_events (drop (i + 1) lines)) now last
+        (subst (λ (l : List DoneLine). Leads core now (line_events l) last)
+        (drop-cons lines i d lt ∙ ap (λ (n : ℕ). get_or lines i d ∷ drop n lines) (sym (add-one i))) x)
+
+    -- the line at a place can be done
+    pub can_do_line : CanLead core now its_events
+    can_do_line = (line_parts.0, line_parts.1)
+
+    -- and then the rest of the lines can be
+    pub leads_on : (next : RunState S M) → Leads core now its_events next → Leads core next (line_events (drop (i + 1) lines)) last
+    leads_on next y =
+        subst (λ (m : RunState S M). Leads core m (line_events (drop (i + 1) lines)) last) (leads_one its_events now line_parts.0 next line_parts.1 y) line_parts.2
+
+  -- all of them were done
+  pub lines_end : (lines : List DoneLine) (i : ℕ) (now last : RunState S M) → length lines ≤ i → Leads core now (line_events (drop i lines)) last → last ≡ now
+  lines_end lines i now last le x = subst (λ (l : List DoneLine). Leads core now (line_events l) last) (drop_all i lines le) x
 
   module _ (letter_text : Fields → M → Text) (p : Fields) where
     pub makes_leads : (es : List SessionEvent) (old new : RunState S M) (t : Text) → Makes core letter_text p old es new t → Leads core old es new

@@ -7,7 +7,6 @@ mod LinePlanLemmas
 pub mod StopLemmas
 pub mod PlaysLemmas
 mod ReportLemmas
-pub mod ExecutionLemmas
 pub mod PlayedLemmas
 mod CommandLemmas
 pub mod ExpectationLemmas

@@ -15,12 +15,13 @@ use Rattle.mx_play.specs.Histories.{first_state}
 use Rattle.mx_play.specs.Lines.{IsFirst, lines_of}
 use Rattle.mx_play.specs.Plays.{ArePlayed, Does, IsPlayed, Plays, PlaysLine}
 use Rattle.mx_play.specs.Printed.{AreAsides, GetsAsides, GetsReport}
-use Rattle.mx_play.specs.Sessions.{IsSession, SessionState, at_start}
+use Rattle.mx_play.specs.Sessions.{IsSession, SessionState, at_start, line_events}
 use Rattle.mx_play.specs.declared.input.Input.{Input}
 use Rattle.mx_play.specs.declared.input.Input.TheVariants as input
 use Rattle.mx_play.specs.declared.input_fault.InputFault.{InputFault}
 use Rattle.mx_play.proofs.HistoryLemmas.{leads_runs}
 use Rattle.mx_play.proofs.ReportLemmas.{are_asides}
+use Rattle.mx_play.proofs.SessionLemmas.{over_done}
 
 some_is_none : (n : ℕ) → ◌≡◌ {A = Option ℕ} (Some n) None → ⊥
 some_is_none n e = cc
@@ -258,8 +259,8 @@ module _ {H S M : Type 0} (core : Core H S M) (letter_text : Fields → M → Te
       text = text;
       told = told;
       plays = subst (λ (q : SessionState S M). P 1 (lines_of script ++ others) next q last text told) is plays;
-      replays = leads_runs core last.done (first_state core p shape) last.state g.leads;
-      over = g.over;
+      replays = leads_runs core (line_events last.lines) (first_state core p shape) last.state g.leads;
+      over = over_done core p shape last g;
       printed = Appends-trans o.out o''.out end.out text (closing_text core letter_text p last.state.cluster) printed closes;
       reports = subst (λ (h : Held). Appends o.err h told) (sym same) reports;
     }

@@ -15,7 +15,7 @@ use Rattle.mx_play.specs.Executions.{HasExecuted, IsShown}
 use Rattle.mx_play.specs.Histories.{events_in}
 use Rattle.mx_play.specs.Lines.{lines_of}
 use Rattle.mx_play.specs.Printed.{AreAsides, IsReported}
-use Rattle.mx_play.specs.Sessions.{SessionState, at_start}
+use Rattle.mx_play.specs.Sessions.{SessionState, at_start, line_events}
 use Rattle.mx_play.specs.declared.input_fault.InputFault.{InputFault}
 
 module _ {H S M : Type 0} (core : Core H S M) (letter_text : Fields → M → Text)
@@ -67,7 +67,7 @@ module _ {H S M : Type 0} (core : Core H S M) (letter_text : Fields → M → Te
     pub reports : Appends out.err out'.err told
 
   -- a whole session: of the lines of a script and then of those that come, from the start. At its
-  -- end, standard output gets the closing lines of the last cluster. The events that were not undone
+  -- end, standard output gets the closing lines of the last cluster. The lines that were not undone
   -- lead to that cluster, and name only nodes and registers of the plan
   pub record IsPlayed (script : Text) (lines : Option (List Text)) (out out' : Seen) : Type 0 where
     pub others : List Text
@@ -77,9 +77,9 @@ module _ {H S M : Type 0} (core : Core H S M) (letter_text : Fields → M → Te
     pub text : Text
     pub told : Text
     pub plays : Plays 1 (lines_of script ++ others) next (at_start core p shape) last text told
-    pub replays : RunsTo core (at_start core p shape).state.cluster (events_in last.done)
-        last.state.cluster
-    pub over : AreOver (length p.nodes) (length p.registers) (events_in last.done)
+    pub replays : RunsTo core (at_start core p shape).state.cluster
+        (events_in (line_events last.lines)) last.state.cluster
+    pub over : AreOver (length p.nodes) (length p.registers) (events_in (line_events last.lines))
     pub printed : Appends out.out out'.out
         (text ++ closing_text core letter_text p last.state.cluster)
     pub reports : Appends out.err out'.err told

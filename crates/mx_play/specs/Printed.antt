@@ -1,16 +1,19 @@
 -- The lines that only a session prints: of faults, on standard error; of losses, links and undos.
-use Rattle.std.specs.Prelude.{ℕ, ◌≡◌, ◌++◌, List, [], ◌∷◌, Bool, true, false, Option, Some, None, codes, decimal}
+use Rattle.std.specs.Prelude.{ℕ, ◌≡◌, ◌++◌, List, [], ◌∷◌, Bool, true, false, Option, Some, None, codes, decimal, length, string_bytes}
 use Rattle.std.specs.Io.KnownBytes.{Appends}
 use Rattle.mx_io.specs.Outputs.{Held}
 use Rattle.mx_member.specs.declared.parcel.Parcel.{Parcel}
+use Rattle.mx_lines.specs.Escapes.{shown}
 use Rattle.mx_lines.specs.Texts.{fault_text}
 use Rattle.mx_lines.specs.declared.errors.LineFault.TheVariants as line_fault
 use Rattle.mx_plan.specs.Text.{Text, line_feed}
 use Rattle.mx_plan.specs.Fields.{Fields}
+use Rattle.mx_format.specs.Lines.{each_text}
 use Rattle.mx_format.specs.ParcelTexts.{parcel_text, route_text}
 use Rattle.mx_scripts.specs.declared.line_failure.LineFailure.{LineFailure}
 use Rattle.mx_scripts.specs.declared.line_failure.LineFailure.TheVariants as failure
 use Rattle.mx_play.specs.declared.input_fault.InputFault.{InputFault}
+use Rattle.mx_play.specs.declared.session.DoneLine.{DoneLine}
 use Rattle.mx_play.specs.declared.input_fault.InputFault.TheVariants as input_fault
 
 -- ---- faults
@@ -74,12 +77,15 @@ abbrev pub lost_text : {M : Type 0} → (Fields → M → Text) → Fields → �
 lost_text letter_text p k None = []
 lost_text letter_text p k (Some parcel) = lost_line letter_text p k parcel
 
--- this text, if there is no fault
-abbrev pub if_done : Option InputFault → Text → Text
-if_done None text = text
-if_done (Some fault) text = []
-
 -- what was undone or redone: how many lines, and how many events of the cluster
 abbrev pub steps_line : Text → ℕ → ℕ → Text
 steps_line word lines events =
     word ++ codes ": lines " ++ decimal lines ++ codes ", events " ++ decimal events ++ line_feed
+
+-- a line that was done, as it was typed
+abbrev pub typed_line : DoneLine → Text
+typed_line line = codes "  " ++ shown (string_bytes line.text) ++ line_feed
+
+-- the same of these lines, and then each of them
+abbrev pub steps_text : Text → List DoneLine → ℕ → Text
+steps_text word lines events = steps_line word (length lines) events ++ each_text typed_line lines

@@ -1,11 +1,12 @@
 //! What the commands of a session do.
 
 ghost use Rattle.std.specs.Prelude.{◌≡◌, ◌∷◌, ◌++◌, [], IfOk, OnOk, length, string_bytes};
-ghost use Rattle.std.specs.Str.{IsUtf8};
+ghost use Rattle.std.specs.Str.{IsUtf8, trim};
 ghost use Rattle.mx_format.specs.LetterTexts.{letter_text};
 ghost use Rattle.mx_play.specs.Commands.{IsSecondWord, IsOverPlan, second_of};
 ghost use Rattle.mx_play.specs.Sessions.{IsSession};
-ghost use Rattle.mx_play.specs.Executions.{HasDone, HasExecuted, HasExpected, line_text};
+ghost use Rattle.mx_play.specs.declared.session.DoneLine.{DoneLine};
+ghost use Rattle.mx_play.specs.Executions.{CanRefuseLine, DoesOr, HasExecuted, HasExpected, IsDone, line_text};
 ghost use Rattle.mx_play.specs.Views.{mark_line};
 ghost use Rattle.mx_lines.specs.Names.{texts_of};
 ghost use Rattle.mx_scripts.specs.Scripts.{IsOver};
@@ -14,9 +15,9 @@ use crate::help::add_words;
 use crate::input_fault::InputFault;
 use crate::printed_events::PrintedEvents;
 use crate::run_texts::add_events;
-use crate::session::{Session, Setting, trace_of};
+use crate::session::{DoneLine, Session, Setting, trace_of};
 use crate::session_script::add_script;
-use crate::undo::{event_count, redo_and_print, truncate, undo_and_print};
+use crate::undo::{redo, run_again, undo};
 use crate::views::show;
 use mx_format::Letter;
 use mx_knowledge::Knowledge;
@@ -45,10 +46,10 @@ where
         IsSession C.core setting.now.plan.now setting.now.shape.now session.new) }
 {
     match command {
-        SessionCommand::Does(line) => do_line(setting, line, session, text),
+        SessionCommand::Does(order) => do_line(setting, order, line, session, text),
         SessionCommand::Expects => expect(setting.alloc, line, session),
-        SessionCommand::Undo(count) => undo_and_print(setting, *count, session, text),
-        SessionCommand::Redo => redo_and_print(setting, session, text),
+        SessionCommand::Undo(count) => undo(setting, *count, session, text),
+        SessionCommand::Redo => redo(setting, session, text),
         SessionCommand::Show(to) => {
             show(setting, to, &session.state, text)?;
             Ok(None)
@@ -58,7 +59,7 @@ where
             Ok(None)
         }
         SessionCommand::Script => {
-            add_script(setting.plan, session, text)?;
+            add_script(setting.plan, session.lines.as_slice(), text)?;
             Ok(None)
         }
         SessionCommand::Mark => {
@@ -76,6 +77,7 @@ where
 fn do_line<C: Exclusion + Knowledge>(
     setting: &Setting<'_, C>,
     line: &Line,
+    typed: &[u8],
     session: &mut Session<C>,
     text: &mut String,
 ) -> Result<Option<InputFault>, AllocError>
@@ -85,46 +87,51 @@ where
     requires over { IsOver (length setting.now.plan.now.nodes)
         (length setting.now.plan.now.registers) line.now.order }
     requires empty { string_bytes text.old ≡ [] }
-    ensures done { IfOk result (λ fault. HasDone C.core (letter_text C.Msg.parts)
-        setting.now.plan.now fault line.now session.old session.new (string_bytes text.new)) }
+    ensures done { IfOk result (λ fault.
+        DoesOr (IsDone C.core (letter_text C.Msg.parts) setting.now.plan.now line.now
+        typed.now session.old session.new (string_bytes text.new))
+        (CanRefuseLine C.core line.now session.old) fault session.old session.new
+        (string_bytes text.new)) }
     ensures is { IfOk result (λ _.
         IsSession C.core setting.now.plan.now setting.now.shape.now session.new) }
 {
-    let before = event_count(session);
     let mut printed = PrintedEvents::new(setting.alloc);
     match repeat(setting.plan, line, &mut session.state, &mut printed) {
         Ok(()) => {
-            commit(before, &printed, session, text)?;
+            commit(setting, text_of(typed), printed, session, text)?;
             Ok(None)
         }
         Err(failure) => {
             if let LineFailure::Memory = failure {
                 return Err(AllocError);
             }
-            truncate(setting, before, session)?;
+            run_again(setting, session.lines.as_slice(), &mut session.state)?;
             Ok(Some(InputFault::Line(failure)))
         }
     }
 }
 
-/// Adds a line that was done to a session. There were `before` events before it.
+/// Adds a line that was done to a session.
 fn commit<C: Exclusion>(
-    before: usize,
-    line: &PrintedEvents,
+    setting: &Setting<'_, C>,
+    typed: &str,
+    line: PrintedEvents,
     session: &mut Session<C>,
     text: &mut String,
 ) -> Result<(), AllocError>
     ensures state { session.new.state ≡ session.old.state }
-    ensures done { OnOk result
-        (session.new.done ≡ session.old.done ++ line.now.events.items) }
-    ensures marks { OnOk result (session.new.marks ≡ session.old.marks ++ before ∷ []) }
+    ensures lines { OnOk result ((last : DoneLine) × (string_bytes last.text ≡ trim typed.now)
+        × (last.events ≡ line.events)
+        × (session.new.lines ≡ session.old.lines ++ last ∷ [])) }
     ensures undone { OnOk result (session.new.undone ≡ []) }
     ensures printed { OnOk result (string_bytes text.new ≡ string_bytes text.old
-        ++ line_text line.now.events.items (string_bytes line.now.text)) }
+        ++ line_text line.events.items (string_bytes line.text)) }
 {
     text.push_str(line.line_text())?;
-    session.done.extend_from_slice(line.events.as_slice())?;
-    session.marks.push(before)?;
+    session.lines.push(DoneLine {
+        text: String::from_str(setting.alloc, typed.trim())?,
+        events: line.events,
+    })?;
     session.undone.clear();
     Ok(())
 }

@@ -4,7 +4,6 @@ ghost use Rattle.std.specs.Prelude.{◌≡◌, IfOk};
 ghost use Rattle.mx_play.specs.Histories.{first_state};
 ghost use Rattle.mx_play.specs.Sessions.{at_start};
 
-use crate::undo::Undone;
 use mx_network::Entry;
 use mx_nodelaws::Exclusion;
 use mx_plan::Plan;
@@ -19,15 +18,22 @@ pub(crate) struct Setting<'a, C: Exclusion> {
     pub(crate) shape: &'a C::Shape,
 }
 
+/// A line that was done.
+#[derive(Drop)]
+pub(crate) struct DoneLine {
+    /// The line as it was typed, without white space around it.
+    pub(crate) text: String,
+    /// What it did, in order.
+    pub(crate) events: Vec<SessionEvent>,
+}
+
 #[derive(Drop)]
 pub(crate) struct Session<C: Exclusion> {
     pub(crate) state: State<C>,
-    /// What has happened, in order.
-    pub(crate) done: Vec<SessionEvent>,
-    /// For each line that was done, how many events of `done` came before it.
-    pub(crate) marks: Vec<usize>,
-    /// What `redo` can bring back, in the order in which it was undone.
-    pub(crate) undone: Vec<Undone>,
+    /// The lines that were done, in order.
+    pub(crate) lines: Vec<DoneLine>,
+    /// What each `undo` took back, in order, and `redo` can bring back.
+    pub(crate) undone: Vec<Vec<DoneLine>>,
 }
 
 impl<C: Exclusion> Model for Session<C> {
@@ -37,8 +43,7 @@ impl<C: Exclusion> Model for Session<C> {
 
     ghost view = { λ s. record {
       state = s.state;
-      done = s.done.items;
-      marks = s.marks.items;
+      lines = s.lines.items;
       undone = s.undone.items;
     } };
 }
@@ -64,8 +69,7 @@ pub(crate) fn first_session<C: Exclusion>(
 {
     Ok(Session {
         state: first_state(setting)?,
-        done: Vec::new(setting.alloc),
-        marks: Vec::new(setting.alloc),
+        lines: Vec::new(setting.alloc),
         undone: Vec::new(setting.alloc),
     })
 }

@@ -3,32 +3,35 @@
 ghost use Rattle.std.specs.Prelude.{◌≡◌, ◌++◌, string_bytes, OnOk};
 ghost use Rattle.mx_format.specs.EventTexts.{event_text};
 ghost use Rattle.mx_plan.specs.Text.{line_feed};
+ghost use Rattle.mx_format.specs.Lines.{each_text};
 ghost use Rattle.mx_play.specs.SessionScripts.{asking_line, session_script};
 
 use crate::cuts::add_change;
-use crate::session::Session;
+use crate::session::DoneLine;
 use mx_format::EventText;
 use mx_network::Event;
-use mx_nodelaws::Exclusion;
 use mx_plan::Plan;
 use mx_scripts::SessionEvent;
 use std::alloc::AllocError;
 
-/// Appends a line for each event of a session, which asks for that event.
-pub(crate) fn add_script<C: Exclusion>(
+/// Appends a line for each event of these lines, which asks for that event.
+pub(crate) fn add_script(
     plan: &Plan,
-    session: &Session<C>,
+    lines: &[DoneLine],
     text: &mut String,
 ) -> Result<(), AllocError>
     ensures { OnOk result (string_bytes text.new ≡ string_bytes text.old
-        ++ session_script plan.now session.now.done) }
+        ++ session_script plan.now lines.now) }
 {
-    add_lines(plan, session.done.as_slice(), text)
+    for line in lines {
+        add_lines(plan, line.events.as_slice(), text)?;
+    }
+    Ok(())
 }
 
 fn add_lines(plan: &Plan, events: &[SessionEvent], text: &mut String) -> Result<(), AllocError>
     ensures { OnOk result (string_bytes text.new ≡ string_bytes text.old
-        ++ session_script plan.now events.now) }
+        ++ each_text (asking_line plan.now) events.now) }
 {
     for event in events {
         add_line(plan, event, text)?;

@@ -1,11 +1,9 @@
 use Rattle.std.proofs.Common.{◌≡◌, ◌∙◌, ◌++◌, ap, arith, length, refl, string_bytes, subst, sym}
 use Rattle.std.proofs.lemmas.Grind.{common_steps}
 use Rattle.mx_plan.specs.Text.{Text}
-use Rattle.mx_format.specs.LetterTexts.{letter_text}
 use Rattle.mx_play.specs.Sessions.{SessionState}
 use Rattle.mx_play.specs.Views.{mark_line}
-use Rattle.mx_play.proofs.ExecutionLemmas.{executed_expect, executed_line, executed_redo, executed_undo}
-use Rattle.mx_play.proofs.ExpectationLemmas.{whatever}
+use Rattle.mx_play.proofs.ExpectationLemmas.{executed_expect, whatever}
 use Rattle.mx_play.proofs.commands.execute.Goals as goal
 
 pub do_line-requires : goal.do_line-requires
@@ -18,33 +16,24 @@ show-requires g c = (
 )
 
 pub returns-in-Does-clause-executed : goal.returns-in-Does-clause-executed
-returns-in-Does-clause-executed g c =
-    let s = c.args.setting.now in
-    rw c.in-Does.is (executed_line g.C.Exclusion.core (letter_text g.C.Msg.Letter.parts) g.C.Knowledge.knows s.plan.now s.shape.now c.do_line.result c.in-Does.line c.args.line.now
-    c.args.session.now c.do_line.new.session (string_bytes c.do_line.new.text) c.do_line.ensures.done)
+returns-in-Does-clause-executed g c = rw c.in-Does.is c.do_line.ensures.done
 
 pub returns-in-Undo-clause-executed : goal.returns-in-Undo-clause-executed
-returns-in-Undo-clause-executed g c =
-    let s = c.args.setting.now in
-    rw c.in-Undo.is (executed_undo g.C.Exclusion.core (letter_text g.C.Msg.Letter.parts) g.C.Knowledge.knows s.plan.now s.shape.now c.undo_and_print.result c.in-Undo.count c.args.line.now
-    c.args.session.now c.undo_and_print.new.session (string_bytes c.args.text.now) (string_bytes c.undo_and_print.new.text) c.requires.empty c.undo_and_print.ensures.undone c.undo_and_print.ensures.printed)
+returns-in-Undo-clause-executed g c = rw c.in-Undo.is c.undo.ensures.undone
 
 pub returns-in-Redo-clause-executed : goal.returns-in-Redo-clause-executed
-returns-in-Redo-clause-executed g c =
-    let s = c.args.setting.now in
-    rw c.in-Redo.is (executed_redo g.C.Exclusion.core (letter_text g.C.Msg.Letter.parts) g.C.Knowledge.knows s.plan.now s.shape.now c.redo_and_print.result c.args.line.now
-    c.args.session.now c.redo_and_print.new.session (string_bytes c.args.text.now) (string_bytes c.redo_and_print.new.text) c.requires.empty c.redo_and_print.ensures.redone c.redo_and_print.ensures.printed)
+returns-in-Redo-clause-executed g c = rw c.in-Redo.is c.redo.ensures.redone
 
 pub returns-in_ok-add_mark-in-Mark-clause-executed : goal.returns-in_ok-add_mark-in-Mark-clause-executed
 returns-in_ok-add_mark-in-Mark-clause-executed g c =
     let word = c.in_ok-second_word-in-Mark.field-0.now in
     rw c.in-Mark.is (word, c.in_ok-second_word-in-Mark.ensures, record { same = refl; printed = c.in_ok-add_mark-in-Mark.ensures ∙ ap (λ (l : Text). l ++ mark_line word) c.requires.empty })
 
-pub undo_and_print-requires : goal.undo_and_print-requires
-undo_and_print-requires g c = (search c.requires-raw, c.requires.is)
+pub undo-requires : goal.undo-requires
+undo-requires g c = (search c.requires-raw, (c.requires.is, c.requires.empty))
 
-pub redo_and_print-requires : goal.redo_and_print-requires
-redo_and_print-requires g c = (search c.requires-raw, c.requires.is)
+pub redo-requires : goal.redo-requires
+redo-requires g c = (search c.requires-raw, (c.requires.is, c.requires.empty))
 
 pub add_events-requires : goal.add_events-requires
 add_events-requires g c = grind (arith, common_steps)
@@ -73,17 +62,14 @@ pub returns-in_ok-add_words-in-Help-clause-is : goal.returns-in_ok-add_words-in-
 returns-in_ok-add_words-in-Help-clause-is g c = c.requires.is
 
 pub returns-in-Expects-clause-executed : goal.returns-in-Expects-clause-executed
-returns-in-Expects-clause-executed g c =
-    let s = c.args.setting.now in
-    rw c.in-Expects.is (executed_expect g.C.Exclusion.core (letter_text g.C.Msg.Letter.parts) g.C.Knowledge.knows s.plan.now s.shape.now c.expect.result c.args.line.now c.args.session.now
-    (string_bytes c.args.text.now) c.requires.empty c.expect.ensures)
+returns-in-Expects-clause-executed g c = rw c.in-Expects.is (executed_expect c.expect.result c.args.line.now c.args.session.now (string_bytes c.args.text.now) c.requires.empty c.expect.ensures)
 
 pub returns-in-Expects-clause-is : goal.returns-in-Expects-clause-is
 returns-in-Expects-clause-is g c = whatever c.expect.result c.requires.is
 
 pub returns-in_ok-add_script-in-Script-clause-executed :
     goal.returns-in_ok-add_script-in-Script-clause-executed
-returns-in_ok-add_script-in-Script-clause-executed g c = rw c.in-Script.is (record { same = refl; printed = rw c.requires.empty at c.in_ok-add_script-in-Script.ensures })
+returns-in_ok-add_script-in-Script-clause-executed g c = rw (c.in-Script.is, ← c.session-in-Script.view_is, ← c.as_slice.ensures.value) (record { same = refl; printed = rw c.requires.empty at c.in_ok-add_script-in-Script.ensures })
 
 pub returns-in_ok-add_script-in-Script-clause-is : goal.returns-in_ok-add_script-in-Script-clause-is
 returns-in_ok-add_script-in-Script-clause-is g c = c.requires.is

@@ -1,11 +1,7 @@
-use Rattle.std.proofs.Common.{rules}
+use Rattle.std.proofs.Common.{◌∙◌, ap, arith, length, rules}
+use Rattle.std.proofs.lemmas.Grind.{common_steps}
+use Rattle.mx_play.specs.Sessions.{SessionState}
 use Rattle.mx_play.proofs.undo.trace_length.Goals as goal
 
-pub cluster-requires : goal.cluster-requires
-cluster-requires g c = (search rules, search rules)
-
-pub trace-requires : goal.trace-requires
-trace-requires g c = search rules
-
-pub returns : goal.returns
-returns g c = rw (c.trace.ensures.value, c.cluster.ensures)
+pub trace_of-requires : goal.trace_of-requires
+trace_of-requires g c = first_of (search rules, search c.requires-raw, search (rules, c.requires-raw), grind (arith, common_steps))

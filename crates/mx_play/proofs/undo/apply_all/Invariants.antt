@@ -1,7 +1,7 @@
 use Rattle.std.proofs.Common.{drop}
 use Rattle.mx_scripts.specs.States.{RunState}
 use Rattle.mx_play.specs.Histories.{Leads}
-use Rattle.mx_play.proofs.undo.reapply_all.Given as goal
+use Rattle.mx_play.proofs.undo.apply_all.Given as goal
 
 abbrev pub invariant-loop-event : goal.invariant-loop-event
 invariant-loop-event g l =

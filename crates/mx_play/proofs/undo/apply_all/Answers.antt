@@ -3,7 +3,7 @@ use Rattle.mx_scripts.specs.States.{Brings, IsAllowed, RunState}
 use Rattle.mx_scripts.specs.declared.state.SessionEvent.{SessionEvent}
 use Rattle.mx_play.specs.Histories.{Leads}
 use Rattle.mx_play.proofs.HistoryLemmas.{allowed_at, leads_at, leads_end}
-use Rattle.mx_play.proofs.undo.reapply_all.Goals as goal
+use Rattle.mx_play.proofs.undo.apply_all.Goals as goal
 
 pub apply-requires : goal.apply-requires
 apply-requires g c =
