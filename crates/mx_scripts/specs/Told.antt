@@ -1,7 +1,9 @@
 -- What a recorder is told of the events of a script.
-use Rattle.std.specs.Prelude.{ℕ, ◌≡◌, List, [], ◌∷◌, length}
+use Rattle.std.specs.Prelude.{ℕ, ◌≡◌, ◌⊎◌, List, [], ◌∷◌, length}
 use Rattle.mx_nodelaws.specs.Core.{Core}
 use Rattle.mx_scripts.specs.States.{Brings, IsAllowed, RunState}
+use Rattle.mx_scripts.specs.declared.line_failure.LineFailure.{LineFailure}
+use Rattle.mx_scripts.specs.declared.line_failure.LineFailure.TheVariants as failure
 use Rattle.mx_scripts.specs.declared.state.SessionEvent.{SessionEvent}
 
 -- the event led to this state, and sent the parcels from the number `before` on
@@ -18,3 +20,8 @@ module _ {K H S M : Type 0} (core : Core H S M)
   IsTold (e ∷ es) old new recorder last =
       (mid : RunState S M) × (next : K) × IsAllowed old e × Brings core old e mid
       × noted recorder e old mid next × IsTold es mid new next last
+
+  -- memory ran out, or the recorder was told of all that led from one state to the other
+  abbrev pub IsToldUnlessMemory : RunState S M → RunState S M → K → K → LineFailure → Type 0
+  IsToldUnlessMemory old new recorder last why =
+      (why ≡ failure.Memory) ⊎ ((es : List SessionEvent) × IsTold es old new recorder last)

@@ -5,7 +5,7 @@ ghost use Rattle.mx_scripts.specs.Lines.{DoesText, IsNotDone, Misreads, Performs
 ghost use Rattle.mx_scripts.specs.ScriptFiles.{IsFileOfScript, IsScriptFile, StopsFrom, StopsInPlan};
 ghost use Rattle.mx_scripts.specs.Scripts.{HasLine, IsLineOf};
 ghost use Rattle.mx_scripts.specs.States.{Brings, IsAllowed, IsNotApplied, before_any};
-ghost use Rattle.mx_scripts.specs.Told.{IsTold};
+ghost use Rattle.mx_scripts.specs.Told.{IsTold, IsToldUnlessMemory};
 ghost use Rattle.mx_scripts.specs.declared.state.SessionEvent.{SessionEvent};
 
 use crate::expectation::compare_outcome;
@@ -140,6 +140,8 @@ pub fn repeat<C: Exclusion, K: Recorder<State<C>>>(
         recorder.old recorder.new) }
     ensures err { IfErr result
         (StopsWithin C.core line.now.order line.now.times state.old) }
+    ensures part { IfErr result (IsToldUnlessMemory C.core (λ k. K.noted k plan.now)
+        state.old state.new recorder.old recorder.new) }
 {
     for _count in 0..line.times {
         perform(plan, &line.order, state, recorder)?;
@@ -159,6 +161,8 @@ fn perform<C: Exclusion, K: Recorder<State<C>>>(
         recorder.old recorder.new) }
     ensures err { IfErr result (λ why. (es : List SessionEvent)
         × StopsAfter C.core order.now 0 state.old es why) }
+    ensures part { IfErr result (IsToldUnlessMemory C.core (λ k. K.noted k plan.now)
+        state.old state.new recorder.old recorder.new) }
 {
     for count in 0..u64::MAX {
         let next = state.next_event(order, count)?;
@@ -181,6 +185,8 @@ fn do_event<C: Exclusion, K: Recorder<State<C>>>(
     ensures noted { OnOk result
         (K.noted recorder.old plan.now event.now state.old state.new recorder.new) }
     ensures err { IfErr result (IsNotApplied C.core state.old event.now state.new) }
+    ensures part { IfErr result (IsToldUnlessMemory C.core (λ k. K.noted k plan.now)
+        state.old state.new recorder.old recorder.new) }
 {
     let before = state.cluster().sent();
     state.apply(event)?;

@@ -9,6 +9,7 @@ use Rattle.mx_scripts.proofs.script.repeat.Given as goal
 -- what happens and is told from here on, after what was so far, is the whole
 abbrev pub invariant-loop-count : goal.invariant-loop-count
 invariant-loop-count g l = record {
+  told : (es : List SessionEvent) × IsTold g.C.Exclusion.core (λ k. g.K.Recorder.noted k l.plan) es l.initial.state l.state l.initial.recorder l.recorder;
   does : (last : RunState g.row.C.Denot g.row.C-Msg.Denot) → (told : g.row.K.Denot) → (es : List SessionEvent)
       → Repeats g.C.Exclusion.core l.line.order (l.line.times - l._count) l.state es last × IsTold g.C.Exclusion.core (λ k. g.K.Recorder.noted k l.plan) es l.state last l.recorder told
       → (all : List SessionEvent) × Repeats g.C.Exclusion.core l.line.order l.line.times l.initial.state all last
