@@ -13,7 +13,7 @@ use Rattle.mx_lines.specs.Numbers.{number_of}
 use Rattle.mx_lines.specs.declared.commands.SessionCommand.{SessionCommand}
 use Rattle.mx_lines.specs.declared.errors.LineError.{LineError}
 use Rattle.mx_lines.specs.declared.errors.OwnWord.{OwnWord}
-use Rattle.mx_lines.specs.declared.errors.OwnWord.TheVariants.{Show, Undo, Redo, Events, Script, Mark, Help, End}
+use Rattle.mx_lines.specs.declared.errors.OwnWord.TheVariants.{Show, Undo, Redo, Events, Script, Save, Mark, Help, End}
 use Rattle.mx_lines.specs.declared.line.ScriptLine.{ScriptLine}
 use Rattle.mx_lines.specs.declared.line.ScriptLine.TheVariants as script_line
 use Rattle.mx_scripts.proofs.OverLemmas.{any, IsLineOver, line_over, LineOver, or_wrong, passed}
@@ -33,6 +33,7 @@ module _ (p : Fields) where
   alone_over Redo = tt
   alone_over Events = tt
   alone_over Script = tt
+  alone_over Save = tt
   alone_over Mark = tt
   alone_over Help = tt
   alone_over End = tt
@@ -44,6 +45,8 @@ module _ (p : Fields) where
   one_over Undo text false = tt
   one_over Redo text true = tt
   one_over Redo text false = tt
+  one_over Save text true = tt
+  one_over Save text false = tt
   one_over Mark text true = tt
   one_over Mark text false = tt
   one_over Script text true = tt

@@ -2,13 +2,15 @@
 use Rattle.std.proofs.Common.{◌≡◌, ◌≢◌, ◌⊎◌, List, [], Option, Some, None, Result, Ok, Err, IfOk, inl, inr, refl, subst}
 use Rattle.std.specs.Str.{IsUtf8}
 use Rattle.mx_plan.specs.Text.{Text}
+use Rattle.mx_io.specs.Stored.{Stored, Stores}
 use Rattle.mx_trace.specs.declared.outcome.Entry.{Entry}
 use Rattle.mx_scripts.specs.Expectations.{IsMet, IsNotMet}
 use Rattle.mx_scripts.specs.declared.line_failure.LineFailure.{LineFailure}
 use Rattle.mx_scripts.specs.declared.line_failure.LineFailure.TheVariants as failure
-use Rattle.mx_play.specs.Executions.{CanRefuseOutcome, DoesOr, HasExpected, IsAsExpected, IsShown}
+use Rattle.mx_play.specs.Executions.{CanRefuseOutcome, DoesOr, HasExpected, IsAsExpected, IsShown, Saved}
 use Rattle.mx_play.specs.Sessions.{SessionState}
 use Rattle.mx_play.specs.declared.input_fault.InputFault.{InputFault}
+use Rattle.mx_play.proofs.StoreLemmas.{Stores-nil}
 
 module _ (text line : Text) (found trace : List Entry) where
   -- the outcome is the expected one
@@ -21,11 +23,11 @@ module _ (text line : Text) (found trace : List Entry) where
   not_met_as why other same is (inr x) utf8 = subst (λ (t : Text). IsNotMet t trace why) (same utf8) (subst (λ (l : List Entry). IsNotMet text l why) is x)
 
 -- what a line with `expect` comes to
-pub executed_expect : {S M E : Type 0} (r : Result (Option InputFault) E) (line : Text) (a : SessionState S M) (text : Text) → text ≡ [] → IfOk r (λ fault. HasExpected line a fault)
-    → IfOk r (λ fault. DoesOr (IsAsExpected line a × IsShown [] a a text) (CanRefuseOutcome line a) fault a a text)
-executed_expect (Ok None) line a text empty x = (x, record { same = refl; printed = empty })
-executed_expect (Ok (Some fault)) line a text empty x = (x, record { same = refl; printed = empty })
-executed_expect (Err e) line a text empty x = tt
+pub executed_expect : {S M E : Type 0} (r : Result (Option InputFault) E) (line : Text) (a : SessionState S M) (text : Text) (s : Stored) → text ≡ [] → IfOk r (λ fault. HasExpected line a fault)
+    → IfOk r (λ fault. (saved : Saved) × Stores s s saved × DoesOr (IsAsExpected line a × IsShown [] a a text × (saved ≡ [])) (λ why. CanRefuseOutcome line a why × (saved ≡ [])) fault a a text)
+executed_expect (Ok None) line a text s empty x = ([], Stores-nil s, (x, record { same = refl; printed = empty }, refl))
+executed_expect (Ok (Some fault)) line a text s empty x = ([], Stores-nil s, ((x, refl), record { same = refl; printed = empty }))
+executed_expect (Err e) line a text s empty x = tt
 
 -- what holds anyway holds if a call succeeds
 pub whatever : {T E : Type 0} {P : Type 0} (r : Result T E) → P → IfOk r (λ t. P)

@@ -11,3 +11,4 @@ pub mod PlayedLemmas
 mod CommandLemmas
 pub mod ExpectationLemmas
 mod RequestLemmas
+pub mod StoreLemmas

@@ -14,7 +14,7 @@ use Rattle.mx_scripts.specs.Scripts.{IsOver}
 use Rattle.mx_scripts.specs.declared.line_failure.LineFailure.TheVariants.{WrongWord}
 use Rattle.mx_play.specs.Lines.{IsFirst}
 use Rattle.mx_play.specs.declared.input_fault.InputFault.{InputFault}
-use Rattle.mx_play.specs.declared.input_fault.InputFault.TheVariants.{NotText, Line, TooLong, TooFew, NoUndo}
+use Rattle.mx_play.specs.declared.input_fault.InputFault.TheVariants.{NotText, Line, TooLong, TooFew, NoUndo, Unwritten}
 use Rattle.mx_play.specs.declared.input.Input.{Input}
 use Rattle.mx_play.specs.declared.input.Input.TheVariants as input
 use Rattle.mx_play.specs.declared.line_sources.TheConstants.{MAX_LINE}
@@ -69,6 +69,7 @@ module _ (p : Fields) where
       (error : LineError) × Comes line (Err error) × (why ≡ WrongWord error)
   HasFault line (TooFew lines) = ⊥
   HasFault line NoUndo = ⊥
+  HasFault line Unwritten = ⊥
 
   -- the line asks for the command of this input, and is in the buffer; or it has the fault of the
   -- input

@@ -3,7 +3,7 @@ use Rattle.std.specs.Prelude.{ℕ, ◌≡◌, ◌<◌, ◌-◌, List, [], ◌∷
 use Rattle.std.specs.Str.{IsUtf8, trim}
 use Rattle.mx_nodelaws.specs.Core.{Core}
 use Rattle.mx_lines.specs.declared.commands.SessionCommand.{SessionCommand}
-use Rattle.mx_lines.specs.declared.commands.SessionCommand.TheVariants.{Does, Expects, Undo, Redo, Show, Events, Script, Mark, Help, End, Nothing}
+use Rattle.mx_lines.specs.declared.commands.SessionCommand.TheVariants.{Does, Expects, Undo, Redo, Show, Events, Script, Save, Mark, Help, End, Nothing}
 use Rattle.mx_lines.specs.declared.line.Line.{Line}
 use Rattle.mx_plan.specs.Text.{Text}
 use Rattle.mx_plan.specs.Fields.{Fields}
@@ -18,13 +18,17 @@ use Rattle.mx_scripts.specs.declared.state.SessionEvent.{SessionEvent}
 use Rattle.mx_play.specs.Commands.{IsSecondWord}
 use Rattle.mx_play.specs.Help.{words_text}
 use Rattle.mx_play.specs.Histories.{Leads, Makes, events_in, first_state}
-use Rattle.mx_play.specs.Printed.{steps_text}
+use Rattle.mx_play.specs.Printed.{saved_line, steps_text}
 use Rattle.mx_play.specs.Sessions.{SessionState, Undone, line_events}
 use Rattle.mx_play.specs.SessionScripts.{session_script}
 use Rattle.mx_play.specs.Views.{mark_line, view_text}
 use Rattle.mx_play.specs.declared.input_fault.InputFault.{InputFault}
 use Rattle.mx_play.specs.declared.input_fault.InputFault.TheVariants as input_fault
 use Rattle.mx_play.specs.declared.session.DoneLine.{DoneLine}
+
+-- the names under which texts were saved, in order, each with its text
+abbrev pub Saved : Type 0
+Saved = List (Text × Text)
 
 -- nothing changed, and this was printed
 pub record IsShown {S M : Type 0} (what : Text) (old new : SessionState S M) (text : Text)
@@ -114,41 +118,64 @@ module _ {S M : Type 0} (from : Text) (s : SessionState S M) where
   HasExpected None = IsAsExpected
   HasExpected (Some fault) = CanRefuseOutcome fault
 
+-- a file is refused with this fault: it cannot be written
+abbrev pub CanRefuseSave : InputFault → Type 0
+CanRefuseSave fault = fault ≡ input_fault.Unwritten
+
+-- the script of these lines was saved under the name, and that was printed; or it was refused, and
+-- nothing was saved or printed
+abbrev pub HasSaved : Option InputFault → Fields → List DoneLine → Text → Saved → Text → Text
+    → Type 0
+HasSaved None p lines word saved old new =
+    (saved ≡ (word, session_script p lines) ∷ []) × (new ≡ old ++ saved_line word)
+HasSaved (Some fault) p lines word saved old new =
+    CanRefuseSave fault × (saved ≡ []) × (new ≡ old)
+
 -- the command of the line `from` is refused with this fault: the line stops or expects another
--- outcome, fewer lines were done than it undoes, or nothing was undone that it could redo. Other
--- commands are never refused
+-- outcome, fewer lines were done than it undoes, nothing was undone that it could redo, or its file
+-- cannot be written. Other commands are never refused
 abbrev pub CanRefuse : {H S M : Type 0} → Core H S M → SessionCommand → Text → SessionState S M
     → InputFault → Type 0
 CanRefuse core (Does line) from s fault = CanRefuseLine core line s fault
 CanRefuse core Expects from s fault = CanRefuseOutcome from s fault
 CanRefuse core (Undo count) from s fault = CanRefuseUndo s count fault
 CanRefuse core Redo from s fault = CanRefuseRedo s fault
+CanRefuse core Save from s fault = CanRefuseSave fault
 CanRefuse core _ from s fault = ⊥
 
 module _ {H S M : Type 0} (core : Core H S M) (letter_text : Fields → M → Text)
     (knows : S → List Known) (p : Fields) (shape : H) where
-  -- the command of the line `from` leads from one session to another, and prints the text
-  abbrev pub Executes : SessionCommand → Text → SessionState S M → SessionState S M → Text → Type 0
-  Executes (Does line) from old new text = IsDone core letter_text p line from old new text
-  Executes Expects from old new text = IsAsExpected from old × IsShown [] old new text
-  Executes (Undo count) from old new text =
-      IsUndone core p shape count old new text
-  Executes Redo from old new text = IsRedone core old new text
-  Executes (Show to) from old new text =
-      IsShown (view_text core letter_text p knows to old.state) old new text
-  Executes Events from old new text =
-      IsShown (file_text p (events_of old.state.cluster.trace)) old new text
-  Executes Script from old new text =
-      IsShown (session_script p old.lines) old new text
-  Executes Mark from old new text =
+  -- the command of the line `from` leads from one session to another, and prints the text; only
+  -- `save` saves something: the script of the session, under the second word of the line
+  abbrev pub Executes : SessionCommand → Text → SessionState S M → SessionState S M → Text → Saved
+      → Type 0
+  Executes (Does line) from old new text saved =
+      IsDone core letter_text p line from old new text × (saved ≡ [])
+  Executes Expects from old new text saved =
+      IsAsExpected from old × IsShown [] old new text × (saved ≡ [])
+  Executes (Undo count) from old new text saved =
+      IsUndone core p shape count old new text × (saved ≡ [])
+  Executes Redo from old new text saved = IsRedone core old new text × (saved ≡ [])
+  Executes (Show to) from old new text saved =
+      IsShown (view_text core letter_text p knows to old.state) old new text × (saved ≡ [])
+  Executes Events from old new text saved =
+      IsShown (file_text p (events_of old.state.cluster.trace)) old new text × (saved ≡ [])
+  Executes Script from old new text saved =
+      IsShown (session_script p old.lines) old new text × (saved ≡ [])
+  Executes Save from old new text saved =
       (word : Text) × (IsUtf8 from → IsSecondWord from word)
-      × IsShown (mark_line word) old new text
-  Executes Help from old new text = IsShown words_text old new text
-  Executes End from old new text = IsShown [] old new text
-  Executes Nothing from old new text = IsShown [] old new text
+      × IsShown (saved_line word) old new text
+      × (saved ≡ (word, session_script p old.lines) ∷ [])
+  Executes Mark from old new text saved =
+      (word : Text) × (IsUtf8 from → IsSecondWord from word)
+      × IsShown (mark_line word) old new text × (saved ≡ [])
+  Executes Help from old new text saved = IsShown words_text old new text × (saved ≡ [])
+  Executes End from old new text saved = IsShown [] old new text × (saved ≡ [])
+  Executes Nothing from old new text saved = IsShown [] old new text × (saved ≡ [])
 
+  -- a command that is refused saves nothing
   abbrev pub HasExecuted : Option InputFault → SessionCommand → Text → SessionState S M
-      → SessionState S M → Text → Type 0
-  HasExecuted fault command from old new text =
-      DoesOr (Executes command from old new text) (CanRefuse core command from old) fault old new
-      text
+      → SessionState S M → Text → Saved → Type 0
+  HasExecuted fault command from old new text saved =
+      DoesOr (Executes command from old new text saved)
+      (λ why. CanRefuse core command from old why × (saved ≡ [])) fault old new text

@@ -38,6 +38,7 @@ words_text =
     ++ codes "redo          reverses the last undo\n"
     ++ codes "events        prints the events so far, as a file that `mx replay` reads\n"
     ++ codes "script        prints what has happened so far, as a script\n"
+    ++ codes "save FILE     writes that script to FILE\n"
     ++ codes "mark WORD     prints `mark WORD`\n"
     ++ codes "help          lists these lines\n"
     ++ codes "end           prints the nodes and the verdict, and ends the session\n"

@@ -15,19 +15,21 @@ use Rattle.mx_cli.specs.Frames.{IsRunStatus}
 use Rattle.mx_cli.specs.Reading.{IsPlanOf, IsRead, is_dash}
 use Rattle.mx_cli.specs.Reports.{Declines, Seen}
 use Rattle.mx_cli.specs.Requests.{Request, play}
+use Rattle.mx_io.specs.Stored.{Stored, Stores}
 use Rattle.mx_io.specs.Told.{Telling}
 use Rattle.mx_play.specs.Lines.{first_of, session_lines}
 use Rattle.mx_play.specs.Plays.{IsPlayed}
 
 -- a session was played in the cluster of the plan, by its algorithm: the lines of a script, and then
 -- those that come
-abbrev pub IsPlayedBy : Fields → Text → Option (List Text) → Seen → Seen → Shape → Type 0
-IsPlayedBy p script lines old new (Ricart count) =
-    IsPlayed ricart_core ricart_text ricart_known p count script lines old new
-IsPlayedBy p script lines old new (Maekawa family) =
-    IsPlayed maekawa_core maekawa_text maekawa_known p family script lines old new
-IsPlayedBy p script lines old new (Raymond tree) =
-    IsPlayed raymond_core raymond_text raymond_known p tree script lines old new
+abbrev pub IsPlayedBy : Fields → Text → Option (List Text) → Seen → Seen → Stored → Stored → Shape
+    → Type 0
+IsPlayedBy p script lines old new store store' (Ricart count) =
+    IsPlayed ricart_core ricart_text ricart_known p count script lines old new store store'
+IsPlayedBy p script lines old new store store' (Maekawa family) =
+    IsPlayed maekawa_core maekawa_text maekawa_known p family script lines old new store store'
+IsPlayedBy p script lines old new store store' (Raymond tree) =
+    IsPlayed raymond_core raymond_text raymond_known p tree script lines old new store store'
 
 -- the plan is that of the first of these lines, by the rules of plans; if the lines are not known,
 -- that of some line
@@ -61,21 +63,23 @@ IsScriptOf told text = IfSome told (λ telling. telling ≡ Some text)
 -- the plan and the script of these names were read, and a session was played: the lines of the
 -- script, and then those that come, without the plan if it is the first of them
 abbrev pub HasPlayed : (Text → Option Telling) → Option (List Text) → Text → Option Text → Seen
-    → Seen → Type 0
-HasPlayed told lines plan first old new =
+    → Seen → Stored → Stored → Type 0
+HasPlayed told lines plan first old new store store' =
     (p : Fields) × (script : Text) × IsPlanNamed told plan lines p
     × IsScriptOf (told_of_script told first) script
-    × IsPlayedBy p script (session_lines (is_dash plan) lines) old new p.shape
+    × IsPlayedBy p script (session_lines (is_dash plan) lines) old new store store' p.shape
 
 -- with status 0, a session was played, and all that it printed was passed on
 pub record Plays (told : Text → Option Telling) (lines : Option (List Text)) (plan : Text)
-    (first : Option Text) (old new : Seen) (status : ℕ) : Type 0 where
-  pub played : status ≡ 0 → HasPlayed told lines plan first old new
+    (first : Option Text) (old new : Seen) (store store' : Stored) (status : ℕ) : Type 0 where
+  pub played : status ≡ 0 → HasPlayed told lines plan first old new store store'
   pub passed : status ≡ 0 → new.kept_back ≡ false
   pub status_is : IsRunStatus status
 
--- what a request does: a session; for all others, nothing is written, and the status is 2
-abbrev pub PlaysAs : (Text → Option Telling) → Option (List Text) → Request → Seen → Seen → ℕ
-    → Type 0
-PlaysAs told lines (play plan first) old new status = Plays told lines plan first old new status
-PlaysAs told lines _ old new status = Declines old new status
+-- what a request does: a session; for all others, nothing is written or stored, and the status is 2
+abbrev pub PlaysAs : (Text → Option Telling) → Option (List Text) → Request → Seen → Seen → Stored
+    → Stored → ℕ → Type 0
+PlaysAs told lines (play plan first) old new store store' status =
+    Plays told lines plan first old new store store' status
+PlaysAs told lines _ old new store store' status =
+    Declines old new status × Stores store store' []

@@ -1,4 +1,5 @@
--- The lines that only a session prints: of faults, on standard error; of losses, links and undos.
+-- The lines that only a session prints: of faults, on standard error; of losses, links, undos and
+-- files.
 use Rattle.std.specs.Prelude.{ℕ, ◌≡◌, ◌++◌, List, [], ◌∷◌, Bool, true, false, Option, Some, None, codes, decimal, length, string_bytes}
 use Rattle.std.specs.Io.KnownBytes.{Appends}
 use Rattle.mx_io.specs.Outputs.{Held}
@@ -30,6 +31,7 @@ input_fault_text input_fault.TooLong = codes "more than 65536 bytes"
 input_fault_text (input_fault.TooFew lines) =
     codes "only " ++ decimal lines ++ codes " to take back"
 input_fault_text input_fault.NoUndo = codes "no undo to take back"
+input_fault_text input_fault.Unwritten = codes "cannot write"
 
 -- the line of a fault in line k of a session, with the message about that line
 abbrev pub session_line : ℕ → InputFault → Text → Text
@@ -64,7 +66,7 @@ GetsAsides out out' = (text : Text) × AreAsides text × Appends out out' text
 abbrev pub GetsReport : ℕ → Option InputFault → Held → Held → Type 0
 GetsReport k fault out out' = (text : Text) × IsReported k fault text × Appends out out' text
 
--- ---- losses, and undos
+-- ---- losses, undos, and files
 
 -- parcel k is lost
 abbrev pub lost_line : {M : Type 0} → (Fields → M → Text) → Fields → ℕ → ℕ × ℕ × Parcel M → Text
@@ -89,3 +91,7 @@ typed_line line = codes "  " ++ shown (string_bytes line.text) ++ line_feed
 -- the same of these lines, and then each of them
 abbrev pub steps_text : Text → List DoneLine → ℕ → Text
 steps_text word lines events = steps_line word (length lines) events ++ each_text typed_line lines
+
+-- the script was saved in the file of this name
+abbrev pub saved_line : Text → Text
+saved_line word = codes "saved: " ++ shown word ++ line_feed

@@ -3,23 +3,26 @@
 ghost use Rattle.std.specs.Prelude.{◌≡◌, ◌∷◌, ◌++◌, [], IfOk, OnOk, length, string_bytes};
 ghost use Rattle.std.specs.Str.{IsUtf8, trim};
 ghost use Rattle.mx_format.specs.LetterTexts.{letter_text};
+ghost use Rattle.mx_io.specs.Stored.{Stores};
+ghost use Rattle.mx_lines.specs.Names.{texts_of};
 ghost use Rattle.mx_play.specs.Commands.{IsSecondWord, IsOverPlan, second_of};
 ghost use Rattle.mx_play.specs.Sessions.{IsSession};
 ghost use Rattle.mx_play.specs.declared.session.DoneLine.{DoneLine};
-ghost use Rattle.mx_play.specs.Executions.{CanRefuseLine, DoesOr, HasExecuted, HasExpected, IsDone, line_text};
+ghost use Rattle.mx_play.specs.Executions.{CanRefuseLine, DoesOr, HasExecuted, HasExpected, IsDone, Saved, line_text};
 ghost use Rattle.mx_play.specs.Views.{mark_line};
-ghost use Rattle.mx_lines.specs.Names.{texts_of};
 ghost use Rattle.mx_scripts.specs.Scripts.{IsOver};
 
 use crate::help::add_words;
 use crate::input_fault::InputFault;
 use crate::printed_events::PrintedEvents;
 use crate::run_texts::add_events;
+use crate::saved::save;
 use crate::session::{DoneLine, Session, Setting, trace_of};
 use crate::session_script::add_script;
 use crate::undo::{redo, run_again, undo};
 use crate::views::show;
 use mx_format::Letter;
+use mx_io::Store;
 use mx_knowledge::Knowledge;
 use mx_lines::{Line, SessionCommand, words_in};
 use mx_nodelaws::Exclusion;
@@ -27,21 +30,26 @@ use mx_scripts::{LineFailure, compare_outcome, repeat};
 use std::alloc::{AllocError, Global};
 use std::str;
 
-pub(crate) fn execute<C: Exclusion + Knowledge>(
+/// Does what a command asks for. A `message` may say more about the fault that it returns.
+pub(crate) fn execute<C: Exclusion + Knowledge, W: Store>(
     setting: &Setting<'_, C>,
     command: &SessionCommand,
     line: &[u8],
     session: &mut Session<C>,
+    store: &mut W,
     text: &mut String,
+    message: &mut String,
 ) -> Result<Option<InputFault>, AllocError>
 where
     C::Msg: Letter,
     requires is { IsSession C.core setting.now.plan.now setting.now.shape.now session.old }
     requires over { IsOverPlan setting.now.plan.now command.now }
     requires empty { string_bytes text.old ≡ [] }
-    ensures executed { IfOk result (λ fault. HasExecuted C.core (letter_text C.Msg.parts) C.knows
+    ensures executed { IfOk result (λ fault. (saved : Saved)
+        × Stores (W.stored store.old) (W.stored store.new) saved
+        × HasExecuted C.core (letter_text C.Msg.parts) C.knows
         setting.now.plan.now setting.now.shape.now fault command.now line.now
-        session.old session.new (string_bytes text.new)) }
+        session.old session.new (string_bytes text.new) saved) }
     ensures is { IfOk result (λ _.
         IsSession C.core setting.now.plan.now setting.now.shape.now session.new) }
 {
@@ -61,6 +69,19 @@ where
         SessionCommand::Script => {
             add_script(setting.plan, session.lines.as_slice(), text)?;
             Ok(None)
+        }
+        SessionCommand::Save => {
+            let name = second_word(setting.alloc, line)?;
+            let lines = session.lines.as_slice();
+            save(
+                setting.alloc,
+                setting.plan,
+                lines,
+                name,
+                store,
+                text,
+                message,
+            )
         }
         SessionCommand::Mark => {
             add_mark(second_word(setting.alloc, line)?, text)?;

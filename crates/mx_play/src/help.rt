@@ -46,6 +46,7 @@ const WORDS: &str = "ask N         node N asks to enter\n\
     redo          reverses the last undo\n\
     events        prints the events so far, as a file that `mx replay` reads\n\
     script        prints what has happened so far, as a script\n\
+    save FILE     writes that script to FILE\n\
     mark WORD     prints `mark WORD`\n\
     help          lists these lines\n\
     end           prints the nodes and the verdict, and ends the session\n\

@@ -20,6 +20,8 @@ pub(crate) enum InputFault {
     /// `undo` asks for more lines than were done: only this many were.
     TooFew(usize),
     NoUndo,
+    /// The file that it names cannot be written.
+    Unwritten,
 }
 
 impl fmt::Display for InputFault {
@@ -34,6 +36,7 @@ impl fmt::Display for InputFault {
             InputFault::TooLong => f.write_str("more than 65536 bytes"),
             InputFault::NoUndo => f.write_str("no undo to take back"),
             InputFault::TooFew(lines) => write!(f, "only {lines} to take back"),
+            InputFault::Unwritten => f.write_str("cannot write"),
         }
     }
 }

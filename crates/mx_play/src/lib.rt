@@ -11,6 +11,7 @@ mod input_fault;
 mod line_sources;
 mod printed_events;
 mod run_texts;
+mod saved;
 mod session;
 mod session_by_plan;
 mod session_files;

@@ -9,23 +9,25 @@ use crate::line_sources::Lines;
 use crate::session::{Setting, first_session};
 use crate::session_run::run_session;
 use mx_cli::{PlanAndText, Stop};
-use mx_io::Output;
+use mx_io::{Output, Store};
 use mx_maekawa::Maekawa;
 use mx_plan::Shape;
 use mx_raymond::Raymond;
 use mx_ricart::Ricart;
 use std::alloc::Global;
 
-pub(crate) fn run_by_plan<L: Lines, O: Output, E: Output>(
+pub(crate) fn run_by_plan<L: Lines, W: Store, O: Output, E: Output>(
     alloc: Global,
     start: &PlanAndText,
     lines: &mut L,
+    store: &mut W,
     out: &mut O,
     err: &mut E,
 ) -> Result<u8, Stop>
     ensures played { IfOk result (λ _. IsPlayedBy start.now.plan start.now.text.items
         (L.rest lines.old) (seen O.Output E.Output out.old err.old)
-        (seen O.Output E.Output out.new err.new) start.now.plan.shape) }
+        (seen O.Output E.Output out.new err.new)
+        (W.stored store.old) (W.stored store.new) start.now.plan.shape) }
     ensures zero { IfOk result (λ status. status ≡ 0) }
     ensures stops { O.takes_all out.old ≡ true → E.takes_all err.old ≡ true
         → AreReadable (L.readable lines.old) → OnlyMemory result }
@@ -38,17 +40,17 @@ pub(crate) fn run_by_plan<L: Lines, O: Output, E: Output>(
         Shape::Ricart(shape) => {
             let setting = Setting::<Ricart> { alloc, plan, shape };
             let mut session = first_session(&setting)?;
-            run_session(&setting, script, lines, &mut session, out, err)
+            run_session(&setting, script, lines, &mut session, store, out, err)
         }
         Shape::Maekawa(shape) => {
             let setting = Setting::<Maekawa> { alloc, plan, shape };
             let mut session = first_session(&setting)?;
-            run_session(&setting, script, lines, &mut session, out, err)
+            run_session(&setting, script, lines, &mut session, store, out, err)
         }
         Shape::Raymond(shape) => {
             let setting = Setting::<Raymond> { alloc, plan, shape };
             let mut session = first_session(&setting)?;
-            run_session(&setting, script, lines, &mut session, out, err)
+            run_session(&setting, script, lines, &mut session, store, out, err)
         }
     }
 }

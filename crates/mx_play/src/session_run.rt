@@ -5,8 +5,10 @@ ghost use Rattle.std.specs.Io.KnownBytes.{Appends};
 ghost use Rattle.mx_plan.specs.Text.{Text};
 ghost use Rattle.mx_format.specs.LetterTexts.{letter_text};
 ghost use Rattle.mx_cli.specs.Reports.{seen};
+ghost use Rattle.mx_io.specs.Stored.{Stores};
 ghost use Rattle.mx_driver.specs.Runs.{closing_text};
 ghost use Rattle.mx_play.specs.Commands.{IsInput, IsInputOf, is_end};
+ghost use Rattle.mx_play.specs.Executions.{Saved};
 ghost use Rattle.mx_play.specs.Plays.{ArePlayed, Does, IsPlayed};
 ghost use Rattle.mx_play.specs.Printed.{GetsReport};
 ghost use Rattle.mx_play.specs.Sessions.{IsSession, at_start};
@@ -20,23 +22,25 @@ use crate::run_texts::add_end;
 use crate::session::{Session, Setting, trace_of};
 use mx_cli::{Fault, Named, Stop, write_line};
 use mx_format::Letter;
-use mx_io::Output;
+use mx_io::{Output, Store};
 use mx_knowledge::Knowledge;
 use mx_nodelaws::Exclusion;
 use std::alloc::AllocError;
 
-/// What a line comes to: what is printed, and its fault.
+/// What a line comes to: what is printed, its fault, and what more is said of that.
 #[derive(Drop)]
 struct Turn {
     text: String,
     fault: Option<InputFault>,
+    message: String,
 }
 
-pub(crate) fn run_session<C: Exclusion + Knowledge, L: Lines, O: Output, E: Output>(
+pub(crate) fn run_session<C: Exclusion + Knowledge, L: Lines, W: Store, O: Output, E: Output>(
     setting: &Setting<'_, C>,
     script: &[u8],
     lines: &mut L,
     session: &mut Session<C>,
+    store: &mut W,
     out: &mut O,
     err: &mut E,
 ) -> Result<u8, Stop>
@@ -47,7 +51,8 @@ where
         ≡ at_start C.core setting.now.plan.now setting.now.shape.now }
     ensures played { IfOk result (λ _. IsPlayed C.core (letter_text C.Msg.parts) C.knows
         setting.now.plan.now setting.now.shape.now script.now (L.rest lines.old)
-        (seen O.Output E.Output out.old err.old) (seen O.Output E.Output out.new err.new)) }
+        (seen O.Output E.Output out.old err.old) (seen O.Output E.Output out.new err.new)
+        (W.stored store.old) (W.stored store.new)) }
     ensures zero { IfOk result (λ status. status ≡ 0) }
     ensures stops { O.takes_all out.old ≡ true → E.takes_all err.old ≡ true
         → AreReadable (L.readable lines.old) → OnlyMemory result }
@@ -55,10 +60,10 @@ where
         × (E.takes_all err.new ≡ E.takes_all err.old) }
 {
     let mut listed = Listed { rest: script };
-    match run_lines(setting, 1, &mut listed, session, out, err)? {
+    match run_lines(setting, 1, &mut listed, session, store, out, err)? {
         Some(number) => {
             greet(lines, err)?;
-            run_lines(setting, number, lines, session, out, err)?;
+            run_lines(setting, number, lines, session, store, out, err)?;
             finish(setting, session, out)
         }
         None => finish(setting, session, out),
@@ -67,11 +72,12 @@ where
 
 /// Runs lines to their end, or to the first that ends the session; `first` is the number of the
 /// first of them. Returns the number of the line after them, if the session goes on.
-fn run_lines<C: Exclusion + Knowledge, L: Lines, O: Output, E: Output>(
+fn run_lines<C: Exclusion + Knowledge, L: Lines, W: Store, O: Output, E: Output>(
     setting: &Setting<'_, C>,
     first: u64,
     lines: &mut L,
     session: &mut Session<C>,
+    store: &mut W,
     out: &mut O,
     err: &mut E,
 ) -> Result<Option<u64>, Stop>
@@ -81,7 +87,8 @@ where
     ensures run { IfOk result (λ next. ArePlayed C.core (letter_text C.Msg.parts) C.knows
         setting.now.plan.now setting.now.shape.now first (L.rest lines.old) next
         session.old session.new
-        (seen O.Output E.Output out.old err.old) (seen O.Output E.Output out.new err.new)) }
+        (seen O.Output E.Output out.old err.old) (seen O.Output E.Output out.new err.new)
+        (W.stored store.old) (W.stored store.new)) }
     ensures is { IfOk result (λ _.
         IsSession C.core setting.now.plan.now setting.now.shape.now session.new) }
     ensures left { IfSome (L.readable lines.old) (λ n. IfOk result (λ next.
@@ -97,9 +104,9 @@ where
         if let Input::Eof = input {
             return Ok(Some(number));
         }
-        let turn = execute_input(setting, &input, line.as_slice(), session)?;
+        let turn = execute_input(setting, &input, line.as_slice(), session, store)?;
         print(&turn, out)?;
-        report(setting, number, &turn.fault, line.as_slice(), session, err)?;
+        report(setting, number, &turn, line.as_slice(), session, err)?;
         if is_end(&input) {
             return Ok(None);
         }
@@ -107,11 +114,12 @@ where
     Err(Stop::Fault(Fault::CannotRead(Named::Events)))
 }
 
-fn execute_input<C: Exclusion + Knowledge>(
+fn execute_input<C: Exclusion + Knowledge, W: Store>(
     setting: &Setting<'_, C>,
     input: &Input,
     line: &[u8],
     session: &mut Session<C>,
+    store: &mut W,
 ) -> Result<Turn, AllocError>
 where
     C::Msg: Letter,
@@ -119,22 +127,45 @@ where
     requires input { IsInput setting.now.plan.now input.now }
     ensures does { IfOk result (λ turn. (from : Text)
         → IsInputOf setting.now.plan.now from input.now line.now
-        → Does C.core (letter_text C.Msg.parts) C.knows setting.now.plan.now setting.now.shape.now
-        from turn.fault (is_end input.now) session.old session.new (string_bytes turn.text)) }
+        → (saved : Saved) × Stores (W.stored store.old) (W.stored store.new) saved
+        × Does C.core (letter_text C.Msg.parts) C.knows setting.now.plan.now setting.now.shape.now
+        from turn.fault (is_end input.now) session.old session.new (string_bytes turn.text)
+        saved) }
     ensures is { IfOk result (λ _.
         IsSession C.core setting.now.plan.now setting.now.shape.now session.new) }
 {
     let mut text = String::new(setting.alloc);
+    let mut message = String::new(setting.alloc);
     match input {
         Input::Command(command) => {
-            let fault = execute(setting, command, line, session, &mut text)?;
-            Ok(Turn { text, fault })
+            let fault = execute(
+                setting,
+                command,
+                line,
+                session,
+                store,
+                &mut text,
+                &mut message,
+            )?;
+            Ok(Turn {
+                text,
+                fault,
+                message,
+            })
         }
         Input::Fault(fault) => {
             let fault = Some(*fault);
-            Ok(Turn { text, fault })
+            Ok(Turn {
+                text,
+                fault,
+                message,
+            })
         }
-        Input::Eof => Ok(Turn { text, fault: None }),
+        Input::Eof => Ok(Turn {
+            text,
+            fault: None,
+            message,
+        }),
     }
 }
 
@@ -154,21 +185,22 @@ fn print<O: Output>(turn: &Turn, out: &mut O) -> Result<(), Stop>
 fn report<C: Exclusion, E: Output>(
     setting: &Setting<'_, C>,
     number: u64,
-    fault: &Option<InputFault>,
+    turn: &Turn,
     line: &[u8],
     session: &Session<C>,
     err: &mut E,
 ) -> Result<(), Stop>
     ensures reports { OnOk result
-        (GetsReport number fault.now (E.written err.old) (E.written err.new)) }
+        (GetsReport number turn.now.fault (E.written err.old) (E.written err.new)) }
     ensures stops { E.takes_all err.old ≡ true → OnlyMemory result }
     ensures stays { E.takes_all err.new ≡ E.takes_all err.old }
 {
-    let Some(fault) = fault else {
+    let Some(fault) = &turn.fault else {
         return Ok(());
     };
     let trace = trace_of(&session.state);
-    let message = message_about(setting.alloc, setting.plan, fault, line, trace)?;
+    let mut message = message_about(setting.alloc, setting.plan, fault, line, trace)?;
+    message.push_str(turn.message.as_str())?;
     let said = InputFaultLine {
         number,
         fault: *fault,

@@ -11,7 +11,7 @@ use crate::hints::{tell_empty, tell_place};
 use crate::patient::Patient;
 use crate::remembered::Remembered;
 use mx_dispatch::command;
-use mx_io::{Output, Stream, as_slices, given_words, status_of};
+use mx_io::{Output, Stream, Streams, as_slices, given_words, status_of};
 use mx_jobs::Host;
 use mx_live::live;
 use mx_play::{Typed, play};
@@ -34,7 +34,10 @@ where
     let alloc = rt.alloc();
     match words.first() {
         Some(&"live") => live(rt, alloc, words, source, out, err),
-        Some(&"play") => play(alloc, words, source, &mut typed_lines(rt), out, err),
+        Some(&"play") => {
+            let (mut lines, mut store) = (typed_lines(rt), Streams { rt });
+            play(alloc, words, source, &mut lines, &mut store, out, err)
+        }
         _ => command(alloc, words, source, out, err),
     }
 }

@@ -11,7 +11,8 @@ pub returns-in-Err : goal.returns-in-Err
 unfolding request_asked
 returns-in-Err g c = record {
   played = refused mx_app request_in (texts_of c.args.words.now) c.in-Err.e c.in-Err.ensures c.refuse.ensures.memory _
-      (short_plays (g.S.Source.told c.args.source.now) (g.L.Lines.rest c.args.lines.now) (seen g.O.Output g.E.Output c.args.out.now c.args.err.now) (seen g.O.Output g.E.Output c.refuse.new.out c.refuse.new.err) c.refuse.result);
+      (λ memory. short_plays (g.S.Source.told c.args.source.now) (g.L.Lines.rest c.args.lines.now) (seen g.O.Output g.E.Output c.args.out.now c.args.err.now) (seen g.O.Output g.E.Output c.refuse.new.out c.refuse.new.err) c.refuse.result memory
+      (g.W.Store.stored c.args.store.now));
   answers = c.refuse.ensures.answers mx_app (texts_of c.args.words.now) c.in-Err.ensures;
   stops = refused mx_app request_in (texts_of c.args.words.now) c.in-Err.e c.in-Err.ensures c.refuse.ensures.memory _
       (λ memory. short_stops (g.S.Source.told c.args.source.now) (g.L.Lines.rest c.args.lines.now) (seen g.O.Output g.E.Output c.args.out.now c.args.err.now) (seen g.O.Output g.E.Output c.refuse.new.out c.refuse.new.err) c.refuse.result memory

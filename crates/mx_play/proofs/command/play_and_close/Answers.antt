@@ -19,7 +19,7 @@ returns g c =
     let run = c.run_by_plan-ended.result in
     let closes = c.close.ensures.closes in
     record {
-      played = λ zero. by_keeps p c.args.start.now.text.items (seen g.O.Output g.E.Output c.args.out.now c.args.err.now) old new (g.L.Lines.rest c.args.lines.now) p.shape
+      played = λ zero. by_keeps p c.args.start.now.text.items (seen g.O.Output g.E.Output c.args.out.now c.args.err.now) old new (g.W.Store.stored c.args.store.now) (g.W.Store.stored c.run_by_plan-ended.new.store) (g.L.Lines.rest c.args.lines.now) p.shape
           (closed_done names t u old new c.close.result run c.run_by_plan-ended.ensures.played closes zero) closes.0 (closed_told names t u old new c.close.result run closes zero);
       passed = λ zero. closed_passed names t u old new c.close.result run closes zero;
       stops = λ takes_out takes_err readable one.

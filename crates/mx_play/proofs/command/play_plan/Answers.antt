@@ -14,6 +14,6 @@ returns-in-Ok-clause-played g c =
       start.text.items,
       c.in-Ok.ensures.plan,
       c.in-Ok.ensures.script,
-      by_left start.plan start.text.items (seen g.O.Output g.E.Output c.args.out.now c.args.err.now) new new lines (g.L.Lines.rest c.fetch_start.new.lines) start.plan.shape
+      by_left start.plan start.text.items (seen g.O.Output g.E.Output c.args.out.now c.args.err.now) new new (g.W.Store.stored c.args.store.now) (g.W.Store.stored c.play_and_close.new.store) lines (g.L.Lines.rest c.fetch_start.new.lines) start.plan.shape
           c.in-Ok.ensures.left (c.play_and_close.ensures.played zero),
     )

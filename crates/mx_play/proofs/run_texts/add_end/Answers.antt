@@ -1,4 +1,4 @@
-use Rattle.std.proofs.Common.{◌∙◌, ◌++◌, ap, arith, length, string_bytes}
+use Rattle.std.proofs.Common.{◌∙◌, ◌++◌, ap, arith, length, rules, string_bytes}
 use Rattle.mx_format.specs.LetterTexts.{letter_text}
 use Rattle.mx_network.specs.Step.{ClusterState}
 use Rattle.mx_driver.specs.Runs.{closing_text}
@@ -7,7 +7,7 @@ use Rattle.mx_play.proofs.run_texts.add_end.Goals as goal
 
 pub add_closing-requires : goal.add_closing-requires
 add_closing-requires g c =
-    (omega arith, ap (λ (x : ClusterState g.row.C.Denot g.row.C-Msg.Denot). length x.members) c.cluster.ensures ∙ c.requires)
+    (first_of (search rules, search c.requires-raw, search (rules, c.requires-raw), search (arith, c.requires-raw)), ap (λ (x : ClusterState g.row.C.Denot g.row.C-Msg.Denot). length x.members) c.cluster.ensures ∙ c.requires)
 
 pub returns-clause-text : goal.returns-clause-text
 returns-clause-text g c =

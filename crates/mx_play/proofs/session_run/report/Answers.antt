@@ -5,7 +5,7 @@ use Rattle.mx_play.proofs.session_run.report.Goals as goal
 
 pub returns-clause-reports : goal.returns-clause-reports
 returns-clause-reports g c =
-    let message = string_bytes c.in_ok-message.message in
+    let message = string_bytes c.push_str.new.self in
     rw c.in-Some.is (reports_line c.args.number c.in-Some.fault (session_line c.args.number c.in-Some.fault message) (g.E.Output.written c.args.err.now) (g.E.Output.written c.write_line.new.out) (g.E.Output.written c.flush.new.self)
     (message, refl) c.in_ok-write_line.ensures.ok c.flush.ensures.same)
 

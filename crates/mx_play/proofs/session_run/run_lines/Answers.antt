@@ -10,7 +10,8 @@ pub loop-number-init : goal.loop-number-init
 loop-number-init g c =
     let s = c.args.setting.now in
     record {
-      run = running_first g.C.Exclusion.core (letter_text g.C.Msg.Letter.parts) g.C.Knowledge.knows s.plan.now s.shape.now c.args.first (g.L.Lines.rest c.args.lines.now) c.args.session.now (seen g.O.Output g.E.Output c.args.out.now c.args.err.now);
+      run = running_first g.C.Exclusion.core (letter_text g.C.Msg.Letter.parts) g.C.Knowledge.knows s.plan.now s.shape.now c.args.first (g.L.Lines.rest c.args.lines.now) c.args.session.now (seen g.O.Output g.E.Output c.args.out.now c.args.err.now)
+          (g.W.Store.stored c.args.store.now);
       is = c.requires;
       left = left_first c.args.first (g.L.Lines.readable c.args.lines.now);
       out_stays = refl;
@@ -27,7 +28,8 @@ loop-number-preserved g c =
     record {
       run = running_next g.C.Exclusion.core (letter_text g.C.Msg.Letter.parts) g.C.Knowledge.knows s.plan.now s.shape.now c.args.first l.number (g.L.Lines.rest c.args.lines.now) rest left c.in_ok-input.input c.as_slice.result.now
           c.args.session.now l.session (seen g.O.Output g.E.Output c.args.out.now c.args.err.now) (seen g.O.Output g.E.Output l.out l.err) (seen g.O.Output g.E.Output l.out c.read_input.new.err)
-          reads l.invariant.run refl c.in_ok-input.ensures.asks c.execute_input.new.session (seen g.O.Output g.E.Output c.print.new.out c.report.new.err) c.in_ok-turn.turn.fault _ c.in_default.not-Eof
+          (g.W.Store.stored c.args.store.now) (g.W.Store.stored l.store)
+          reads l.invariant.run refl c.in_ok-input.ensures.asks c.execute_input.new.session (seen g.O.Output g.E.Output c.print.new.out c.report.new.err) (g.W.Store.stored c.execute_input.new.store) c.in_ok-turn.turn.fault _ c.in_default.not-Eof
           c.in_ok-turn.ensures.does c.in_ok-print.ensures.printed c.in_ok-report.ensures.reports (sym c.is_end.ensures ∙ c.if-is_end.false);
       is = c.in_ok-turn.ensures.is;
       left = left_next c.args.first l.number (g.L.Lines.readable c.args.lines.now) (g.L.Lines.readable l.lines) (g.L.Lines.readable c.read_input.new.lines) c.in_ok-input.input c.in_default.not-Eof l.invariant.left c.in_ok-input.ensures.left;
@@ -44,7 +46,8 @@ returns-then-is_end-clause-run g c =
     let reads = subst (λ (bytes : List ℕ). ReadsInput s.plan.now rest c.in_ok-input.input bytes left) (sym c.as_slice.ensures.value) c.in_ok-input.ensures.reads in
     run_ended g.C.Exclusion.core (letter_text g.C.Msg.Letter.parts) g.C.Knowledge.knows s.plan.now s.shape.now c.args.first l.number (g.L.Lines.rest c.args.lines.now) rest left c.in_ok-input.input c.as_slice.result.now
     c.args.session.now l.session (seen g.O.Output g.E.Output c.args.out.now c.args.err.now) (seen g.O.Output g.E.Output l.out l.err) (seen g.O.Output g.E.Output l.out c.read_input.new.err)
-    reads l.invariant.run refl c.in_ok-input.ensures.asks c.execute_input.new.session (seen g.O.Output g.E.Output c.print.new.out c.report.new.err) c.in_ok-turn.turn.fault _ c.in_default.not-Eof
+    (g.W.Store.stored c.args.store.now) (g.W.Store.stored l.store)
+    reads l.invariant.run refl c.in_ok-input.ensures.asks c.execute_input.new.session (seen g.O.Output g.E.Output c.print.new.out c.report.new.err) (g.W.Store.stored c.execute_input.new.store) c.in_ok-turn.turn.fault _ c.in_default.not-Eof
     c.in_ok-turn.ensures.does c.in_ok-print.ensures.printed c.in_ok-report.ensures.reports (sym c.is_end.ensures ∙ c.if-is_end.true)
 
 pub returns-in-Eof-clause-run : goal.returns-in-Eof-clause-run
@@ -53,6 +56,7 @@ returns-in-Eof-clause-run g c =
     let l = c.loop-number in
     run_out g.C.Exclusion.core (letter_text g.C.Msg.Letter.parts) g.C.Knowledge.knows s.plan.now s.shape.now c.args.first l.number (g.L.Lines.rest c.args.lines.now) (g.L.Lines.rest l.lines) (g.L.Lines.rest c.read_input.new.lines)
     c.in_ok-input.input c.read_input.new.line.items c.args.session.now l.session (seen g.O.Output g.E.Output c.args.out.now c.args.err.now) (seen g.O.Output g.E.Output l.out l.err) (seen g.O.Output g.E.Output l.out c.read_input.new.err)
+    (g.W.Store.stored c.args.store.now) (g.W.Store.stored l.store)
     c.in_ok-input.ensures.reads l.invariant.run refl c.in_ok-input.ensures.asks c.in-Eof.is
 
 -- ---- what the outputs take does not change

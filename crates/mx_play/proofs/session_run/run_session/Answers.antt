@@ -22,7 +22,7 @@ returns-in-None-clause-played g c =
     let s = c.args.setting.now in
     whole_on_ok g.C.Exclusion.core (letter_text g.C.Msg.Letter.parts) g.C.Knowledge.knows s.plan.now s.shape.now c.args.script.now (g.L.Lines.rest c.args.lines.now)
     c.args.session.now c.run_lines.new.session (seen g.O.Output g.E.Output c.args.out.now c.args.err.now) (seen g.O.Output g.E.Output c.run_lines.new.out c.run_lines.new.err)
-    (seen g.O.Output g.E.Output c.finish-in-None.new.out c.run_lines.new.err) c.requires.start c.in_ok-number.ensures.is refl c.finish-in-None.result c.finish-in-None.ensures.closes
+    (seen g.O.Output g.E.Output c.finish-in-None.new.out c.run_lines.new.err) (g.W.Store.stored c.args.store.now) (g.W.Store.stored c.run_lines.new.store) c.requires.start c.in_ok-number.ensures.is refl c.finish-in-None.result c.finish-in-None.ensures.closes
     (rw c.in-None.is at c.in_ok-number.ensures.run)
 
 pub returns-in_ok-run_lines-in-Some-clause-played :
@@ -31,8 +31,8 @@ returns-in_ok-run_lines-in-Some-clause-played g c =
     let s = c.args.setting.now in
     rest_on_ok g.C.Exclusion.core (letter_text g.C.Msg.Letter.parts) g.C.Knowledge.knows s.plan.now s.shape.now c.args.script.now (g.L.Lines.rest c.args.lines.now)
     c.args.session.now c.run_lines-in-Some.new.session (seen g.O.Output g.E.Output c.args.out.now c.args.err.now) (seen g.O.Output g.E.Output c.run_lines-in-Some.new.out c.run_lines-in-Some.new.err)
-    (seen g.O.Output g.E.Output c.finish.new.out c.run_lines-in-Some.new.err) c.requires.start c.in_ok-run_lines-in-Some.ensures.is refl c.finish.result c.finish.ensures.closes
-    c.in-Some.number c.in_ok-run_lines-in-Some.field-0 c.run_lines.new.session (seen g.O.Output g.E.Output c.run_lines.new.out c.run_lines.new.err) (seen g.O.Output g.E.Output c.run_lines.new.out c.greet.new.err)
+    (seen g.O.Output g.E.Output c.finish.new.out c.run_lines-in-Some.new.err) (g.W.Store.stored c.args.store.now) (g.W.Store.stored c.run_lines-in-Some.new.store) c.requires.start c.in_ok-run_lines-in-Some.ensures.is refl c.finish.result c.finish.ensures.closes
+    c.in-Some.number c.in_ok-run_lines-in-Some.field-0 c.run_lines.new.session (seen g.O.Output g.E.Output c.run_lines.new.out c.run_lines.new.err) (seen g.O.Output g.E.Output c.run_lines.new.out c.greet.new.err) (g.W.Store.stored c.run_lines.new.store)
     (rw c.in-Some.is at c.in_ok-number.ensures.run) refl c.in_ok-greet-in-Some.ensures.asks c.in_ok-run_lines-in-Some.ensures.run
 
 pub returns-in_err-run_lines-in-Some-clause-stops :
