@@ -132,3 +132,13 @@ module _ {H S M : Type 0} (core : Core H S M) where
           listed = rest.listed ∙ ap (λ (l : List SessionEvent). l ++ es) one.listed ∙ append_assoc line.events.items (e ∷ []) es;
           printed = rest.printed ∙ ap (λ (l : Text). l ++ rest.made) one.printed ∙ append_assoc (string_bytes line.text) first rest.made;
         }
+
+    none_is_some : (e : SessionEvent) (es : List SessionEvent) → [] ≡ e ∷ es → ⊥
+    none_is_some e es is = cc
+
+    -- if none was added to a line that has none, nothing happened
+    pub told_none : (es : List SessionEvent) (old new : RunState S M) (line last : PrintedEvents) → IsTold core (AddsOne core letter_text p) es old new line last → line.events.items ≡ [] → last.events.items ≡ [] → new ≡ old
+    told_none [] old new line last x none empty = x.0
+    told_none (e ∷ es) old new line last x none empty =
+        let some = (told_adds (e ∷ es) old new line last x).listed ∙ ap (λ (l : List SessionEvent). l ++ e ∷ es) none in
+        absurd (none_is_some e es (sym empty ∙ some))

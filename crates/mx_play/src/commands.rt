@@ -126,6 +126,9 @@ where
             if let LineFailure::Memory = failure {
                 return Err(AllocError);
             }
+            if printed.is_empty() {
+                return Ok(Some(InputFault::Line(failure)));
+            }
             run_again(setting, session.lines.as_slice(), &mut session.state)?;
             Ok(Some(InputFault::Line(failure)))
         }

@@ -1,6 +1,6 @@
 //! The events of a line, and what is printed of them.
 
-ghost use Rattle.std.specs.Prelude.{◌≡◌, [], string_bytes};
+ghost use Rattle.std.specs.Prelude.{◌≡◌, [], true, string_bytes};
 ghost use Rattle.mx_format.specs.LetterTexts.{letter_text};
 ghost use Rattle.mx_play.specs.Executions.{line_text};
 ghost use Rattle.mx_play.specs.Sessions.{AddsOne};
@@ -31,6 +31,13 @@ impl PrintedEvents {
             events: Vec::new(alloc),
             text: String::new(alloc),
         }
+    }
+
+    /// Whether the line did nothing.
+    pub(crate) fn is_empty(&self) -> bool
+        ensures { result ≡ true → self.now.events.items ≡ [] }
+    {
+        self.events.is_empty()
     }
 
     /// Returns what is printed of the line: the text of its events, or that it has none.
