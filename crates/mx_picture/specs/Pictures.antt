@@ -38,7 +38,7 @@ IsDrawn p es end r = r ≡ ends end
 
 -- the same of a replay of these events, of a node that the plan has, or of all
 abbrev pub IsRunDrawnOn : Fields → List Event → Option (Option ℕ) → Report → Type 0
-IsRunDrawnOn p es (Some node) r = IsDrawn p es (run_by p p.shape es).end r
+IsRunDrawnOn p es (Some _) r = IsDrawn p es (run_by p p.shape es).end r
 IsRunDrawnOn p es None r = IsUnknown r
 
 abbrev pub IsRunDrawn : Part → Fields → List Event → Report → Type 0

@@ -29,7 +29,7 @@ IsTraceDrawn p text r =
     (λ fault. IsFaultReport fault r)
 
 abbrev pub IsTracePicturedBy : Option (Option ℕ) → Fields → Text → Report → Type 0
-IsTracePicturedBy (Some node) p text r = IsTraceDrawn p text r
+IsTracePicturedBy (Some _) p text r = IsTraceDrawn p text r
 IsTracePicturedBy None p text r = IsUnknown r
 
 -- a report of `picture --trace`: of the trace in a text, or the line that the plan lacks the named
