@@ -1,14 +1,12 @@
-use Rattle.std.proofs.Common.{◌≡◌, ◌∙◌, ◌++◌, [], List, ap, arith, length, refl, rules, string_bytes, subst, sym}
+use Rattle.std.proofs.Common.{◌≡◌, ◌∙◌, ◌++◌, [], ap, arith, length, refl, rules, string_bytes, subst, sym}
 use Rattle.std.proofs.lemmas.Grind.{common_steps}
 use Rattle.mx_plan.specs.Text.{Text}
 use Rattle.mx_format.specs.LetterTexts.{letter_text}
-use Rattle.mx_io.specs.Stored.{Stores}
-use Rattle.mx_play.specs.Executions.{CanRefuseLine, CanRefuseRedo, CanRefuseUndo, HasSaved, IsDone, IsRedone, IsUndone, Saved}
+use Rattle.mx_play.specs.Executions.{CanRefuseLine, CanRefuseRedo, CanRefuseUndo, IsDone, IsRedone, IsUndone}
 use Rattle.mx_play.specs.Sessions.{SessionState}
 use Rattle.mx_play.specs.Views.{mark_line}
 use Rattle.mx_play.proofs.ExpectationLemmas.{executed_expect, whatever}
 use Rattle.mx_play.proofs.StoreLemmas.{Stores-nil, executed_nothing, executed_save, stores_none}
-use Rattle.mx_play.specs.declared.session.DoneLine.{DoneLine}
 use Rattle.mx_play.proofs.commands.execute.Goals as goal
 
 pub do_line-requires : goal.do_line-requires
