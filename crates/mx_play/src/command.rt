@@ -18,7 +18,8 @@ use mx_io::{Output, Source, Store};
 use std::alloc::Global;
 
 /// Runs a command line that asks for `play`, without the program's name, on the lines of a session.
-/// Returns the exit status. For all other requests, writes nothing and returns 2.
+/// Stores what these save, and returns the exit status. For all other requests, writes nothing and
+/// returns 2.
 pub fn play<S: Source, L: Lines, W: Store, O: Output, E: Output>(
     alloc: Global,
     words: &[&str],
