@@ -1,11 +1,10 @@
 //! What follows the line of a fault: where the fault is, as `explain` says it first; or, for a
 //! reader at a terminal, the command that says so.
 
-use crate::remembered::Remembered;
-use mx_cli::{Names, Request, fetch_files, fetch_plan, parse, write_line};
+use crate::watched::Watched;
+use mx_cli::{Request, fetch_files, parse, write_line};
 use mx_explain::explain;
-use mx_io::{Output, Streams, Table};
-use mx_judge::trace_in;
+use mx_io::{Output, Streams};
 use std::alloc::Global;
 use std::rt::Files;
 use std::{fmt, fs};
@@ -114,7 +113,8 @@ fn too_few_sections<R: Files + Input>(
     let Request::Live(run) = request else {
         return None;
     };
-    let plan = fetch_plan(alloc, &mut Streams { rt }, run.plan).ok()?;
+    let files = mx_cli::Files::alone(run.plan);
+    let plan = fetch_files(alloc, &mut Streams { rt }, &files).ok()?.plan;
     let wanted = Wanted {
         nodes: plan.nodes(),
         each: run.sections,
@@ -124,36 +124,20 @@ fn too_few_sections<R: Files + Input>(
     is_too_few.then_some(wanted)
 }
 
-/// Writes that the trace of the command line `words` is empty, if it is.
+/// Writes that the trace of the command line `words` is empty, if that text has no object.
 pub(crate) fn tell_empty<R: Files + Input, E: Output>(
-    alloc: Global,
     words: &[&str],
-    source: &Remembered<'_, R>,
+    source: &Watched<'_, R>,
     err: &mut E,
 ) {
-    match parse(alloc, words) {
-        Ok(Some(Request::Judge { names, .. })) | Ok(Some(Request::PictureTrace(names, _)))
-            if is_empty_trace(alloc, source, &names) == Some(true) => {
-            let _ = err.put("mx: the trace is empty\n".as_bytes());
-        }
-        _ => {}
-    }
-}
-
-/// Whether the files that were read have a trace without an event; `None` if they are not
-/// remembered.
-fn is_empty_trace<R: Files + Input>(
-    alloc: Global,
-    source: &Remembered<'_, R>,
-    names: &Names<'_>,
-) -> Option<bool> {
-    let entries = source.entries(alloc).ok()?;
-    let mut table = Table {
-        entries: entries.as_slice(),
+    let reads_trace = match words.first() {
+        Some(&"judge") => true,
+        Some(&"picture") => words.contains(&"--trace"),
+        _ => false,
     };
-    let both = fetch_files(alloc, &mut table, &mx_cli::Files::of_trace(names)).ok()?;
-    let trace = trace_in(alloc, &both.plan, both.text.as_slice()).ok()?;
-    Some(trace.entries.is_empty())
+    if reads_trace && source.lacks_objects() {
+        let _ = err.put("mx: the trace is empty\n".as_bytes());
+    }
 }
 
 /// Whether the place of a fault follows its line: of most commands, only at a terminal. The faults of

@@ -5,11 +5,11 @@
 
 mod hints;
 mod patient;
-mod remembered;
+mod watched;
 
 use crate::hints::{tell_empty, tell_place};
 use crate::patient::Patient;
-use crate::remembered::Remembered;
+use crate::watched::Watched;
 use mx_dispatch::command;
 use mx_io::{Output, Stream, Streams, as_slices, given_words, status_of};
 use mx_jobs::Host;
@@ -24,7 +24,7 @@ use std::{env, io};
 fn carry_out<R: Files + Env + Input + AllocGlobal + Host, O: Output, E: Output>(
     rt: &R,
     words: &[&str],
-    source: &mut Remembered<'_, R>,
+    source: &mut Watched<'_, R>,
     out: &mut O,
     err: &mut E,
 ) -> u8
@@ -70,10 +70,10 @@ where
     let mut out = Stream::new(BufWriter::new(alloc, Patient::new(rt, out))?);
     // Without room, the buffer passes each line on at once.
     let mut err = Stream::new(BufWriter::with_capacity(alloc, 0, Patient::new(rt, err))?);
-    let mut source = Remembered::new(rt, alloc);
+    let mut source = Watched::new(rt);
     let status = carry_out(rt, words.as_slice(), &mut source, &mut out, &mut err);
     match status {
-        0 => tell_empty(alloc, words.as_slice(), &source, &mut err),
+        0 => tell_empty(words.as_slice(), &source, &mut err),
         1 => tell_place(rt, alloc, words.as_slice(), is_terminal, &mut err),
         _ => {}
     }
