@@ -102,8 +102,8 @@ pub fn fetch_both<S: Source>(
     fetch_both_for(alloc, source, names, Needs::All)
 }
 
-/// Reads the plan of the first name, of which only the needed keys have to be there, and returns it
-/// with the bytes of the second, as `fetch_both` does.
+/// Reads the plan of the first name and the bytes of the second, as `fetch_both` does. The plan may
+/// lack keys that are not needed.
 pub(crate) fn fetch_both_for<S: Source>(
     alloc: Global,
     source: &mut S,

@@ -80,7 +80,7 @@ module _ (P : Report → Type 0) (p : Fields) (name : Option Text) (o : Sight) w
   not_found lacks stop.Writer h = absurd h
 
 module _ (part : Part) (p : Fields) (es : List Event) where
-  -- a run of which a part is drawn
+  -- part of a run is drawn
   pub part_drawn : (only_letters : Bool) (shown : Shown) → option_map (part_on part only_letters) (node_in p part.node) ≡ Some shown → (r : Report) → IsDrawn p es (run_by p p.shape es).end r
       → IsRunDrawn part p es r
   part_drawn only_letters shown is r h =

@@ -34,7 +34,7 @@ module _ (p : Fields) (text : Text) where
       match_ok (λ (t : Listed). IsTraceShown p (place_word text) t r) (λ fault. IsFaultReport fault r) (trace_at p text) t read (subst (λ (w : Text). IsTraceShown p w t r) same h)
 
   module _ (part : Part) where
-    -- a trace of which a part is drawn
+    -- part of a trace is drawn
     pub known : (shown : Shown) → option_map (part_on part false) (node_in p part.node) ≡ Some shown → (r : Report) → IsTraceDrawn p text r → IsTracePictured part p text r
     known shown is r h = with_part (λ n. IsTracePicturedBy n p text r) part false shown (λ node. h) (node_in p part.node) is
 

@@ -21,7 +21,7 @@ module _ {K H S M : Type 0} (core : Core H S M)
       (mid : RunState S M) × (next : K) × IsAllowed old e × Brings core old e mid
       × noted recorder e old mid next × IsTold es mid new next last
 
-  -- memory ran out, or the recorder was told of all that led from one state to the other
+  -- the recorder was told of each event between the two states, unless memory ran out
   abbrev pub IsToldUnlessMemory : RunState S M → RunState S M → K → K → LineFailure → Type 0
   IsToldUnlessMemory old new recorder last why =
       (why ≡ failure.Memory) ⊎ ((es : List SessionEvent) × IsTold es old new recorder last)
