@@ -41,14 +41,18 @@ files_of f =
       names_texts = f.names_texts;
     }
 
+-- the file of a plan, and of a text that comes with it, if one is named
+abbrev pub files : Text → Option Text → Bool → Files
+files plan text names_texts =
+    record { plan = plan; needs = All; text = text; names_texts = names_texts }
+
 -- the file of a plan, without a text that comes with it
 abbrev pub alone : Text → Files
-alone plan = record { plan = plan; needs = All; text = None; names_texts = false }
+alone plan = files plan None false
 
 -- the files of these names
 abbrev pub both : Text × Text → Bool → Files
-both names names_texts =
-    record { plan = names.0; needs = All; text = Some names.1; names_texts = names_texts }
+both names names_texts = files names.0 (Some names.1) names_texts
 
 -- the files of a plan and a trace. Of the plan only the names count
 abbrev pub of_trace : Text × Text → Files

@@ -8,7 +8,7 @@ use Rattle.clap.specs.Faults.{fault_of}
 use Rattle.mx_cli.specs.Table.{mx_app}
 use Rattle.mx_cli.specs.Words.{asked_of, is_given, names_of, number_at}
 use Rattle.mx_cli.specs.declared.request.Conditions.{Conditions}
-use Rattle.mx_cli.specs.declared.request.LiveRequest.{LiveRequest as GivenLive}
+use Rattle.mx_cli.specs.declared.request.LiveOptions.{LiveOptions}
 use Rattle.mx_cli.specs.declared.request.Misfit.{Misfit}
 use Rattle.mx_cli.specs.declared.request.Misfit.TheVariants.{DrawWithoutWalk, ExploreWithoutWalk, FromAboveTo, TraceWithLetters, TraceWithScript, WalkWithCount, WalkWithJson}
 use Rattle.mx_cli.specs.declared.request.PicturePart.{PicturePart}
@@ -16,6 +16,9 @@ use Rattle.mx_cli.specs.declared.request.RandomRun.{RandomRun}
 use Rattle.mx_cli.specs.declared.request.ViewOptions.{ViewOptions}
 use Rattle.mx_cli.specs.declared.request.Request.{Request as Given}
 use Rattle.mx_cli.specs.declared.request.Request.TheVariants as given
+use Rattle.mx_cli.specs.declared.request.Task.{Task as GivenTask}
+use Rattle.mx_cli.specs.declared.request.Task.TheVariants as given_task
+use Rattle.mx_cli.specs.Frames.{Files, alone, both, files, files_of, of_trace}
 
 -- how a replay is shown
 pub record View : Type 0 where
@@ -30,32 +33,27 @@ pub record Part : Type 0 where
   pub to : ℕ
   pub node : Option Text
 
--- the name of the plan, how many sections each node enters, the seed, how many turns each may
--- take, after how many of its sections it settles its journal (0 for never), and whether progress
--- is to be reported
-pub record LiveRequest : Type 0 where
-  pub plan : Text
-  pub sections : ℕ
-  pub seed : ℕ
-  pub turns : ℕ
-  pub settle : ℕ
-  pub progress : Bool
+-- what a command does with its files. Flags stand in the order of their commands' help
+pub data Task : Type 0 where
+  check : Bool → Bool → Task
+  replay : View → Task
+  replay_script : View → Task
+  explore : RandomRun → Bool → Bool → Task
+  live : LiveOptions → Task
+  draw : RandomRun → Task
+  script : Task
+  play : Task
+  picture : Part → Bool → Task
+  picture_script : Part → Bool → Task
+  picture_trace : Part → Task
+  count : Bool → Task
+  count_script : Bool → Task
+  judge : Bool → Task
+  explain : Bool → Task
 
--- What the words ask for. Two texts are the names of the plan and of the text that comes with it.
--- Flags stand in the order of their commands' help
+-- what the words ask for: a command with its files, or options that do not go together
 pub data Request : Type 0 where
-  check : Text → Bool → Bool → Request
-  replay : Text × Text → View → Bool → Request
-  explore : Text → RandomRun → Bool → Bool → Request
-  live : LiveRequest → Request
-  draw : Text → RandomRun → Request
-  script : Text × Text → Request
-  play : Text → Option Text → Request
-  picture : Text × Text → Part → Bool → Bool → Request
-  picture_trace : Text × Text → Part → Request
-  count : Text × Text → Bool → Bool → Request
-  judge : Text × Text → Bool → Request
-  explain : Text → Option Text → Bool → Request
+  task : Files → Task → Request
   misfit : Misfit → Request
 
 abbrev pub text_of : Option (Bor Text) → Option Text
@@ -73,31 +71,25 @@ view_of v =
 abbrev pub part_of : PicturePart → Part
 part_of part = record { from = part.from; to = part.to; node = text_of part.node }
 
-abbrev pub live_request_of : GivenLive → LiveRequest
-live_request_of run =
-    record {
-      plan = run.plan.now;
-      sections = run.sections;
-      seed = run.seed;
-      turns = run.turns;
-      settle = run.settle;
-      progress = run.progress;
-    }
+abbrev pub task_of : GivenTask → Task
+task_of (given_task.Check has_asks is_json) = check has_asks is_json
+task_of (given_task.Replay view) = replay (view_of view)
+task_of (given_task.ReplayScript view) = replay_script (view_of view)
+task_of (given_task.Explore run has_counts is_json) = explore run has_counts is_json
+task_of (given_task.Live options) = live options
+task_of (given_task.Draw run) = draw run
+task_of given_task.Script = script
+task_of given_task.Play = play
+task_of (given_task.Picture part only_letters) = picture (part_of part) only_letters
+task_of (given_task.PictureScript part only_letters) = picture_script (part_of part) only_letters
+task_of (given_task.PictureTrace part) = picture_trace (part_of part)
+task_of (given_task.Count is_json) = count is_json
+task_of (given_task.CountScript is_json) = count_script is_json
+task_of (given_task.Judge is_json) = judge is_json
+task_of (given_task.Explain is_script) = explain is_script
 
 abbrev pub request_of : Given → Request
-request_of (given.Check plan has_asks is_json) = check plan.now has_asks is_json
-request_of (given.Replay names view is_script) = replay (names_of names) (view_of view) is_script
-request_of (given.Explore plan run has_counts is_json) = explore plan.now run has_counts is_json
-request_of (given.Live run) = live (live_request_of run)
-request_of (given.Draw plan run) = draw plan.now run
-request_of (given.Script names) = script (names_of names)
-request_of (given.Play plan first) = play plan.now (text_of first)
-request_of (given.Picture names part only_letters is_script) =
-    picture (names_of names) (part_of part) only_letters is_script
-request_of (given.PictureTrace names part) = picture_trace (names_of names) (part_of part)
-request_of (given.Count names is_json is_script) = count (names_of names) is_json is_script
-request_of (given.Judge names is_json) = judge (names_of names) is_json
-request_of (given.Explain plan second is_script) = explain plan.now (text_of second) is_script
+request_of (given.Task files asked) = task (files_of files) (task_of asked)
 request_of (given.Misfit reason) = misfit reason
 
 -- ---- what each command asks for, by what was given for its arguments
@@ -115,7 +107,9 @@ number_or id other rows = unwrap_or (number_at id rows) other
 -- `check`
 abbrev pub check_in : List Row → Option Request
 check_in rows =
-    option_map (λ plan. check plan (is_given (codes "asks") rows) (is_given (codes "json") rows))
+    option_map
+    (λ plan. task (alone plan)
+    (check (is_given (codes "asks") rows) (is_given (codes "json") rows)))
     (first_of (codes "PLAN") rows)
 
 -- `replay`
@@ -128,9 +122,17 @@ view_in rows =
       has_state = is_given (codes "state") rows;
     }
 
+-- something else than the plain lines is shown
+abbrev pub has_options : View → Bool
+has_options o = o.is_quiet || option_map_or (λ _. true) o.node false || o.is_json || o.has_state
+
+-- without options, the fault that a text is not JSON does not say which text that is
 abbrev pub replay_in : List Row → Option Request
 replay_in rows =
-    option_map (λ names. replay names (view_in rows) (is_given (codes "script") rows))
+    option_map
+    (λ names. task (both names (has_options (view_in rows)))
+    (if is_given (codes "script") rows then replay_script (view_in rows)
+    else replay (view_in rows)))
     (names_in (codes "EVENTS") rows)
 
 -- an option of a walk was given
@@ -173,10 +175,13 @@ misfit_in rows =
     else None
 
 -- `explore`
+abbrev pub exploration : List Row → RandomRun → Task
+exploration rows run =
+    explore run (is_given (codes "count") rows) (is_given (codes "json") rows)
+
 abbrev pub exploring : List Row → Text → RandomRun → Request
 exploring rows plan run =
-    option_map_or misfit (misfit_in rows)
-    (explore plan run (is_given (codes "count") rows) (is_given (codes "json") rows))
+    option_map_or misfit (misfit_in rows) (task (alone plan) (exploration rows run))
 
 abbrev pub explore_in : List Row → Option Request
 explore_in rows =
@@ -184,10 +189,9 @@ explore_in rows =
     (first_of (codes "PLAN") rows)
 
 -- `live`; without options, the seed 1, 10,000,000 turns, and no settling
-abbrev pub live_of : List Row → Text → ℕ → LiveRequest
-live_of rows plan sections =
+abbrev pub live_of : List Row → ℕ → LiveOptions
+live_of rows sections =
     record {
-      plan = plan;
       sections = sections;
       seed = number_or (codes "seed") 1 rows;
       turns = number_or (codes "turns") 10000000 rows;
@@ -198,24 +202,30 @@ live_of rows plan sections =
 abbrev pub live_in : List Row → Option Request
 live_in rows =
     option_and_then
-    (λ plan. option_map (λ n. live (live_of rows plan n)) (number_at (codes "sections") rows))
+    (λ plan. option_map (λ n. task (alone plan) (live (live_of rows n)))
+    (number_at (codes "sections") rows))
     (first_of (codes "PLAN") rows)
 
 -- `draw`; without `--walk`, options of a walk do not go with it
 abbrev pub drawing : List Row → Text → RandomRun → Request
 drawing rows plan run =
     if not (is_given (codes "walk") rows) && has_conditions rows then misfit DrawWithoutWalk
-    else draw plan run
+    else task (alone plan) (draw run)
 
 abbrev pub draw_in : List Row → Option Request
 draw_in rows =
     option_and_then (λ plan. option_map (drawing rows plan) (run_in rows))
     (first_of (codes "PLAN") rows)
 
+-- `script`
+abbrev pub script_in : List Row → Option Request
+script_in rows = option_map (λ names. task (both names true) script) (names_in (codes "SCRIPT") rows)
+
 -- `play`
 abbrev pub play_in : List Row → Option Request
 play_in rows =
-    option_map (λ plan. play plan (first_of (codes "SCRIPT") rows)) (first_of (codes "PLAN") rows)
+    option_map (λ plan. task (files plan (first_of (codes "SCRIPT") rows) false) play)
+    (first_of (codes "PLAN") rows)
 
 -- `picture`; without `--from` and `--to`, of all events
 abbrev pub part_in : List Row → Part
@@ -231,12 +241,14 @@ abbrev pub picture_trace_of : List Row → Text × Text → Part → Request
 picture_trace_of rows names part =
     if is_given (codes "letters") rows then misfit TraceWithLetters
     else if is_given (codes "script") rows then misfit TraceWithScript
-    else picture_trace names part
+    else task (of_trace names) (picture_trace part)
 
 abbrev pub picture_of : List Row → Text × Text → Part → Request
 picture_of rows names part =
     if is_given (codes "trace") rows then picture_trace_of rows names part
-    else picture names part (is_given (codes "letters") rows) (is_given (codes "script") rows)
+    else task (both names true)
+    (if is_given (codes "script") rows then picture_script part (is_given (codes "letters") rows)
+    else picture part (is_given (codes "letters") rows))
 
 -- `--from` is not above `--to`
 abbrev pub picturing : List Row → Text × Text → Request
@@ -252,20 +264,24 @@ picture_in rows = option_map (picturing rows) (names_in (codes "EVENTS") rows)
 abbrev pub count_in : List Row → Option Request
 count_in rows =
     option_map
-    (λ names. count names (is_given (codes "json") rows) (is_given (codes "script") rows))
+    (λ names. task (both names true)
+    (if is_given (codes "script") rows then count_script (is_given (codes "json") rows)
+    else count (is_given (codes "json") rows)))
     (names_in (codes "EVENTS") rows)
 
 -- `judge`
 abbrev pub judge_in : List Row → Option Request
 judge_in rows =
-    option_map (λ names. judge names (is_given (codes "json") rows))
+    option_map (λ names. task (of_trace names) (judge (is_given (codes "json") rows)))
     (names_in (codes "TRACE") rows)
 
 -- `explain`
 abbrev pub explain_in : List Row → Option Request
 explain_in rows =
     option_map
-    (λ plan. explain plan (first_of (codes "EVENTS") rows) (is_given (codes "script") rows))
+    (λ plan. task
+    (files plan (first_of (codes "EVENTS") rows) (is_given (codes "script") rows))
+    (explain (is_given (codes "script") rows)))
     (first_of (codes "PLAN") rows)
 
 -- what the command that was met asks for
@@ -277,7 +293,7 @@ request_in (Some p) =
     else if bytes_eq p.0 (codes "explore") then explore_in p.1
     else if bytes_eq p.0 (codes "live") then live_in p.1
     else if bytes_eq p.0 (codes "draw") then draw_in p.1
-    else if bytes_eq p.0 (codes "script") then option_map script (names_in (codes "SCRIPT") p.1)
+    else if bytes_eq p.0 (codes "script") then script_in p.1
     else if bytes_eq p.0 (codes "play") then play_in p.1
     else if bytes_eq p.0 (codes "picture") then picture_in p.1
     else if bytes_eq p.0 (codes "count") then count_in p.1

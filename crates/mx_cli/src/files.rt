@@ -1,13 +1,13 @@
 //! The files of a command.
 
-ghost use Rattle.std.specs.Prelude.{◌≡◌, [], ◌∷◌, IfErr, Some};
+ghost use Rattle.std.specs.Prelude.{◌≡◌, [], ◌∷◌, IfErr, Some, option_map};
 ghost use Rattle.mx_io.specs.Told.{Asks};
 ghost use Rattle.mx_cli.specs.Reading.{IsUnread, ReadsBoth};
 ghost use Rattle.mx_cli.specs.Words.{names_of};
 ghost use Rattle.mx_cli.specs.Frames as spec;
 
 use crate::faults::{Fault, Named};
-use crate::planning::{PlanAndText, fetch_both_for, fetch_plan_for};
+use crate::planning::{PlanAndText, fetch_both, fetch_plan};
 use crate::request::Names;
 use crate::stop::Stop;
 use mx_io::Source;
@@ -27,28 +27,31 @@ pub struct Files<'a> {
 }
 
 impl<'a> Files<'a> {
-    /// Returns the file of a plan, without a text that comes with it.
-    pub fn alone(plan: &'a str) -> Files<'a>
-        ensures { spec.files_of result ≡ spec.alone plan.now }
+    /// Returns the file of a plan, and of a text that comes with it, if one is named.
+    pub fn new(plan: &'a str, text: Option<&'a str>, names_texts: bool) -> Files<'a>
+        ensures { spec.files_of result
+            ≡ spec.files plan.now (option_map (λ name. name.now) text.entry) names_texts }
     {
         Files {
             plan,
             needs: Needs::All,
-            text: None,
-            names_texts: false,
+            text,
+            names_texts,
         }
+    }
+
+    /// Returns the file of a plan, without a text that comes with it.
+    pub fn alone(plan: &'a str) -> Files<'a>
+        ensures { spec.files_of result ≡ spec.alone plan.now }
+    {
+        Files::new(plan, None, false)
     }
 
     /// Returns the files of a plan and of the text that comes with it.
     pub fn both(names: &Names<'a>, names_texts: bool) -> Files<'a>
         ensures { spec.files_of result ≡ spec.both (names_of names.now) names_texts }
     {
-        Files {
-            plan: names.plan,
-            needs: Needs::All,
-            text: Some(names.events),
-            names_texts,
-        }
+        Files::new(names.plan, Some(names.events), names_texts)
     }
 
     /// Returns the files of a plan and of a trace. Of the plan only the names of nodes and registers
@@ -97,7 +100,7 @@ pub fn fetch_files<S: Source>(
                 plan: files.plan,
                 events: text,
             };
-            fetch_both_for(alloc, source, &names, files.needs)
+            fetch_both(alloc, source, &names, files.needs)
         }
         None => fetch_alone(alloc, source, files.plan, files.needs),
     }
@@ -114,7 +117,7 @@ fn fetch_alone<S: Source>(
     ensures asks { Asks (S.asked source.old) (S.asked source.new) (name.now ∷ []) }
     ensures unread { IfErr result IsUnread }
 {
-    match fetch_plan_for(alloc, source, name, needs) {
+    match fetch_plan(alloc, source, name, needs) {
         Ok(plan) => Ok(PlanAndText {
             plan,
             text: Vec::new(alloc),

@@ -4,7 +4,7 @@ ghost use Rattle.std.specs.Prelude.{◌≡◌, ◌≤◌, ◌==◌, ◌&&◌, []
 ghost use Rattle.std.specs.List.{after_first, before_first, position_or_len};
 ghost use Rattle.mx_io.specs.Told.{Asks};
 ghost use Rattle.mx_cli.specs.Asked.{AsksBoth, AsksInTurn};
-ghost use Rattle.mx_cli.specs.Reading.{Fetches, IsUnread, Reads, ReadsBoth, ReadsFor, is_dash, line_of, plan_told, rest_of, text_told};
+ghost use Rattle.mx_cli.specs.Reading.{Fetches, IsUnread, ReadsBoth, ReadsFor, is_dash, line_of, plan_told, rest_of, text_told};
 ghost use Rattle.mx_cli.specs.Words.{names_of};
 
 use crate::faults::{Fault, Named};
@@ -40,19 +40,9 @@ pub fn fetch<S: Source>(
     }
 }
 
-/// Reads the plan that the source has under a name. What the source has under its names does not
-/// change.
-pub fn fetch_plan<S: Source>(alloc: Global, source: &mut S, name: &str) -> Result<Plan, Stop>
-    ensures told { IfSome (S.told source.old name.now) (λ telling. Reads telling result) }
-    ensures asks { Asks (S.asked source.old) (S.asked source.new) (name.now ∷ []) }
-    ensures unread { IfErr result IsUnread }
-    ensures stays { S.told source.new ≡ S.told source.old }
-{
-    fetch_plan_for(alloc, source, name, Needs::All)
-}
-
-/// Reads the plan that the source has under a name. Only the needed keys have to be there.
-pub(crate) fn fetch_plan_for<S: Source>(
+/// Reads the plan that the source has under a name. Only the needed keys have to be there. What the
+/// source has under its names does not change.
+pub fn fetch_plan<S: Source>(
     alloc: Global,
     source: &mut S,
     name: &str,
@@ -64,18 +54,11 @@ pub(crate) fn fetch_plan_for<S: Source>(
     ensures stays { S.told source.new ≡ S.told source.old }
 {
     let bytes = fetch(alloc, source, name, Named::Plan)?;
-    plan_for(alloc, bytes.as_slice(), needs)
+    plan_in(alloc, bytes.as_slice(), needs)
 }
 
-/// Reads a plan from its text.
-pub fn plan_in(alloc: Global, text: &[u8]) -> Result<Plan, Stop>
-    ensures read { Reads (Some text.now) result }
-    ensures unread { IfErr result IsUnread }
-{
-    plan_for(alloc, text, Needs::All)
-}
-
-fn plan_for(alloc: Global, text: &[u8], needs: Needs) -> Result<Plan, Stop>
+/// Reads a plan from its text. Only the needed keys have to be there.
+pub fn plan_in(alloc: Global, text: &[u8], needs: Needs) -> Result<Plan, Stop>
     ensures read { ReadsFor needs (Some text.now) result }
     ensures unread { IfErr result IsUnread }
 {
@@ -88,23 +71,9 @@ fn plan_for(alloc: Global, text: &[u8], needs: Needs) -> Result<Plan, Stop>
 /// Reads the plan of the first name, and returns it with the bytes of the second. If both names are
 /// `-`, the first line of standard input is the plan, and the rest is what comes with it. A fault
 /// of the plan is returned rather than that the second name can't be read. Each name is read once,
-/// the plan's first. If both are `-`, standard input is read once.
+/// the plan's first. If both are `-`, standard input is read once. The plan may lack keys that are
+/// not needed.
 pub fn fetch_both<S: Source>(
-    alloc: Global,
-    source: &mut S,
-    names: &Names<'_>,
-) -> Result<PlanAndText, Stop>
-    ensures read { ReadsBoth Needs.All (plan_told (S.told source.old) (names_of names.now))
-        (text_told (S.told source.old) (names_of names.now)) result }
-    ensures asks { AsksBoth (names_of names.now) (S.asked source.old) (S.asked source.new) result }
-    ensures unread { IfErr result IsUnread }
-{
-    fetch_both_for(alloc, source, names, Needs::All)
-}
-
-/// Reads the plan of the first name and the bytes of the second, as `fetch_both` does. The plan may
-/// lack keys that are not needed.
-pub(crate) fn fetch_both_for<S: Source>(
     alloc: Global,
     source: &mut S,
     names: &Names<'_>,
@@ -143,7 +112,7 @@ fn both_in(alloc: Global, bytes: &[u8], needs: Needs) -> Result<PlanAndText, Sto
     ensures unread { IfErr result IsUnread }
 {
     let (line, rest) = split_line(bytes);
-    let plan = plan_for(alloc, line, needs)?;
+    let plan = plan_in(alloc, line, needs)?;
     let text = Vec::from_slice(alloc, rest)?;
     Ok(PlanAndText { plan, text })
 }
@@ -159,7 +128,7 @@ fn fetch_two<S: Source>(
     ensures asks { AsksInTurn (names_of names.now) (S.asked source.old) (S.asked source.new) result }
     ensures unread { IfErr result IsUnread }
 {
-    let plan = fetch_plan_for(alloc, source, names.plan, needs)?;
+    let plan = fetch_plan(alloc, source, names.plan, needs)?;
     let text = fetch(alloc, source, names.events, Named::Events)?;
     Ok(PlanAndText { plan, text })
 }

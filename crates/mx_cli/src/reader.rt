@@ -6,9 +6,10 @@ ghost use Rattle.mx_cli.specs.Table.{mx_app};
 ghost use Rattle.mx_cli.specs.Words.{Asks, is_given, names_of, number_at, texts_of};
 ghost use Rattle.mx_cli.specs.Requests as spec;
 
+use crate::files::Files;
 use crate::line::{matches_of, whole_line};
 use crate::request::{
-    Conditions, LiveRequest, Misfit, Names, PicturePart, RandomRun, Request, ViewOptions,
+    Conditions, LiveOptions, Misfit, Names, PicturePart, RandomRun, Request, Task, ViewOptions,
 };
 use clap::{ArgMatches, Error};
 use std::alloc::Global;
@@ -60,7 +61,7 @@ fn request_in<'a>(name: &str, matches: &ArgMatches<'a>) -> Option<Request<'a>>
         "explore" => explore_in(matches),
         "live" => live_in(matches),
         "draw" => draw_in(matches),
-        "script" => names_in(matches, "SCRIPT").map(Request::Script),
+        "script" => script_in(matches),
         "play" => play_in(matches),
         "picture" => picture_in(matches),
         "count" => count_in(matches),
@@ -74,11 +75,11 @@ fn check_in<'a>(matches: &ArgMatches<'a>) -> Option<Request<'a>>
     ensures { option_map spec.request_of result ≡ spec.check_in (rows_of (found_of matches.now)) }
 {
     let plan = text_at(matches, "PLAN")?;
-    Some(Request::Check {
-        plan,
+    let check = Task::Check {
         has_asks: is_given(matches, "asks"),
         is_json: is_given(matches, "json"),
-    })
+    };
+    Some(Request::Task(Files::alone(plan), check))
 }
 
 fn replay_in<'a>(matches: &ArgMatches<'a>) -> Option<Request<'a>>
@@ -91,11 +92,12 @@ fn replay_in<'a>(matches: &ArgMatches<'a>) -> Option<Request<'a>>
         is_json: is_given(matches, "json"),
         has_state: is_given(matches, "state"),
     };
-    Some(Request::Replay {
-        names,
-        view,
-        is_script: is_given(matches, "script"),
-    })
+    let replay = if is_given(matches, "script") {
+        Task::ReplayScript(view)
+    } else {
+        Task::Replay(view)
+    };
+    Some(Request::Task(Files::both(&names, view.is_any()), replay))
 }
 
 fn explore_in<'a>(matches: &ArgMatches<'a>) -> Option<Request<'a>>
@@ -105,13 +107,18 @@ fn explore_in<'a>(matches: &ArgMatches<'a>) -> Option<Request<'a>>
     let run = run_in(matches)?;
     Some(match misfit_in(matches) {
         Some(misfit) => Request::Misfit(misfit),
-        None => Request::Explore {
-            plan,
-            run,
-            has_counts: is_given(matches, "count"),
-            is_json: is_given(matches, "json"),
-        },
+        None => Request::Task(Files::alone(plan), explore_of(matches, run)),
     })
+}
+
+fn explore_of<'a>(matches: &ArgMatches<'_>, run: RandomRun) -> Task<'a>
+    ensures { spec.task_of result ≡ spec.exploration (rows_of (found_of matches.now)) run }
+{
+    Task::Explore {
+        run,
+        has_counts: is_given(matches, "count"),
+        is_json: is_given(matches, "json"),
+    }
 }
 
 /// Returns why the options of `explore` do not go together, if they do not.
@@ -132,14 +139,14 @@ fn live_in<'a>(matches: &ArgMatches<'a>) -> Option<Request<'a>>
 {
     let plan = text_at(matches, "PLAN")?;
     let sections = number_at(matches, "sections")?;
-    Some(Request::Live(LiveRequest {
-        plan,
+    let live = Task::Live(LiveOptions {
         sections,
         seed: number_or(matches, "seed", LINK_SEED),
         turns: number_or(matches, "turns", TURNS),
         settle: number_or(matches, "settle", 0),
         progress: is_given(matches, "progress"),
-    }))
+    });
+    Some(Request::Task(Files::alone(plan), live))
 }
 
 fn draw_in<'a>(matches: &ArgMatches<'a>) -> Option<Request<'a>>
@@ -150,7 +157,7 @@ fn draw_in<'a>(matches: &ArgMatches<'a>) -> Option<Request<'a>>
     if run.conditions.is_none() && has_conditions(matches) {
         return Some(Request::Misfit(Misfit::DrawWithoutWalk));
     }
-    Some(Request::Draw { plan, run })
+    Some(Request::Task(Files::alone(plan), Task::Draw(run)))
 }
 
 /// Returns the run that the arguments ask for, if its seed and its steps are given.
@@ -196,14 +203,19 @@ fn has_conditions(matches: &ArgMatches<'_>) -> bool
         || is_given(matches, "in-order")
 }
 
+fn script_in<'a>(matches: &ArgMatches<'a>) -> Option<Request<'a>>
+    ensures { option_map spec.request_of result ≡ spec.script_in (rows_of (found_of matches.now)) }
+{
+    let names = names_in(matches, "SCRIPT")?;
+    Some(Request::Task(Files::both(&names, true), Task::Script))
+}
+
 fn play_in<'a>(matches: &ArgMatches<'a>) -> Option<Request<'a>>
     ensures { option_map spec.request_of result ≡ spec.play_in (rows_of (found_of matches.now)) }
 {
     let plan = text_at(matches, "PLAN")?;
-    Some(Request::Play {
-        plan,
-        script: text_at(matches, "SCRIPT"),
-    })
+    let files = Files::new(plan, text_at(matches, "SCRIPT"), false);
+    Some(Request::Task(files, Task::Play))
 }
 
 fn picture_in<'a>(matches: &ArgMatches<'a>) -> Option<Request<'a>>
@@ -225,12 +237,13 @@ fn picture_of<'a>(matches: &ArgMatches<'a>, names: Names<'a>, part: PicturePart<
     if is_given(matches, "trace") {
         return picture_trace_of(matches, names, part);
     }
-    Request::Picture {
-        names,
-        part,
-        only_letters: is_given(matches, "letters"),
-        is_script: is_given(matches, "script"),
-    }
+    let only_letters = is_given(matches, "letters");
+    let picture = if is_given(matches, "script") {
+        Task::PictureScript { part, only_letters }
+    } else {
+        Task::Picture { part, only_letters }
+    };
+    Request::Task(Files::both(&names, true), picture)
 }
 
 fn picture_trace_of<'a>(
@@ -248,7 +261,7 @@ fn picture_trace_of<'a>(
     if is_given(matches, "script") {
         return Request::Misfit(Misfit::TraceWithScript);
     }
-    Request::PictureTrace(names, part)
+    Request::Task(Files::of_trace(&names), Task::PictureTrace(part))
 }
 
 /// Returns the part that the arguments of a picture give: all events, without such arguments.
@@ -266,32 +279,30 @@ fn count_in<'a>(matches: &ArgMatches<'a>) -> Option<Request<'a>>
     ensures { option_map spec.request_of result ≡ spec.count_in (rows_of (found_of matches.now)) }
 {
     let names = names_in(matches, "EVENTS")?;
-    Some(Request::Count {
-        names,
-        is_json: is_given(matches, "json"),
-        is_script: is_given(matches, "script"),
-    })
+    let is_json = is_given(matches, "json");
+    let count = if is_given(matches, "script") {
+        Task::CountScript { is_json }
+    } else {
+        Task::Count { is_json }
+    };
+    Some(Request::Task(Files::both(&names, true), count))
 }
 
 fn judge_in<'a>(matches: &ArgMatches<'a>) -> Option<Request<'a>>
     ensures { option_map spec.request_of result ≡ spec.judge_in (rows_of (found_of matches.now)) }
 {
     let names = names_in(matches, "TRACE")?;
-    Some(Request::Judge {
-        names,
-        is_json: is_given(matches, "json"),
-    })
+    let is_json = is_given(matches, "json");
+    Some(Request::Task(Files::of_trace(&names), Task::Judge { is_json }))
 }
 
 fn explain_in<'a>(matches: &ArgMatches<'a>) -> Option<Request<'a>>
     ensures { option_map spec.request_of result ≡ spec.explain_in (rows_of (found_of matches.now)) }
 {
     let plan = text_at(matches, "PLAN")?;
-    Some(Request::Explain {
-        plan,
-        second: text_at(matches, "EVENTS"),
-        is_script: is_given(matches, "script"),
-    })
+    let is_script = is_given(matches, "script");
+    let files = Files::new(plan, text_at(matches, "EVENTS"), is_script);
+    Some(Request::Task(files, Task::Explain { is_script }))
 }
 
 /// Returns the names of the plan, and of the text that the argument `id` names.

@@ -1,5 +1,9 @@
 //! What the words of a command line ask for.
 
+ghost use Rattle.std.specs.Prelude.{◌≡◌};
+ghost use Rattle.mx_cli.specs.Requests.{has_options, view_of};
+
+use crate::files::Files;
 use std::fmt;
 
 /// The names of a plan and of its events, or of a script or a trace in place of events. The name
@@ -41,6 +45,15 @@ pub struct ViewOptions<'a> {
     pub has_state: bool,
 }
 
+impl ViewOptions<'_> {
+    /// Whether something else than the plain lines is shown.
+    pub(crate) fn is_any(&self) -> bool
+        ensures { result ≡ has_options (view_of self.now) }
+    {
+        self.is_quiet || self.node.is_some() || self.is_json || self.has_state
+    }
+}
+
 /// The events that a picture shows: from an index to an index, which is included, and of all nodes
 /// or of the named one.
 #[derive(Clone, Copy)]
@@ -50,16 +63,18 @@ pub struct PicturePart<'a> {
     pub node: Option<&'a str>,
 }
 
-/// What `live` is to run: the name of a plan, how many sections each node enters, the seed of
-/// the first node's links, how many turns each node may take, after how many of its sections each
-/// node settles its journal (0 for never), and whether progress is reported on standard error.
+/// How `live` runs.
 #[derive(Clone, Copy)]
-pub struct LiveRequest<'a> {
-    pub plan: &'a str,
+pub struct LiveOptions {
+    /// How many sections each node enters.
     pub sections: u64,
+    /// The seed of the links to node 0. That of the links to node i is greater by i (modulo 2^64).
     pub seed: u64,
+    /// How many turns each node may take.
     pub turns: u64,
+    /// After how many of its own sections each node settles its journal, or 0 for never.
     pub settle: u64,
+    /// Whether progress is reported on standard error.
     pub progress: bool,
 }
 
@@ -115,61 +130,56 @@ impl fmt::Display for Misfit {
     }
 }
 
-/// What a command line asks for.
+/// What a command does with its files.
 #[derive(Clone, Copy)]
-pub enum Request<'a> {
+pub enum Task<'a> {
     Check {
-        plan: &'a str,
         has_asks: bool,
         is_json: bool,
     },
-    Replay {
-        names: Names<'a>,
-        view: ViewOptions<'a>,
-        /// Whether a script comes in place of events.
-        is_script: bool,
-    },
+    Replay(ViewOptions<'a>),
+    /// `replay` with `--script`.
+    ReplayScript(ViewOptions<'a>),
     Explore {
-        plan: &'a str,
         run: RandomRun,
         has_counts: bool,
         is_json: bool,
     },
-    Live(LiveRequest<'a>),
-    Draw {
-        plan: &'a str,
-        run: RandomRun,
-    },
-    /// The second name is that of the script.
-    Script(Names<'a>),
-    Play {
-        plan: &'a str,
-        script: Option<&'a str>,
-    },
+    Live(LiveOptions),
+    Draw(RandomRun),
+    Script,
+    Play,
     Picture {
-        names: Names<'a>,
         part: PicturePart<'a>,
         /// Whether only letters are shown.
         only_letters: bool,
-        is_script: bool,
     },
-    /// `picture` with `--trace`. The second name is that of the trace.
-    PictureTrace(Names<'a>, PicturePart<'a>),
+    /// `picture` with `--script`.
+    PictureScript {
+        part: PicturePart<'a>,
+        only_letters: bool,
+    },
+    /// `picture` with `--trace`.
+    PictureTrace(PicturePart<'a>),
     Count {
-        names: Names<'a>,
         is_json: bool,
-        is_script: bool,
+    },
+    /// `count` with `--script`.
+    CountScript {
+        is_json: bool,
     },
     Judge {
-        /// The second name is that of the trace.
-        names: Names<'a>,
         is_json: bool,
     },
     Explain {
-        plan: &'a str,
-        /// The name of the events, or of the script.
-        second: Option<&'a str>,
         is_script: bool,
     },
+}
+
+/// What a command line asks for.
+#[derive(Clone, Copy)]
+pub enum Request<'a> {
+    /// A command, with its files.
+    Task(Files<'a>, Task<'a>),
     Misfit(Misfit),
 }

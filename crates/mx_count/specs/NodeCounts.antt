@@ -1,6 +1,6 @@
 -- The counts of each node of a cluster.
-use Rattle.std.specs.Prelude.{ℕ, zero, suc, ◌&&◌, ◌++◌, Bool, true, false, List, [], ◌∷◌, Option, Some, None, codes, nat_eq, slice_get}
-use Rattle.std.specs.List.{count_by}
+use Rattle.std.specs.Prelude.{ℕ, ◌&&◌, Bool, true, false, List, [], ◌∷◌, Option, Some, None, codes, nat_eq, slice_get}
+use Rattle.std.specs.List.{count_by, flat_map, range_with_len}
 use Rattle.mx_events.specs.Events.{node_of}
 use Rattle.mx_events.specs.declared.event.Event.{Event}
 use Rattle.mx_events.specs.declared.event.Event.TheVariants.{Deliver}
@@ -66,5 +66,4 @@ rows_of_node g i =
     ∷ (Next, codes "refused", Number (refused_of i g)) ∷ []
 
 abbrev pub node_rows : {S M : Type 0} → ClusterState S M → ℕ → List Row
-node_rows g zero = []
-node_rows g (suc n) = node_rows g n ++ rows_of_node g n
+node_rows g n = flat_map (rows_of_node g) (range_with_len 0 n)

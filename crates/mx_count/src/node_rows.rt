@@ -1,6 +1,6 @@
 //! The rows of each node.
 
-ghost use Rattle.std.specs.Prelude.{◌≡◌, ◌<◌, ◌++◌, OnOk, length, slice_get};
+ghost use Rattle.std.specs.Prelude.{◌≡◌, ◌++◌, OnOk, length, slice_get};
 ghost use Rattle.std.specs.List.{count_by};
 ghost use Rattle.mx_count.specs.NodeCounts.{is_addressee, is_delivered_to, is_entry, is_entry_of, is_node, is_refusal_of, node_rows, rows_of_node};
 ghost use Rattle.mx_count.specs.Rows.{rows_of};
@@ -13,7 +13,7 @@ use mx_format::Letter;
 use mx_network::{Cluster, Entry, Event, Outcome};
 use mx_nodelaws::Exclusion;
 use mx_plan::Plan;
-use mx_stamps::{MAX_NODES, NodeId};
+use mx_stamps::NodeId;
 use std::alloc::AllocError;
 
 /// Adds the rows of all nodes, in the order of the plan.
@@ -27,24 +27,22 @@ where
     ensures { OnOk result (rows_of rows.new.items ≡ rows_of rows.old.items
         ++ node_rows cluster.now (length plan.now.nodes)) }
 {
-    for i in 0..plan.nodes() {
-        add_rows_of(cluster, i, rows)?;
+    for node in plan.node_ids() {
+        add_rows_of(cluster, node, rows)?;
     }
     Ok(())
 }
 
 fn add_rows_of<C: Exclusion>(
     cluster: &Cluster<C>,
-    i: u8,
+    node: NodeId,
     rows: &mut Vec<Row<'_>>,
 ) -> Result<(), AllocError>
 where
     C::Msg: Letter,
-    requires { i < MAX_NODES }
     ensures { OnOk result (rows_of rows.new.items
-        ≡ rows_of rows.old.items ++ rows_of_node cluster.now i) }
+        ≡ rows_of rows.old.items ++ rows_of_node cluster.now node) }
 {
-    let node = NodeId::of(i).unwrap();
     let trace = cluster.trace();
     let entered = Value::Number(entries_of(trace, node));
     let sent = Value::Number(count_parcels(cluster, &Group::SentBy(node)));

@@ -6,6 +6,7 @@ use Rattle.std.specs.Prelude.{if◌then◌else◌, slice_index_or}
 use Rattle.std.proofs.lemmas.Bool.Decides.{nat_tests}
 use Rattle.rand_pcg.specs.Lcg.{Lcg}
 use Rattle.rand_pcg.specs.Pcg.{pcg32}
+use Rattle.mx_stamps.proofs.Choices.{cond_false, cond_true}
 use Rattle.mx_nodelaws.specs.Core.{Core}
 use Rattle.mx_nodelaws.specs.declared.phase.Phase.{Phase}
 use Rattle.mx_nodelaws.specs.declared.phase.Phase.TheVariants.{Idle, Waiting, Inside}
@@ -91,15 +92,6 @@ module _ (nodes registers : ℕ) where
           (either_event Drawn (nat_lt (byte_of (word (after_words 1 after.words))) conditions.loss) _ _ tt tt)
           (acted_named g.members (is_empty w.flying) (k % 64) after.words))
 
--- a choice that is known
-either_false : {X : Type 0} (b : Bool) (x y : X) → b ≡ false → (if b then x else y) ≡ y
-either_false true x y is = cc
-either_false false x y is = refl
-
-pub either_true : {X : Type 0} (b : Bool) (x y : X) → b ≡ true → (if b then x else y) ≡ x
-either_true true x y is = refl
-either_true false x y is = cc
-
 -- where a parcel is delivered, one is under way
 pub is_there : (chance : ℕ) (is_calm : Bool) → is_delivery chance is_calm ≡ true → is_calm ≡ false
 is_there chance true is = cc
@@ -112,14 +104,14 @@ module _ {H S M : Type 0} (core : Core H S M) (members : List (MemberState S)) (
   unfolding ready_from
   ready_more lt out =
       let left : nodes - offset ≡ suc (nodes - (offset + 1)) = omega (arith, lt) in
-      sym (ap (λ (k : ℕ). ready_from core members nodes any offset k) left ∙ either_false (is_ready_at core members ((any + offset) % nodes)) _ _ out)
+      sym (ap (λ (k : ℕ). ready_from core members nodes any offset k) left ∙ cond_false (is_ready_at core members ((any + offset) % nodes)) _ _ out)
 
   pub ready_there : offset < nodes → is_ready_at core members ((any + offset) % nodes) ≡ true
       → (any + offset) % nodes ≡ ready_from core members nodes any offset (nodes - offset)
   unfolding ready_from
   ready_there lt in_place =
       let left : nodes - offset ≡ suc (nodes - (offset + 1)) = omega (arith, lt) in
-      sym (ap (λ (k : ℕ). ready_from core members nodes any offset k) left ∙ either_true (is_ready_at core members ((any + offset) % nodes)) _ _ in_place)
+      sym (ap (λ (k : ℕ). ready_from core members nodes any offset k) left ∙ cond_true (is_ready_at core members ((any + offset) % nodes)) _ _ in_place)
 
   pub ready_end : nodes ≤ offset → any ≡ ready_from core members nodes any offset (nodes - offset)
   unfolding ready_from
@@ -148,29 +140,29 @@ module _ {H S M : Type 0} (core : Core H S M) (conditions : Conditions) (g : Clu
     pub next_repeats : byte_of n < conditions.repeat → next_step core conditions g nodes registers w ≡ repeated core conditions g.sent (with_words x w)
     next_repeats lt =
         let more : nat_lt (byte_of n) conditions.repeat ≡ true = grind (arith, nat_tests, lt) in
-        next_by ∙ either_true (nat_lt (byte_of n) conditions.repeat) _ _ more
+        next_by ∙ cond_true (nat_lt (byte_of n) conditions.repeat) _ _ more
 
     pub next_takes : conditions.repeat ≤ byte_of n → is_delivery (n % 64) (is_empty w.flying) ≡ true
         → next_step core conditions g nodes registers w ≡ taken_up core conditions g.sent (with_words x w)
     next_takes le there =
         let less : nat_lt (byte_of n) conditions.repeat ≡ false = grind (arith, nat_tests, le) in
-        next_by ∙ either_false (nat_lt (byte_of n) conditions.repeat) _ _ less ∙ either_true (is_delivery (n % 64) (is_empty w.flying)) _ _ there
+        next_by ∙ cond_false (nat_lt (byte_of n) conditions.repeat) _ _ less ∙ cond_true (is_delivery (n % 64) (is_empty w.flying)) _ _ there
 
     pub next_acts : conditions.repeat ≤ byte_of n → is_delivery (n % 64) (is_empty w.flying) ≡ false
         → next_step core conditions g nodes registers w ≡ own_step core conditions (acted core g.members nodes registers (is_empty w.flying) (n % 64) x) (with_words x w)
     next_acts le out =
         let less : nat_lt (byte_of n) conditions.repeat ≡ false = grind (arith, nat_tests, le) in
-        next_by ∙ either_false (nat_lt (byte_of n) conditions.repeat) _ _ less ∙ either_false (is_delivery (n % 64) (is_empty w.flying)) _ _ out
+        next_by ∙ cond_false (nat_lt (byte_of n) conditions.repeat) _ _ less ∙ cond_false (is_delivery (n % 64) (is_empty w.flying)) _ _ out
 
   -- a parcel is repeated, or there is none
   pub repeats_nothing : (w : StepperState) → w.seen ≡ 0 → repeated core conditions g.sent w ≡ nothing w
-  repeats_nothing w zeroed = either_true (nat_eq w.seen 0) _ _ (grind (arith, nat_tests, zeroed))
+  repeats_nothing w zeroed = cond_true (nat_eq w.seen 0) _ _ (grind (arith, nat_tests, zeroed))
 
   pub repeats_one : (w : StepperState) (n number : ℕ) (x : Lcg) → (n, x) ≡ pcg32 w.words → w.seen ≢ 0
       → number ≡ chosen core conditions g.sent w.flying (w.seen - 1 - n % min w.seen 64) → repeated core conditions g.sent w ≡ delivers number x w
   repeats_one w n number x drawn more is =
       let less : nat_eq w.seen 0 ≡ false = grind (arith, nat_tests, more) in
-      either_false (nat_eq w.seen 0) _ _ less
+      cond_false (nat_eq w.seen 0) _ _ less
       ∙ sym (ap (λ (p : ℕ × Lcg). delivers (chosen core conditions g.sent w.flying (w.seen - 1 - p.0 % min w.seen 64)) p.1 w) drawn)
       ∙ ap (λ (k : ℕ). delivers k x w) (sym is)
 
@@ -181,28 +173,19 @@ module _ {H S M : Type 0} (core : Core H S M) (conditions : Conditions) (g : Clu
     after = record { words = q.1; flying = without k w.flying; seen = w.seen };
   }
 
-  takes_up : (w : StepperState) (n m number : ℕ) (x y : Lcg) → (n, x) ≡ pcg32 w.words → (m, y) ≡ pcg32 x
+  pub takes_up : (w : StepperState) (n m number : ℕ) (x y : Lcg) → (n, x) ≡ pcg32 w.words → (m, y) ≡ pcg32 x
       → number ≡ chosen core conditions g.sent w.flying (slice_index_or w.flying (n % length w.flying) 0) → taken_up core conditions g.sent w ≡ lands w number (m, y)
   takes_up w n m number x y first second is =
       sym (ap (λ (p : ℕ × Lcg). lands w (chosen core conditions g.sent w.flying (slice_index_or w.flying (p.0 % length w.flying) 0)) (pcg32 p.1)) first)
       ∙ sym (ap (λ (p : ℕ × Lcg). lands w (chosen core conditions g.sent w.flying (slice_index_or w.flying (n % length w.flying) 0)) p) second)
       ∙ ap (λ (k : ℕ). lands w k (m, y)) (sym is)
 
-  pub takes_after : (w : StepperState) (n m number : ℕ) (x y : Lcg) → (n, x) ≡ pcg32 w.words → (m, y) ≡ pcg32 x
-      → number ≡ chosen core conditions g.sent w.flying (slice_index_or w.flying (n % length w.flying) 0)
-      → (taken_up core conditions g.sent w).after ≡ (lands w number (m, y)).after
-  takes_after w n m number x y first second is = ap (λ (s : Step). s.after) (takes_up w n m number x y first second is)
+  pub is_lost : (w : StepperState) (k : ℕ) (q : ℕ × Lcg) → byte_of q.0 < conditions.loss → None ≡ (lands w k q).event
+  is_lost w k q lt =
+      let more : nat_lt (byte_of q.0) conditions.loss ≡ true = grind (arith, nat_tests, lt) in
+      sym (cond_true (nat_lt (byte_of q.0) conditions.loss) _ _ more)
 
-  pub takes_lost : (w : StepperState) (n m number : ℕ) (x y : Lcg) → (n, x) ≡ pcg32 w.words → (m, y) ≡ pcg32 x
-      → number ≡ chosen core conditions g.sent w.flying (slice_index_or w.flying (n % length w.flying) 0) → byte_of m < conditions.loss
-      → None ≡ (taken_up core conditions g.sent w).event
-  takes_lost w n m number x y first second is lt =
-      let more : nat_lt (byte_of m) conditions.loss ≡ true = grind (arith, nat_tests, lt) in
-      sym (ap (λ (s : Step). s.event) (takes_up w n m number x y first second is) ∙ either_true (nat_lt (byte_of m) conditions.loss) _ _ more)
-
-  pub takes_one : (w : StepperState) (n m number : ℕ) (x y : Lcg) → (n, x) ≡ pcg32 w.words → (m, y) ≡ pcg32 x
-      → number ≡ chosen core conditions g.sent w.flying (slice_index_or w.flying (n % length w.flying) 0) → conditions.loss ≤ byte_of m
-      → Some (Deliver number) ≡ (taken_up core conditions g.sent w).event
-  takes_one w n m number x y first second is le =
-      let less : nat_lt (byte_of m) conditions.loss ≡ false = grind (arith, nat_tests, le) in
-      sym (ap (λ (s : Step). s.event) (takes_up w n m number x y first second is) ∙ either_false (nat_lt (byte_of m) conditions.loss) _ _ less)
+  pub is_landed : (w : StepperState) (k : ℕ) (q : ℕ × Lcg) → conditions.loss ≤ byte_of q.0 → Some (Deliver k) ≡ (lands w k q).event
+  is_landed w k q le =
+      let less : nat_lt (byte_of q.0) conditions.loss ≡ false = grind (arith, nat_tests, le) in
+      sym (cond_false (nat_lt (byte_of q.0) conditions.loss) _ _ less)

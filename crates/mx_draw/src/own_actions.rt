@@ -3,12 +3,11 @@
 ghost use Rattle.std.specs.Prelude.{◌≡◌, ◌≤◌, ◌<◌, ◌-◌, ◌%◌, nat_lt};
 ghost use Rattle.mx_member.specs.Member.{first_gap};
 ghost use Rattle.mx_explorer.specs.Drawn.{after_words, word};
-ghost use Rattle.mx_draw.specs.Walk.{acted, actor, idle_by, inside_by, is_ready_at, member_act, node_act, other_by, ready_from, waiting_by};
+ghost use Rattle.mx_draw.specs.Walk.{acted, actor, idle_by, inside_by, is_ready_at, node_act, other_by, ready_from, waiting_by};
 
 use mx_driver::is_ready;
 use mx_explorer::{draw_below, draw_node};
 use mx_journal::Journal;
-use mx_member::Member;
 use mx_network::{Cluster, Event};
 use mx_nodelaws::{Exclusion, Phase};
 use mx_stamps::{MAX_NODES, NodeId};
@@ -67,27 +66,9 @@ fn act_at<C: Exclusion>(
     ensures next { words.new ≡ (node_act C.core cluster.now.members nodes
         registers is_calm node words.old).1 }
 {
-    match cluster.member(node) {
-        Some(member) => act_as(words, nodes, registers, member, node, is_calm),
-        None => None,
-    }
-}
-
-fn act_as<C: Exclusion>(
-    words: &mut Pcg32,
-    nodes: u8,
-    registers: u8,
-    member: &Member<C>,
-    node: NodeId,
-    is_calm: bool,
-) -> Option<Event>
-    requires nodes { (0 < nodes) × (nodes ≤ MAX_NODES) }
-    requires registers { 0 < registers }
-    ensures event { result ≡ (member_act C.core nodes
-        registers is_calm node words.old member.now).0 }
-    ensures next { words.new ≡ (member_act C.core nodes
-        registers is_calm node words.old member.now).1 }
-{
+    let Some(member) = cluster.member(node) else {
+        return None;
+    };
     match member.phase() {
         Phase::Idle => be_idle(words, nodes, node, gapless_to(member.journal())),
         Phase::Waiting => wait(words, node, member.can_enter(), is_calm),
@@ -112,14 +93,6 @@ fn be_idle(words: &mut Pcg32, nodes: u8, node: NodeId, gapless: u64) -> Option<E
         ≡ (idle_by (word words.old % 16) nodes node gapless (after_words 1 words.old)).1 }
 {
     let number = words.next_word() % 16;
-    idle_by(number, words, nodes, node, gapless)
-}
-
-fn idle_by(number: u32, words: &mut Pcg32, nodes: u8, node: NodeId, gapless: u64) -> Option<Event>
-    requires { (0 < nodes) × (nodes ≤ MAX_NODES) }
-    ensures event { result ≡ (idle_by number nodes node gapless words.old).0 }
-    ensures next { words.new ≡ (idle_by number nodes node gapless words.old).1 }
-{
     if number < 2 {
         Some(Event::Ask(node))
     } else if number == 2 {
@@ -155,6 +128,8 @@ fn has_gap_below(journal: &Journal, section: u64) -> bool
     journal.gapless_to() < section - 1
 }
 
+/// Returns the event of a node inside. A node that lacks an earlier section wants it from another;
+/// else a word says what it does.
 fn be_inside(
     words: &mut Pcg32,
     nodes: u8,
@@ -170,24 +145,6 @@ fn be_inside(
         registers node has_gap (after_words 1 words.old)).1 }
 {
     let number = words.next_word() % 16;
-    inside_by(number, words, nodes, registers, node, has_gap)
-}
-
-/// Returns the event of a node inside. A node that lacks an earlier section wants it from another;
-/// else `number` (0 to 15) says what it does.
-fn inside_by(
-    number: u32,
-    words: &mut Pcg32,
-    nodes: u8,
-    registers: u8,
-    node: NodeId,
-    has_gap: bool,
-) -> Option<Event>
-    requires nodes { (0 < nodes) × (nodes ≤ MAX_NODES) }
-    requires registers { 0 < registers }
-    ensures event { result ≡ (inside_by number nodes registers node has_gap words.old).0 }
-    ensures next { words.new ≡ (inside_by number nodes registers node has_gap words.old).1 }
-{
     if has_gap {
         Some(Event::Want(node, draw_other(words, nodes, node)))
     } else if number < 5 {

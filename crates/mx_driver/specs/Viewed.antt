@@ -1,6 +1,5 @@
 -- What `replay` prints, without options and with `--quiet`, `--node`, `--json` or `--state`.
-use Rattle.std.specs.Prelude.{◌≡◌, ◌||◌, ℕ, ◌++◌, ⊤, Bool, true, false, List, Option, Some, None, Result, Ok, Err, codes, option_map, string_bytes}
-use Rattle.std.specs.Option.{option_map_or}
+use Rattle.std.specs.Prelude.{◌≡◌, ℕ, ◌++◌, ⊤, Bool, true, false, List, Option, Some, None, Result, Ok, Err, codes, option_map, string_bytes}
 use Rattle.mx_events.specs.declared.event.Event.{Event}
 use Rattle.mx_plan.specs.Text.{Text, line_feed}
 use Rattle.mx_plan.specs.Fields.{Fields, node_of}
@@ -8,7 +7,7 @@ use Rattle.mx_plan.specs.Events.{events_at}
 use Rattle.mx_plan.specs.declared.faults.PlanFault.{PlanFault}
 use Rattle.mx_lines.specs.Escapes.{ArePrintable}
 use Rattle.mx_cli.specs.Printing.{Report, ends, has_fault, has_line}
-use Rattle.mx_cli.specs.Requests.{View as Options}
+use Rattle.mx_cli.specs.Requests.{View as Options, has_options}
 use Rattle.mx_cli.specs.declared.faults.Fault.TheVariants.{BadText}
 use Rattle.mx_cli.specs.declared.stop.Stop.{Stop}
 use Rattle.mx_cli.specs.declared.stop.Stop.TheVariants as stop
@@ -55,9 +54,6 @@ abbrev pub IsView : Options → Fields → Text → Report → Type 0
 IsView options p text = IsViewBy options p (events_at p text)
 
 -- ---- with and without options
-
-abbrev pub has_options : Options → Bool
-has_options o = o.is_quiet || option_map_or (λ _. true) o.node false || o.is_json || o.has_state
 
 abbrev pub IsReplayBy : Bool → Options → Fields → Text → Report → Type 0
 IsReplayBy true options = IsView options

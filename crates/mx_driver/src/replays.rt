@@ -1,10 +1,10 @@
 //! `replay`: the events of a text happen one after another.
 
-ghost use Rattle.std.specs.Prelude.{◌≡◌, IfOk, length, option_map, string_bytes};
+ghost use Rattle.std.specs.Prelude.{IfOk, length, option_map, string_bytes};
 ghost use Rattle.mx_cli.specs.Printing.{Prints, sight};
 ghost use Rattle.mx_cli.specs.Requests.{view_of};
 ghost use Rattle.mx_driver.specs.Runs.{AllNameNodes};
-ghost use Rattle.mx_driver.specs.Viewed.{IsFound, IsReplayed, IsShown, IsUnknownLine, has_options};
+ghost use Rattle.mx_driver.specs.Viewed.{IsFound, IsReplayed, IsShown, IsUnknownLine};
 
 use crate::driver::drive;
 use crate::view::View;
@@ -19,16 +19,6 @@ use std::alloc::{AllocError, Global};
 /// `replay`.
 #[derive(Clone, Copy)]
 pub struct Replay<'a>(pub ViewOptions<'a>);
-
-impl Replay<'_> {
-    /// Whether it shows something else than the plain lines.
-    pub fn has_options(&self) -> bool
-        ensures { result ≡ has_options (view_of self.now.0) }
-    {
-        let options = &self.0;
-        options.is_quiet || options.node.is_some() || options.is_json || options.has_state
-    }
-}
 
 impl Command for Replay<'_> {
     ghost reports = { λ c p text. IsReplayed (view_of c.0) p text };

@@ -12,7 +12,7 @@ use crate::notes::Notes;
 use mx_cli::{Files, Named, Names, Stop, fetch_both, run_files, stop_for};
 use mx_driver::{Check, NullOutput, observe};
 use mx_io::Source;
-use mx_plan::{Plan, read_events};
+use mx_plan::{Needs, Plan, read_events};
 use mx_scripts::run_script;
 use std::alloc::Global;
 
@@ -59,7 +59,7 @@ fn run_both<S: Source>(
     ensures { Prints (IsReportFor (IsTextReport is_script) (S.told source.old)
         (both (names_of names.now) is_script)) null_output null_output result }
 {
-    match fetch_both(alloc, source, names) {
+    match fetch_both(alloc, source, names, Needs::All) {
         Ok(both) => run_text(alloc, &both.plan, both.text.as_slice(), is_script, notes),
         Err(stop) => Err(stop_for(stop, is_script, Named::Plan)),
     }

@@ -3,19 +3,19 @@ use Rattle.std.proofs.Common.{ℕ, zero, suc, ◌≡◌, ◌↔◌, ◌+◌, ◌
 use Rattle.std.proofs.lemmas.List.{drop_all}
 use Rattle.mx_stamps.proofs.Lists.{none_is_no_some}
 use Rattle.mx_journal.proofs.Choices.{drop_here}
-use Rattle.mx_trace.specs.Sections.{Mark, Section, after_marks}
+use Rattle.mx_trace.specs.Sections.{Mark, Section, after_mark, after_marks}
 use Rattle.mx_trace.specs.Serial.{AllClosed, AllFit}
 use Rattle.mx_events.specs.declared.event.Event.{Event}
 use Rattle.mx_events.specs.declared.event.Event.TheVariants.{Enter, Read, Write, Leave, Restart}
 use Rattle.mx_trace.specs.declared.outcome.Outcome.{Outcome}
 use Rattle.mx_trace.specs.declared.outcome.Outcome.TheVariants.{Entered, Value, Written, Left, Woken}
 use Rattle.mx_trace.specs.declared.outcome.Entry.{Entry}
-use Rattle.mx_trace.specs.Trace.{mark_of, marks, IsSerial}
+use Rattle.mx_trace.specs.Trace.{mark_of, marks}
 use Rattle.mx_explorer.specs.declared.verdict.Clause.{Clause}
 use Rattle.mx_explorer.specs.declared.verdict.Clause.TheVariants.{Overlap, Number, Read as Reads}
 use Rattle.mx_explorer.specs.declared.verdict.Verdict.{Verdict}
 use Rattle.mx_explorer.specs.declared.verdict.Verdict.TheVariants.{Sound, Broken}
-use Rattle.mx_explorer.specs.Verdict.{Breaks, IsFirstBroken, IsSoundTrace}
+use Rattle.mx_explorer.specs.Verdict.{Breaks, IsVerdictOf}
 use Rattle.mx_explorer.specs.Ledger.{broken_at, older}
 use Rattle.mx_explorer.proofs.Marks.{SoundFrom, BreaksFrom, Passes, breaks_one, broken_behind, mark_passes, nothing_passes, sound_behind, sound_breaks_none}
 use Rattle.mx_explorer.proofs.Faults.{fitting_breaks_nothing, mark_breaks, sound_breaks_nothing}
@@ -213,9 +213,8 @@ serial_is_sound ss (e ∷ es) h f =
     ap (λ o. after_item o (judged (after_marks ss ms) es)) fits.0
     ∙ ap later (serial_is_sound (after_marks ss ms) es (item_passes ss ms one h fits.0).left fits.1)
 
--- what a verdict of a whole trace says
-pub whole : (trace : List Entry) (v : Verdict) → judged [] trace ≡ v
-    → ((v ≡ Sound) ↔ IsSoundTrace trace) × ((k : ℕ) (c : Clause) → (v ≡ Broken k c) ↔ IsFirstBroken trace k c) × (IsSerial trace → v ≡ Sound)
+-- a verdict on a whole trace
+pub whole : (trace : List Entry) (v : Verdict) → judged [] trace ≡ v → IsVerdictOf trace v
 whole trace v is =
     let x = exact [] trace tt in (
       (λ q. let s = x.sound.0 (is ∙ q) in (s.exclusive, s.numbered, s.serial), λ s. sym is ∙ x.sound.1 (record { exclusive = s.0; numbered = s.1; serial = s.2 })),
@@ -223,5 +222,14 @@ whole trace v is =
         λ q. let b = (x.broken k c).0 (is ∙ q) in ((b.0.exclusive, b.0.numbered, b.0.serial), whole_breaks c (take (suc k) trace) b.1),
         λ b. sym is ∙ (x.broken k c).1 (record { exclusive = b.0.0; numbered = b.0.1; serial = b.0.2 }, breaks_whole c (take (suc k) trace) b.1),
       ),
-      λ f. sym is ∙ serial_is_sound [] trace tt f,
     )
+
+after_more : (ss : List Section) (ms ns : List Mark) → after_marks ss (ms ++ ns) ≡ after_marks (after_marks ss ms) ns
+after_more ss [] ns = refl
+after_more ss (m ∷ ms) ns = after_more (after_mark ss m) ms ns
+
+-- the item at a place leads on to the sections after it
+pub leads_on : (ss : List Section) (trace : List Entry) (i : ℕ) (e : Entry) → i < length trace → e ≡ get_or trace i e
+    → after_marks (after_marks ss (mark_of e.event e.outcome)) (marks (drop (i + 1) trace)) ≡ after_marks ss (marks (drop i trace))
+leads_on ss trace i e lt is =
+    sym (ap (λ (es : List Entry). after_marks ss (marks es)) (drop_here trace i e lt is) ∙ after_more ss (mark_of e.event e.outcome) (marks (drop (i + 1) trace)))

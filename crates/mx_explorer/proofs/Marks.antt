@@ -10,7 +10,7 @@ use Rattle.mx_explorer.specs.declared.verdict.Clause.{Clause}
 use Rattle.mx_explorer.specs.declared.verdict.Clause.TheVariants.{Overlap, Number, Read}
 use Rattle.mx_explorer.specs.Verdict.{ReadsFit}
 use Rattle.mx_explorer.specs.Ledger.{at_entry, broken_by, holder, is_node, older}
-use Rattle.mx_explorer.proofs.Ledgers.{at_closed, moved}
+use Rattle.mx_explorer.proofs.Ledgers.{at_closed, moved, open_of}
 
 -- the node inside the newest section, with its number
 abbrev pub standing : List Section → Option (ℕ × ℕ)
@@ -74,10 +74,6 @@ cond_none false c e = let bad : ⊥ = cc in absurd bad
 shut_of : (closed : Bool) (node : ℕ) → cond closed None (Some node) ≡ None → closed ≡ true
 shut_of true node e = refl
 shut_of false node e = let bad : ⊥ = cc in absurd bad
-
-open_of : (closed : Bool) (node i : ℕ) → is_node i (cond closed None (Some node)) ≡ true → (closed ≡ false) × (node ≡ i)
-open_of true node i e = let bad : ⊥ = cc in absurd bad
-open_of false node i e = (refl, eq_true node i e)
 
 -- nobody is inside once node i, which was, has left
 gone : (i : ℕ) (ss : List Section) → is_node i (holder ss) ≡ true → standing (at_open i closing ss) ≡ None

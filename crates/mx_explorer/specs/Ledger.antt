@@ -1,9 +1,10 @@
 -- What the judge remembers of the earlier items of a trace, and what it finds at the next mark.
-use Rattle.std.specs.Prelude.{ℕ, suc, ◌≡◌, ◌<◌, ◌&&◌, Bool, false, List, [], ◌∷◌, Option, Some, None, length, nat_eq, slice_index, if◌then◌else◌}
+use Rattle.std.specs.Prelude.{ℕ, suc, ◌≡◌, ◌<◌, ◌&&◌, Bool, false, List, [], ◌∷◌, Option, Some, None, length, nat_eq, slice_index_or, if◌then◌else◌}
 use Rattle.mx_journal.specs.declared.records.Write.{Write}
 use Rattle.mx_registers.specs.Registers.{applied}
 use Rattle.mx_trace.specs.Sections.{Mark, Came, Got, Wrote, Went, Woke, Section, after_marks, writes_in}
 use Rattle.mx_trace.specs.Serial.{AllClosed}
+use Rattle.mx_explorer.specs.declared.ledger.LastWrite.{LastWrite}
 use Rattle.mx_explorer.specs.declared.ledger.Ledger.{Ledger}
 use Rattle.mx_explorer.specs.declared.verdict.Clause.{Clause}
 use Rattle.mx_explorer.specs.declared.verdict.Clause.TheVariants.{Overlap, Number, Read}
@@ -18,18 +19,34 @@ abbrev pub holder : List Section → Option ℕ
 holder [] = None
 holder (s ∷ ss) = if s.closed then None else Some s.node
 
--- these values are what the writes, in order, leave in the 256 registers
-abbrev pub Shows : List Write → List ℕ → Type 0
-Shows writes values =
-    (length values ≡ 256) × ((r : ℕ) → r < 256 → slice_index values r ≡ applied r writes 0)
+-- the last write to the register after these writes of section n, which node i entered; `before` is
+-- the last one before them
+abbrev pub after_writes : ℕ → ℕ → ℕ → List Write → Option LastWrite → Option LastWrite
+after_writes register i n [] before = before
+after_writes register i n (w ∷ ws) before =
+    after_writes register i n ws
+    (if nat_eq w.register register
+    then Some (record { value = w.value; node = i; section = n })
+    else before)
+
+-- the last write to the register in these sections, in order of entry
+abbrev pub last_write : ℕ → List Section → Option LastWrite
+last_write register [] = None
+last_write register (s ∷ ss) =
+    after_writes register s.node (suc (length ss)) s.draft.writes (last_write register ss)
+
+-- these are the last writes in the sections to the 256 registers
+abbrev pub Shows : List Section → List (Option LastWrite) → Type 0
+Shows ss held =
+    (length held ≡ 256) × ((r : ℕ) → r < 256 → slice_index_or held r None ≡ last_write r ss)
 
 -- the ledger describes these sections, and all but the newest are closed
 pub record IsLedgerOf (ss : List Section) (l : Ledger) : Type 0 where
   pub inside : l.inside ≡ holder ss
   pub last : l.last ≡ length ss
   pub left : AllClosed (older ss)
-  pub held : Shows (writes_in ss) l.held
-  pub before : Shows (writes_in (older ss)) l.before
+  pub held : Shows ss l.held
+  pub before : Shows (older ss) l.before
 
 abbrev pub is_node : ℕ → Option ℕ → Bool
 is_node i None = false

@@ -1,5 +1,5 @@
 -- Sound traces, and where a trace is first broken.
-use Rattle.std.specs.Prelude.{ℕ, suc, ◌≡◌, List, [], ◌∷◌, take}
+use Rattle.std.specs.Prelude.{ℕ, suc, ◌≡◌, ◌↔◌, List, [], ◌∷◌, take}
 use Rattle.mx_registers.specs.Registers.{applied}
 use Rattle.mx_trace.specs.Sections.{Mark, Came, Got, Wrote, Went, Woke, Section, after_mark, writes_in}
 use Rattle.mx_trace.specs.Serial.{IsInNewest}
@@ -7,6 +7,8 @@ use Rattle.mx_trace.specs.declared.outcome.Entry.{Entry}
 use Rattle.mx_trace.specs.Trace.{IsExclusive, IsNumbered, marks}
 use Rattle.mx_explorer.specs.declared.verdict.Clause.{Clause}
 use Rattle.mx_explorer.specs.declared.verdict.Clause.TheVariants.{Overlap, Number, Read}
+use Rattle.mx_explorer.specs.declared.verdict.Verdict.{Verdict}
+use Rattle.mx_explorer.specs.declared.verdict.Verdict.TheVariants.{Sound, Broken}
 
 -- in these marks, which follow these sections, each value is read by the node inside the newest
 -- section, and is what all writes so far, in order of entry, leave in the register
@@ -34,3 +36,10 @@ Breaks Read trace = IsExclusive trace × IsNumbered trace × ¬ ReadsFit [] (mar
 -- the items before index k are a sound trace, and with the item at k they break the clause
 abbrev pub IsFirstBroken : List Entry → ℕ → Clause → Type 0
 IsFirstBroken trace k clause = IsSoundTrace (take k trace) × Breaks clause (take (suc k) trace)
+
+-- the verdict on a trace: sound exactly if the trace is; otherwise the first item that breaks a
+-- clause, and the clause
+abbrev pub IsVerdictOf : List Entry → Verdict → Type 0
+IsVerdictOf trace verdict =
+    ((verdict ≡ Sound) ↔ IsSoundTrace trace)
+    × ((k : ℕ) (clause : Clause) → (verdict ≡ Broken k clause) ↔ IsFirstBroken trace k clause)

@@ -1,8 +1,9 @@
 //! The verdict of a trace, in one pass.
 
 ghost use Rattle.std.specs.Prelude.{◌≡◌, ◌↔◌, ℕ};
-ghost use Rattle.mx_trace.specs.Trace.{IsSerial};
-ghost use Rattle.mx_explorer.specs.Verdict.{IsSoundTrace, IsFirstBroken};
+ghost use Rattle.mx_trace.specs.Trace.{IsSerial, sections};
+ghost use Rattle.mx_explorer.specs.Ledger.{IsLedgerOf};
+ghost use Rattle.mx_explorer.specs.Verdict.{IsFirstBroken, IsSoundTrace, IsVerdictOf};
 
 use crate::ledger::Ledger;
 use crate::verdict::{Clause, Verdict};
@@ -20,11 +21,21 @@ pub fn judge(trace: &[Entry]) -> Verdict
         → ((result ≡ Verdict.Broken k c) ↔ IsFirstBroken trace.now k c) }
     ensures serial { IsSerial trace.now → result ≡ Verdict.Sound }
 {
+    judged(trace).0
+}
+
+/// Returns the verdict on a trace, and the ledger of the items before the first that breaks a
+/// clause.
+pub(crate) fn judged(trace: &[Entry]) -> (Verdict, Ledger)
+    ensures verdict { IsVerdictOf trace.now result.0 }
+    ensures serial { IsSerial trace.now → result.0 ≡ Verdict.Sound }
+    ensures ledger { result.0 ≡ Verdict.Sound → IsLedgerOf (sections trace.now) result.1 }
+{
     let mut ledger = Ledger::new();
     for (index, entry) in trace.iter().enumerate() {
         if let Some(clause) = ledger.take(entry) {
-            return Verdict::Broken(index as u64, clause);
+            return (Verdict::Broken(index as u64, clause), ledger);
         }
     }
-    Verdict::Sound
+    (Verdict::Sound, ledger)
 }

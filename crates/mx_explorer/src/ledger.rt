@@ -1,8 +1,13 @@
-ghost use Rattle.std.specs.Prelude.{◌≡◌, ◌∷◌, [], None, Option};
-ghost use Rattle.mx_trace.specs.Sections.{Came, Got, Wrote, Went, Woke};
-ghost use Rattle.mx_trace.specs.Trace.{mark_of};
-ghost use Rattle.mx_explorer.specs.Ledger.{IsLedgerOf, Takes, is_node};
+//! What the items of a trace leave: who is inside, and the last write to each register.
 
+ghost use Rattle.std.specs.Prelude.{◌≡◌, ◌∷◌, [], List, None, Option};
+ghost use Rattle.mx_registers.specs.Registers.{applied};
+ghost use Rattle.mx_trace.specs.Sections.{Came, Got, Section, Wrote, Went, Woke, writes_in};
+ghost use Rattle.mx_trace.specs.Trace.{mark_of, sections};
+ghost use Rattle.mx_explorer.specs.Ledger.{IsLedgerOf, Takes, is_node, last_write};
+ghost use Rattle.mx_explorer.specs.Verdict.{IsSoundTrace};
+
+use crate::judgement::judged;
 use crate::verdict::Clause;
 use mx_journal::Receipt;
 use mx_stamps::NodeId;
@@ -11,28 +16,44 @@ use mx_trace::{Entry, Event, Outcome};
 /// How many registers an event can name: one for each `u8` value.
 const REGISTERS: usize = 256;
 
-/// What the judge remembers: who is inside, the number of the newest section, and what the
-/// registers hold.
+/// The last write to a register.
+#[derive(Clone, Copy)]
+pub struct LastWrite {
+    pub value: u64,
+    pub node: NodeId,
+    /// The number of the node's section.
+    pub section: u64,
+}
+
+/// What the items of a trace leave, if they break no clause.
 #[derive(Drop)]
-pub(crate) struct Ledger {
-    inside: Option<NodeId>,
+pub struct Ledger {
+    /// The node inside the newest section, if it has not left it.
+    pub inside: Option<NodeId>,
     /// The number of the newest section, 0 before the first.
-    last: u64,
-    /// What the registers held when the newest section was entered.
-    before: [u64; REGISTERS],
-    /// What the registers hold now, with the writes of the newest section.
-    held: [u64; REGISTERS],
+    pub last: u64,
+    /// The last write to each register before the newest section.
+    before: [Option<LastWrite>; REGISTERS],
+    /// The last write to each register.
+    held: [Option<LastWrite>; REGISTERS],
 }
 
 impl Ledger {
+    /// Returns the ledger after the items of a trace that breaks no clause.
+    pub fn of(trace: &[Entry]) -> Ledger
+        ensures { IsSoundTrace trace.now → IsLedgerOf (sections trace.now) result }
+    {
+        judged(trace).1
+    }
+
     pub(crate) fn new() -> Ledger
         ensures { IsLedgerOf [] result }
     {
         Ledger {
             inside: None,
             last: 0,
-            before: [0; REGISTERS],
-            held: [0; REGISTERS],
+            before: [None; REGISTERS],
+            held: [None; REGISTERS],
         }
     }
 
@@ -57,13 +78,21 @@ impl Ledger {
         }
     }
 
-    fn is_inside(&self, node: NodeId) -> bool
+    /// Whether this node is inside.
+    pub fn is_inside(&self, node: NodeId) -> bool
         ensures { result ≡ is_node node self.now.inside }
     {
         match self.inside {
             Some(inside) => inside == node,
             None => false,
         }
+    }
+
+    /// Returns the last write to a register; `None` before the first, when the register holds 0.
+    pub fn last_write(&self, register: u8) -> Option<LastWrite>
+        ensures { (ss : List Section) → IsLedgerOf ss self.now → result ≡ last_write register ss }
+    {
+        self.held[register as usize]
     }
 
     fn came(&mut self, node: NodeId, number: u64) -> Option<Clause>
@@ -77,18 +106,27 @@ impl Ledger {
         }
         self.inside = Some(node);
         self.last = number;
-        let held = self.held;
-        self.before = held;
+        self.before.copy_from_slice(&self.held);
         None
     }
 
     fn got(&self, node: NodeId, register: u8, value: u64) -> Option<Clause>
         ensures { Takes self.now (Got node register value ∷ []) result self.now }
     {
-        if self.is_inside(node) && self.held[register as usize] == value {
+        if self.is_inside(node) && self.value(register) == value {
             None
         } else {
             Some(Clause::Read)
+        }
+    }
+
+    fn value(&self, register: u8) -> u64
+        ensures { (ss : List Section) → IsLedgerOf ss self.now
+            → result ≡ applied register (writes_in ss) 0 }
+    {
+        match self.last_write(register) {
+            Some(write) => write.value,
+            None => 0,
         }
     }
 
@@ -96,7 +134,12 @@ impl Ledger {
         ensures { Takes self.old (Wrote node register value ∷ []) None self.new }
     {
         if self.is_inside(node) {
-            self.held[register as usize] = value;
+            let section = self.last;
+            self.held[register as usize] = Some(LastWrite {
+                value,
+                node,
+                section,
+            });
         }
     }
 
@@ -116,8 +159,7 @@ impl Ledger {
         ensures { Takes self.old (Woke node ∷ []) None self.new }
     {
         if self.is_inside(node) {
-            let before = self.before;
-            self.held = before;
+            self.held.copy_from_slice(&self.before);
         }
     }
 }

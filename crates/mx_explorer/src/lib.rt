@@ -10,6 +10,7 @@ mod verdict;
 mod weather;
 
 pub use judgement::judge;
+pub use ledger::{LastWrite, Ledger};
 pub use places::place;
 pub use schedules::{draw, draw_below, draw_node, schedule};
 pub use verdict::{Clause, Verdict};

@@ -25,23 +25,7 @@ pub fn schedule(alloc: Global, seed: u64, steps: u64, plan: &Plan) -> Result<Vec
     ensures named { IfOk result (λ v. (e : Event) → IsIn e v.items
         → IsDrawn (length plan.now.nodes) (length plan.now.registers) e) }
 {
-    schedule_over(alloc, seed, steps, plan.nodes(), plan.registers())
-}
-
-fn schedule_over(
-    alloc: Global,
-    seed: u64,
-    steps: u64,
-    nodes: u8,
-    registers: u8,
-) -> Result<Vec<Event>, AllocError>
-    requires nodes { (0 < nodes) × (nodes ≤ MAX_NODES) }
-    requires registers { 0 < registers }
-    ensures value { IfOk result (λ v. v.items
-        ≡ drawn_list steps nodes registers (generator_of seed)) }
-    ensures count { IfOk result (λ v. vec_len v ≡ steps) }
-    ensures named { IfOk result (λ v. (e : Event) → IsIn e v.items → IsDrawn nodes registers e) }
-{
+    let (nodes, registers) = (plan.nodes(), plan.registers());
     let mut words = Pcg32::seed_from_u64(seed);
     let mut events = Vec::new(alloc);
     for _ in 0..steps {

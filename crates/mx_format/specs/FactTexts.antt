@@ -1,5 +1,5 @@
 -- The line of what a node knows, also as JSON.
-use Rattle.std.specs.Prelude.{List, ◌++◌, Bool, codes, decimal, if◌then◌else◌}
+use Rattle.std.specs.Prelude.{List, ◌++◌, codes, decimal}
 use Rattle.mx_knowledge.specs.declared.fact.Item.{Item}
 use Rattle.mx_knowledge.specs.declared.fact.Item.TheVariants.{Number, Node, Stamp, Numbered}
 use Rattle.mx_knowledge.specs.Facts.{Known}
@@ -41,11 +41,3 @@ fact_json p fact =
 
 abbrev pub knows_json : Fields → List Known → Text
 knows_json p = array_member (codes "knows") (fact_json p)
-
--- ---- as JSON, or in a line
-
-abbrev pub item_by : Bool → Fields → Item → Text
-item_by is_json p item = if is_json then item_json p item else item_text p item
-
-abbrev pub fact_by : Bool → Fields → Known → Text
-fact_by is_json p fact = if is_json then fact_json p fact else fact_text p fact

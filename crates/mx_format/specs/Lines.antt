@@ -1,5 +1,7 @@
-use Rattle.std.specs.Prelude.{ℕ, ◌+◌, List, [], ◌∷◌, ◌++◌}
+use Rattle.std.specs.Prelude.{ℕ, ◌+◌, List, [], ◌∷◌, ◌++◌, length}
+use Rattle.std.specs.List.{range_with_len}
 use Rattle.mx_plan.specs.Text.{Text}
+use Rattle.mx_plan.specs.Fields.{Fields}
 
 -- the texts of all items of a list, one after another
 abbrev pub each_text : {X : Type 0} → (X → Text) → List X → Text
@@ -15,3 +17,7 @@ texts_from f k (x ∷ xs) = f k x ++ texts_from f (k + 1) xs
 abbrev pub joined : {X : Type 0} → Text → (X → Text) → List X → Text
 joined between f [] = []
 joined between f (x ∷ xs) = f x ++ each_text (λ y. between ++ f y) xs
+
+-- the texts of all nodes of a plan, in order
+abbrev pub each_node : (ℕ → Text) → Fields → Text
+each_node f p = each_text f (range_with_len 0 (length p.nodes))

@@ -18,10 +18,6 @@ number_start key number = codes "{\"" ++ key ++ codes "\":" ++ decimal number
 abbrev pub node_start : Fields → ℕ → Text
 node_start p node = word_start (codes "node") (name_of p node)
 
--- the start of an object, whose first member is an array
-abbrev pub array_start : {X : Type 0} → Text → (X → Text) → List X → Text
-array_start key f xs = codes "{\"" ++ key ++ codes "\":[" ++ joined (codes ",") f xs ++ codes "]"
-
 -- a member whose value is a text, after a comma
 abbrev pub word_member : Text → Text → Text
 word_member key word = codes ",\"" ++ key ++ codes "\":\"" ++ word ++ codes "\""
@@ -41,7 +37,3 @@ register_member p register = word_member (codes "register") (register_name_of p 
 -- a member whose value is an array, after a comma
 abbrev pub array_member : {X : Type 0} → Text → (X → Text) → List X → Text
 array_member key f xs = codes ",\"" ++ key ++ codes "\":[" ++ joined (codes ",") f xs ++ codes "]"
-
--- the line of an object of two nodes: node i, and node j under this key
-abbrev pub node_pair : Fields → ℕ → Text → ℕ → Text
-node_pair p i key j = node_start p i ++ node_member p key j ++ codes "}\n"

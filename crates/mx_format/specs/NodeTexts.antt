@@ -21,16 +21,6 @@ phase_text Idle = codes "idle"
 phase_text Waiting = codes "waiting"
 phase_text (Inside n) = codes "inside " ++ decimal n
 
--- the phase of a node of this name, and the last section that it entered
-abbrev pub standing_text : Text → Phase → ℕ → Text
-standing_text name phase mine =
-    name ++ codes ": " ++ phase_text phase ++ codes ", mine " ++ decimal mine
-
--- how many records a journal has above its base, and up to which number none is missing
-abbrev pub summary_text : ℕ → ℕ → Text
-summary_text records gapless =
-    codes ", records " ++ decimal records ++ codes ", gapless " ++ decimal gapless
-
 abbrev pub value_text : Text → ℕ → Text
 value_text name value = codes ", " ++ name ++ codes "=" ++ decimal value
 
@@ -55,14 +45,18 @@ abbrev pub values_by : Bool → Fields → JournalState → Text
 values_by is_json p journal =
     texts_from (λ k name. value_by is_json k name (register_in k journal).value) 0 p.registers
 
+-- how many records a journal has above its base, up to which number none is missing, and the
+-- value of each register
 abbrev pub journal_text : Fields → JournalState → Text
 journal_text p journal =
-    summary_text (length journal.records) (first_gap journal - 1) ++ values_by false p journal
+    codes ", records " ++ decimal (length journal.records) ++ codes ", gapless "
+    ++ decimal (first_gap journal - 1) ++ values_by false p journal
 
+-- the phase of node i, the last section that it entered, and its journal
 abbrev pub member_line : {H S M : Type 0} → Core H S M → Fields → ℕ → MemberState S → Text
 member_line core p i m =
-    standing_text (name_of p i) (core.phase m.core) (core.mine m.core) ++ journal_text p m.journal
-    ++ line_feed
+    name_of p i ++ codes ": " ++ phase_text (core.phase m.core) ++ codes ", mine "
+    ++ decimal (core.mine m.core) ++ journal_text p m.journal ++ line_feed
 
 abbrev pub node_lines : {H S M : Type 0} → Core H S M → Fields → List (MemberState S) → Text
 node_lines core p members = texts_from (member_line core p) 0 members

@@ -1,5 +1,5 @@
 -- The lines of parcels, also as objects of JSON.
-use Rattle.std.specs.Prelude.{ℕ, List, ◌++◌, Bool, codes, decimal, if◌then◌else◌}
+use Rattle.std.specs.Prelude.{ℕ, List, ◌++◌, codes, decimal}
 use Rattle.mx_journal.specs.declared.ranges.Range.{Range}
 use Rattle.mx_journal.specs.declared.records.Record.{Record}
 use Rattle.mx_journal.specs.Bases.{BaseState}
@@ -19,9 +19,6 @@ range_text range = decimal range.first ++ codes ".." ++ decimal range.last
 abbrev pub range_json : Range → Text
 range_json range =
     codes "[" ++ decimal range.first ++ codes "," ++ decimal range.last ++ codes "]"
-
-abbrev pub range_by : Bool → Range → Text
-range_by is_json range = if is_json then range_json range else range_text range
 
 -- a record, in a line and as JSON: only its number
 abbrev pub record_text : Record → Text

@@ -6,15 +6,28 @@ use Rattle.mx_knowledge.specs.declared.fact.Item.TheVariants.{Number, Node, Stam
 use Rattle.mx_knowledge.specs.Facts.{Known}
 use Rattle.mx_plan.specs.Text.{Text, line_feed}
 use Rattle.mx_plan.specs.Fields.{Fields}
+use Rattle.mx_format.specs.declared.stuck.Relation.{Relation}
+use Rattle.mx_format.specs.declared.stuck.Relation.TheVariants.{Awaited, Other}
+use Rattle.mx_format.specs.EventArrays.{quoted}
 use Rattle.mx_format.specs.EventTexts.{name_of}
-use Rattle.mx_format.specs.Lines.{each_text}
-use Rattle.mx_format.specs.Members.{array_member, array_start, node_start}
+use Rattle.mx_format.specs.Lines.{each_text, joined}
+use Rattle.mx_format.specs.Members.{array_member, node_start}
 
 -- ---- for whom a node waits
 
+abbrev pub is_awaited : Relation → Bool
+is_awaited Awaited = true
+is_awaited Other = false
+
+-- what the nodes in a fact of this name are to the node that knows it
+abbrev pub relation_of : Text → Relation
+relation_of name =
+    if bytes_eq name (codes "missing") || bytes_eq name (codes "privilege towards") then Awaited
+    else Other
+
 -- a fact of this name lists the nodes for which a node waits
 abbrev pub names_others : Text → Bool
-names_others name = bytes_eq name (codes "missing") || bytes_eq name (codes "privilege towards")
+names_others name = is_awaited (relation_of name)
 
 -- the node in a value, as a list; none, if the value is of another kind
 abbrev pub node_in : Item → List ℕ
@@ -43,34 +56,27 @@ waiter i facts = record { node = i; others = others_in facts }
 
 -- ---- its text
 
--- the name of a node, as an item of JSON or in a line
-abbrev pub name_by : Bool → Fields → ℕ → Text
-name_by is_json p i = if is_json then codes "\"" ++ name_of p i ++ codes "\"" else name_of p i
-
 abbrev pub others_text : Fields → List ℕ → Text
 others_text p [] = []
-others_text p (i ∷ others) =
-    codes " for" ++ each_text (λ j. codes " " ++ name_by false p j) (i ∷ others)
+others_text p (i ∷ others) = codes " for" ++ each_text (λ j. codes " " ++ name_of p j) (i ∷ others)
 
 abbrev pub waiter_text : Fields → WaiterState → Text
 waiter_text p w = name_of p w.node ++ codes " waits" ++ others_text p w.others
 
 abbrev pub waiter_json : Fields → WaiterState → Text
 waiter_json p w =
-    node_start p w.node ++ array_member (codes "for") (name_by true p) w.others ++ codes "}"
-
-abbrev pub waiter_by : Bool → Fields → WaiterState → Text
-waiter_by is_json p w = if is_json then waiter_json p w else waiter_text p w
+    node_start p w.node ++ array_member (codes "for") (λ j. quoted (name_of p j)) w.others
+    ++ codes "}"
 
 -- ---- the line
 
 abbrev pub stuck_line : Fields → List WaiterState → Text
 stuck_line p waiters =
-    codes "stuck: nothing under way" ++ each_text (λ w. codes "; " ++ waiter_by false p w) waiters
+    codes "stuck: nothing under way" ++ each_text (λ w. codes "; " ++ waiter_text p w) waiters
     ++ line_feed
 
 abbrev pub stuck_json : Fields → List WaiterState → Text
-stuck_json p waiters = array_start (codes "stuck") (waiter_by true p) waiters ++ codes "}\n"
+stuck_json p waiters = codes "{\"stuck\":[" ++ joined (codes ",") (waiter_json p) waiters ++ codes "]}\n"
 
 abbrev pub stuck_by : Bool → Fields → List WaiterState → Text
 stuck_by is_json p waiters = if is_json then stuck_json p waiters else stuck_line p waiters

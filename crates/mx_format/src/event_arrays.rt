@@ -4,7 +4,7 @@ ghost use Rattle.std.specs.Prelude.{◌≡◌, ◌++◌, OnOk, string_bytes};
 ghost use Rattle.mx_format.specs.EventArrays.{item_text, value_text};
 
 use crate::events::{name_of, register_name_of};
-use crate::lists::{Listed, add_each};
+use crate::lists::{Json, Listed, add_each};
 use mx_events::Argument;
 use mx_plan::Plan;
 use mx_trace::Event;
@@ -17,14 +17,14 @@ pub fn add_event_array(plan: &Plan, event: &Event, text: &mut String) -> Result<
 {
     let arguments = event.arguments();
     write!(text, "[\"{}\"", event.kind().word())?;
-    add_each(plan, true, ",", arguments.as_slice(), text)?;
+    add_each(plan, ",", arguments.as_slice(), text)?;
     text.push_str("]")
 }
 
-impl Listed for Argument {
-    ghost written = { λ _ p argument. value_text p argument };
+impl Listed<Json> for Argument {
+    ghost written = { value_text };
 
-    fn add(&self, plan: &Plan, _is_json: bool, text: &mut String) -> Result<(), AllocError> {
+    fn add(&self, plan: &Plan, text: &mut String) -> Result<(), AllocError> {
         match self {
             Argument::Node(node) => write!(text, "\"{}\"", name_of(plan, *node)),
             Argument::Register(register) => {

@@ -1,7 +1,7 @@
 //! Events and their outcomes as JSON.
 
 ghost use Rattle.std.specs.Prelude.{◌≡◌, ◌++◌, OnOk, string_bytes};
-ghost use Rattle.mx_format.specs.EventJson.{act_json, bare_json, event_json, outcome_json, owner_json, refusal_json, rest_json, with_json};
+ghost use Rattle.mx_format.specs.EventJson.{act_json, event_json, outcome_json, owner_json, refusal_json, rest_json, with_json};
 
 use crate::json::{
     add_node_name, add_number, add_register_name, add_word, add_word_and_number, start_number,
@@ -71,25 +71,18 @@ fn add_outcome(outcome: &Outcome, text: &mut String) -> Result<(), AllocError>
         Outcome::Asked(stamp) => add_with("asked", "number", stamp.number, text),
         Outcome::Entered(number) => add_with("entered", "number", *number, text),
         Outcome::Value(value) => add_with("value", "value", *value, text),
-        Outcome::Written => add_bare("written", text),
+        Outcome::Written => add_word("outcome", "written", text),
         Outcome::Left(receipt) => {
             add_with("left", "number", receipt.number, text)?;
             add_number("writes", receipt.writes.len() as u64, text)
         }
-        Outcome::Cancelled => add_bare("cancelled", text),
-        Outcome::Settled => add_bare("settled", text),
+        Outcome::Cancelled => add_word("outcome", "cancelled", text),
+        Outcome::Settled => add_word("outcome", "settled", text),
         Outcome::Sent(count) => add_with("sent", "count", *count, text),
-        Outcome::Delivered => add_bare("delivered", text),
-        Outcome::Woken => add_bare("woken", text),
+        Outcome::Delivered => add_word("outcome", "delivered", text),
+        Outcome::Woken => add_word("outcome", "woken", text),
         Outcome::Refused(cause) => add_refusal(cause, text),
     }
-}
-
-fn add_bare(outcome: &str, text: &mut String) -> Result<(), AllocError>
-    ensures { OnOk result (string_bytes text.new
-        ≡ string_bytes text.old ++ bare_json outcome.now) }
-{
-    add_word("outcome", outcome, text)
 }
 
 fn add_with(outcome: &str, key: &str, number: u64, text: &mut String) -> Result<(), AllocError>
@@ -103,7 +96,7 @@ fn add_refusal(cause: &Cause, text: &mut String) -> Result<(), AllocError>
     ensures { OnOk result (string_bytes text.new
         ≡ string_bytes text.old ++ refusal_json cause.now) }
 {
-    add_bare("refused", text)?;
+    add_word("outcome", "refused", text)?;
     add_word("cause", cause.words(), text)?;
     match cause.number() {
         Some(number) => add_number("number", number, text),

@@ -1,11 +1,11 @@
 //! Objects of JSON, member by member. Texts are not escaped: the names of plans and the words that
 //! `mx` writes have no character that needs it.
 
-ghost use Rattle.std.specs.Prelude.{◌≡◌, ◌++◌, OnOk, string_bytes, true};
-ghost use Rattle.mx_format.specs.Members.{array_member, array_start, node_member, node_pair, node_start, number_member, number_start, register_member, word_member, word_start};
+ghost use Rattle.std.specs.Prelude.{◌≡◌, ◌++◌, OnOk, string_bytes};
+ghost use Rattle.mx_format.specs.Members.{array_member, node_member, node_start, number_member, number_start, register_member, word_member, word_start};
 
 use crate::events::{name_of, register_name_of};
-use crate::lists::{Listed, add_joined};
+use crate::lists::{Json, Listed, add_joined};
 use mx_plan::Plan;
 use mx_stamps::NodeId;
 use std::alloc::AllocError;
@@ -91,47 +91,16 @@ pub(crate) fn add_register_name(
 }
 
 /// Appends a comma, and a member whose value is an array.
-pub(crate) fn add_array<V: Listed>(
+pub(crate) fn add_array<V: Listed<Json>>(
     plan: &Plan,
     key: &str,
     values: &[V],
     text: &mut String,
 ) -> Result<(), AllocError>
     ensures { OnOk result (string_bytes text.new ≡ string_bytes text.old
-        ++ array_member key.now (V.written true plan.now) values.now) }
+        ++ array_member key.now (V.written plan.now) values.now) }
 {
     write!(text, ",\"{key}\":[")?;
-    add_joined(plan, true, ",", values, text)?;
+    add_joined(plan, ",", values, text)?;
     text.push_str("]")
-}
-
-/// Appends the start of an object: the brace, and the first member, whose value is an array.
-pub(crate) fn start_array<V: Listed>(
-    plan: &Plan,
-    key: &str,
-    values: &[V],
-    text: &mut String,
-) -> Result<(), AllocError>
-    ensures { OnOk result (string_bytes text.new ≡ string_bytes text.old
-        ++ array_start key.now (V.written true plan.now) values.now) }
-{
-    write!(text, "{{\"{key}\":[")?;
-    add_joined(plan, true, ",", values, text)?;
-    text.push_str("]")
-}
-
-/// Appends a line with an object of two nodes: `node`, and the other under this key.
-pub(crate) fn add_node_pair(
-    plan: &Plan,
-    node: NodeId,
-    key: &str,
-    other: NodeId,
-    text: &mut String,
-) -> Result<(), AllocError>
-    ensures { OnOk result (string_bytes text.new ≡ string_bytes text.old
-        ++ node_pair plan.now node key.now other) }
-{
-    start_node(plan, node, text)?;
-    add_node_name(plan, key, other, text)?;
-    text.push_str("}\n")
 }

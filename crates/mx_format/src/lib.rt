@@ -13,9 +13,8 @@ mod nodes;
 mod parcels;
 mod parts;
 mod peers;
-mod plan_lines;
+mod plan_facts;
 mod plans;
-mod standings;
 mod stuck;
 mod words;
 

@@ -4,8 +4,7 @@ ghost use Rattle.std.specs.Prelude.{◌≡◌, ◌++◌, OnOk, string_bytes};
 ghost use Rattle.mx_format.specs.FactTexts.{knows_json};
 ghost use Rattle.mx_format.specs.NodeTexts.{counts_json, journal_json, member_json, phase_json, registers_json, standing_json};
 
-use crate::facts::add_knows_json;
-use crate::json::{add_number, add_word, add_word_and_number, start_node};
+use crate::json::{add_array, add_number, add_word, add_word_and_number, start_node};
 use crate::nodes::add_values;
 use mx_journal::Journal;
 use mx_knowledge::Knowledge;
@@ -91,5 +90,5 @@ fn add_known<C: Exclusion + Knowledge>(
         ≡ string_bytes text.old ++ knows_json plan.now (C.knows member.now.core)) }
 {
     let facts = member.core().facts(alloc)?;
-    add_knows_json(plan, &facts, text)
+    add_array(plan, "knows", facts.as_slice(), text)
 }

@@ -1,37 +1,41 @@
 //! Parcels, in lines and as JSON.
 
-ghost use Rattle.std.specs.Prelude.{◌≡◌, ◌++◌, OnOk, codes, false, string_bytes, true};
+ghost use Rattle.std.specs.Prelude.{◌≡◌, ◌++◌, OnOk, codes, string_bytes};
 ghost use Rattle.mx_format.specs.LetterTexts.{letter_text};
 ghost use Rattle.mx_format.specs.Lines.{each_text};
 ghost use Rattle.mx_format.specs.Members.{array_member, word_member};
-ghost use Rattle.mx_format.specs.ParcelTexts.{content_json, parcel_json, parcel_line, parcel_text, range_by, record_text, route_text};
+ghost use Rattle.mx_format.specs.ParcelTexts.{content_json, parcel_json, parcel_line, parcel_text, range_json, range_text, record_text};
 
 use crate::events::name_of;
 use crate::json::{add_array, add_node_name, add_word, add_word_and_number, start_number};
 use crate::letters::Letter;
-use crate::lists::{Listed, add_each};
+use crate::lists::{Json, Line, Listed, add_each};
 use crate::parts::add_letter_json;
 use mx_journal::{Range, Record};
 use mx_member::{Parcel, SentParcel};
 use mx_plan::Plan;
-use mx_stamps::NodeId;
 use std::alloc::AllocError;
 
-impl Listed for Range {
-    ghost written = { λ is_json _ range. range_by is_json range };
+impl Listed<Line> for Range {
+    ghost written = { λ _ range. range_text range };
 
-    fn add(&self, _plan: &Plan, is_json: bool, text: &mut String) -> Result<(), AllocError> {
-        if is_json {
-            return write!(text, "[{},{}]", self.first, self.last);
-        }
+    fn add(&self, _plan: &Plan, text: &mut String) -> Result<(), AllocError> {
         write!(text, "{}..{}", self.first, self.last)
     }
 }
 
-impl Listed for Record {
-    ghost written = { λ _ _ entry. record_text entry };
+impl Listed<Json> for Range {
+    ghost written = { λ _ range. range_json range };
 
-    fn add(&self, _plan: &Plan, _is_json: bool, text: &mut String) -> Result<(), AllocError> {
+    fn add(&self, _plan: &Plan, text: &mut String) -> Result<(), AllocError> {
+        write!(text, "[{},{}]", self.first, self.last)
+    }
+}
+
+impl<Form> Listed<Form> for Record {
+    ghost written = { λ _ entry. record_text entry };
+
+    fn add(&self, _plan: &Plan, text: &mut String) -> Result<(), AllocError> {
         write!(text, "{}", self.number)
     }
 }
@@ -47,26 +51,10 @@ pub fn add_parcel_line<M: Letter>(
         ++ parcel_line (letter_text M.parts) plan.now number
         (sent.now.from, sent.now.to, sent.now.parcel.now)) }
 {
-    text.push_str("  ")?;
-    add_route(plan, number, sent.from, sent.to, text)?;
-    text.push_str(" ")?;
+    let (from, to) = (name_of(plan, sent.from), name_of(plan, sent.to));
+    write!(text, "  #{number} {from}>{to} ")?;
     add_parcel(plan, sent.parcel, text)?;
     text.push_str("\n")
-}
-
-/// Appends a parcel's number, and from whom to whom it goes.
-fn add_route(
-    plan: &Plan,
-    number: u64,
-    from: NodeId,
-    to: NodeId,
-    text: &mut String,
-) -> Result<(), AllocError>
-    ensures { OnOk result (string_bytes text.new
-        ≡ string_bytes text.old ++ route_text plan.now number from to) }
-{
-    let (from, to) = (name_of(plan, from), name_of(plan, to));
-    write!(text, "#{number} {from}>{to}")
 }
 
 /// Appends the text of a parcel.
@@ -86,18 +74,17 @@ pub fn add_parcel<M: Letter>(
     }
 }
 
-fn add_list<V: Listed>(
+fn add_list<V: Listed<Line>>(
     plan: &Plan,
     word: &str,
     values: &[V],
     text: &mut String,
 ) -> Result<(), AllocError>
     ensures { OnOk result (string_bytes text.new ≡ string_bytes text.old
-        ++ (word.now ++ each_text (λ value. codes " " ++ V.written false plan.now value)
-        values.now)) }
+        ++ (word.now ++ each_text (λ value. codes " " ++ V.written plan.now value) values.now)) }
 {
     text.push_str(word)?;
-    add_each(plan, false, " ", values, text)
+    add_each(plan, " ", values, text)
 }
 
 /// Appends the line of a parcel, as an object of JSON.
@@ -136,7 +123,7 @@ fn add_content_json<M: Letter>(
     }
 }
 
-fn add_list_json<V: Listed>(
+fn add_list_json<V: Listed<Json>>(
     plan: &Plan,
     kind: &str,
     key: &str,
@@ -145,7 +132,7 @@ fn add_list_json<V: Listed>(
 ) -> Result<(), AllocError>
     ensures { OnOk result (string_bytes text.new ≡ string_bytes text.old
         ++ (word_member (codes "kind") kind.now
-        ++ array_member key.now (V.written true plan.now) values.now)) }
+        ++ array_member key.now (V.written plan.now) values.now)) }
 {
     add_word("kind", kind, text)?;
     add_array(plan, key, values, text)

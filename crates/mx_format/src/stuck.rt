@@ -1,11 +1,13 @@
 //! The line of a run that stands still: which nodes wait, and for whom.
 
 ghost use Rattle.std.specs.Prelude.{◌≡◌, ◌++◌, IfOk, OnOk, find, option_map, string_bytes};
-ghost use Rattle.mx_format.specs.StuckTexts.{name_by, names_others, nodes_in, others_in, others_text, stuck_json, stuck_line, stuck_text, waiter, waiter_by, waiter_json, waiter_text};
+ghost use Rattle.mx_format.specs.StuckTexts.{names_others, nodes_in, others_in, relation_of, stuck_line, stuck_text, waiter, waiter_json, waiter_text};
+ghost use Rattle.mx_format.specs.EventArrays.{quoted};
+ghost use Rattle.mx_format.specs.EventTexts.{name_of};
 
 use crate::events::name_of;
-use crate::json::{add_array, start_array, start_node};
-use crate::lists::{Listed, add_each};
+use crate::json::{add_array, start_node};
+use crate::lists::{Json, Line, Listed, add_each, add_joined};
 use mx_knowledge::{Fact, Facts, Item};
 use mx_plan::Plan;
 use mx_stamps::NodeId;
@@ -39,47 +41,55 @@ impl Waiter {
         let others = others_in(alloc, facts)?;
         Ok(Waiter { node, others })
     }
+}
 
-    fn add_json(&self, plan: &Plan, text: &mut String) -> Result<(), AllocError>
-        ensures { OnOk result (string_bytes text.new
-            ≡ string_bytes text.old ++ waiter_json plan.now self.now) }
-    {
+impl Listed<Line> for Waiter {
+    ghost written = { waiter_text };
+
+    fn add(&self, plan: &Plan, text: &mut String) -> Result<(), AllocError> {
+        text.push_str(name_of(plan, self.node))?;
+        text.push_str(" waits")?;
+        if self.others.is_empty() {
+            return Ok(());
+        }
+        text.push_str(" for")?;
+        add_each::<Line, NodeId>(plan, " ", self.others.as_slice(), text)
+    }
+}
+
+impl Listed<Json> for Waiter {
+    ghost written = { waiter_json };
+
+    fn add(&self, plan: &Plan, text: &mut String) -> Result<(), AllocError> {
         start_node(plan, self.node, text)?;
         add_array(plan, "for", self.others.as_slice(), text)?;
         text.push_str("}")
     }
+}
 
-    fn add_text(&self, plan: &Plan, text: &mut String) -> Result<(), AllocError>
-        ensures { OnOk result (string_bytes text.new
-            ≡ string_bytes text.old ++ waiter_text plan.now self.now) }
-    {
-        text.push_str(name_of(plan, self.node))?;
-        text.push_str(" waits")?;
-        add_others(plan, self.others.as_slice(), text)
+impl Listed<Line> for NodeId {
+    ghost written = { name_of };
+
+    fn add(&self, plan: &Plan, text: &mut String) -> Result<(), AllocError> {
+        text.push_str(name_of(plan, *self))
     }
 }
 
-impl Listed for Waiter {
-    ghost written = { waiter_by };
+impl Listed<Json> for NodeId {
+    ghost written = { λ p node. quoted (name_of p node) };
 
-    fn add(&self, plan: &Plan, is_json: bool, text: &mut String) -> Result<(), AllocError> {
-        if is_json {
-            return self.add_json(plan, text);
-        }
-        self.add_text(plan, text)
+    fn add(&self, plan: &Plan, text: &mut String) -> Result<(), AllocError> {
+        write!(text, "\"{}\"", name_of(plan, *self))
     }
 }
 
-impl Listed for NodeId {
-    ghost written = { name_by };
-
-    fn add(&self, plan: &Plan, is_json: bool, text: &mut String) -> Result<(), AllocError> {
-        let name = name_of(plan, *self);
-        if is_json {
-            return write!(text, "\"{name}\"");
-        }
-        text.push_str(name)
-    }
+/// What the nodes in a fact are to the node that knows it.
+#[derive(Clone, Copy)]
+pub enum Relation {
+    /// Those for which it waits.
+    Awaited,
+    /// Any others.
+    Other,
 }
 
 /// Returns the nodes for which a node waits that knows these facts.
@@ -96,13 +106,18 @@ fn others_fact(facts: &[Fact]) -> Option<&Fact>
     ensures { option_map (λ fact. fact.now) result
         ≡ find (λ fact. names_others fact.name.now) facts.now }
 {
-    facts.iter().find(|fact| names_others(fact.name))
+    facts
+        .iter()
+        .find(|fact| matches!(relation_of(fact.name), Relation::Awaited))
 }
 
-fn names_others(name: &str) -> bool
-    ensures { result ≡ names_others name.now }
+fn relation_of(name: &str) -> Relation
+    ensures { result ≡ relation_of name.now }
 {
-    name == "missing" || name == "privilege towards"
+    match name {
+        "missing" | "privilege towards" => Relation::Awaited,
+        _ => Relation::Other,
+    }
 }
 
 fn nodes_in(alloc: Global, items: &[Item]) -> Result<Vec<NodeId>, AllocError>
@@ -115,17 +130,6 @@ fn nodes_in(alloc: Global, items: &[Item]) -> Result<Vec<NodeId>, AllocError>
         }
     }
     Ok(nodes)
-}
-
-fn add_others(plan: &Plan, others: &[NodeId], text: &mut String) -> Result<(), AllocError>
-    ensures { OnOk result (string_bytes text.new
-        ≡ string_bytes text.old ++ others_text plan.now others.now) }
-{
-    if others.is_empty() {
-        return Ok(());
-    }
-    text.push_str(" for")?;
-    add_each(plan, false, " ", others, text)
 }
 
 /// Appends the line of a run in which nothing is under way, and these nodes wait; as an object of
@@ -143,17 +147,11 @@ pub fn add_stuck(
         return Ok(());
     }
     if is_json {
-        return add_json(plan, waiters, text);
+        text.push_str("{\"stuck\":[")?;
+        add_joined::<Json, Waiter>(plan, ",", waiters, text)?;
+        return text.push_str("]}\n");
     }
     add_line(plan, waiters, text)
-}
-
-fn add_json(plan: &Plan, waiters: &[Waiter], text: &mut String) -> Result<(), AllocError>
-    ensures { OnOk result (string_bytes text.new
-        ≡ string_bytes text.old ++ stuck_json plan.now waiters.now) }
-{
-    start_array(plan, "stuck", waiters, text)?;
-    text.push_str("}\n")
 }
 
 fn add_line(plan: &Plan, waiters: &[Waiter], text: &mut String) -> Result<(), AllocError>
@@ -161,6 +159,6 @@ fn add_line(plan: &Plan, waiters: &[Waiter], text: &mut String) -> Result<(), Al
         ≡ string_bytes text.old ++ stuck_line plan.now waiters.now) }
 {
     text.push_str("stuck: nothing under way")?;
-    add_each(plan, false, "; ", waiters, text)?;
+    add_each::<Line, Waiter>(plan, "; ", waiters, text)?;
     text.push_str("\n")
 }

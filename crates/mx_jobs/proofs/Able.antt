@@ -1,5 +1,5 @@
 -- Where a node is not refused for want of a section number: inside, after leaving, and after an enter that was not.
-use Rattle.std.proofs.Common.{◌≡◌, ◌∙◌, false, ℕ, Result, Ok, Err, OnOk, OnErr, ap, subst, sym}
+use Rattle.std.proofs.Common.{◌≡◌, ◌∙◌, false, ℕ, Result, Ok, Err, OnOk, OnErr, ap, sym}
 use Rattle.mx_nodelaws.specs.Core.{Core, KeepsPhases}
 use Rattle.mx_nodelaws.specs.declared.faults.EnterFault.{EnterFault}
 use Rattle.mx_nodelaws.specs.declared.faults.EnterFault.TheVariants.{NotGranted, NotWaiting, NumbersSpent}
@@ -12,33 +12,23 @@ use Rattle.mx_stations.specs.Posts.{does}
 use Rattle.mx_stations.specs.Turns.{Station}
 use Rattle.mx_jobs.specs.Sections.{IsSpent}
 
-apart : ◌≡◌ {A = Result ℕ EnterFault} (Err NotWaiting) (Err NumbersSpent) → ⊥
-apart e = cc
-
-granted : ◌≡◌ {A = Result ℕ EnterFault} (Err NotGranted) (Err NumbersSpent) → ⊥
-granted e = cc
-
-idle_waiting : Idle ≡ Waiting → ⊥
-idle_waiting e = cc
-
-inside_waiting : (n : ℕ) → Inside n ≡ Waiting → ⊥
-inside_waiting n e = cc
-
 module _ {H S M : Type 0} (core : Core H S M) (phases : KeepsPhases core) where
   only_waiting : (s : S) (p : Phase) → core.phase s ≡ p → (p ≡ Waiting → ⊥) → (core.enter s).answer ≡ Err NumbersSpent → ⊥
-  only_waiting s p is not spent = apart (sym ((phases.enter_not_waiting s).1 (λ waits. not (sym is ∙ waits))) ∙ spent)
+  only_waiting s p is not spent =
+      let wrong : ◌≡◌ {A = Result ℕ EnterFault} (Err NotWaiting) (Err NumbersSpent) = sym ((phases.enter_not_waiting s).1 (λ waits. not (sym is ∙ waits))) ∙ spent in cc
 
   pub inside_able : (n : ℕ) (s : Station core) → core.phase s.me.member.core ≡ Inside n → IsSpent core s → ⊥
-  inside_able n s is spent = only_waiting s.me.member.core (Inside n) is (inside_waiting n) spent
+  inside_able n s is spent = only_waiting s.me.member.core (Inside n) is (λ e. cc) spent
 
   pub waiting_able : (s : Station core) → core.phase s.me.member.core ≡ Waiting → core.can_enter s.me.member.core ≡ false → IsSpent core s → ⊥
-  waiting_able s waits not spent = granted (sym ((phases.enter_not_granted s.me.member.core).1 (waits, not)) ∙ spent)
+  waiting_able s waits not spent =
+      let wrong : ◌≡◌ {A = Result ℕ EnterFault} (Err NotGranted) (Err NumbersSpent) = sym ((phases.enter_not_granted s.me.member.core).1 (waits, not)) ∙ spent in cc
 
   pub left_able : (n : ℕ) (s t : Station core) → core.phase s.me.member.core ≡ Inside n → t ≡ does core Leave s → IsSpent core t → ⊥
   left_able n s t is did spent =
       let m = s.me.member in
       let idle : core.phase t.me.member.core ≡ Idle = ap (λ (z : Station core). core.phase z.me.member.core) did ∙ ap (λ (p : Phase). core.phase (leave_at core m p).state.core) is ∙ phases.leave_ok m.core n ((phases.leave_inside m.core n).1 is) in
-      only_waiting t.me.member.core Idle idle idle_waiting spent
+      only_waiting t.me.member.core Idle idle (λ e. cc) spent
 
   pub entered_able : (r : Result ℕ EnterFault) (s t : Station core) → r ≡ (enter_of core s.me.member).answer → (r ≡ Err NumbersSpent → ⊥) → OnOk r (t ≡ does core Enter s) → OnErr r (t ≡ s) → IsSpent core t → ⊥
   entered_able (Ok n) s t is not did same spent =

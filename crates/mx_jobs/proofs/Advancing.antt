@@ -1,7 +1,6 @@
 -- How stations and jobs go on.
-use Rattle.std.proofs.Common.{◌≡◌, ◌∙◌, ℕ, ◌-◌, inl, inr, nat_le, nat_lt, Bool, true, false, List, [], ◌∷◌, ◌++◌, Option, None, Result, Ok, Err, OnOk, OnErr, refl, sym, ap, subst}
+use Rattle.std.proofs.Common.{◌≡◌, ◌∙◌, ℕ, ◌-◌, inl, inr, nat_le, nat_lt, Bool, true, false, List, [], ◌∷◌, ◌++◌, Option, Result, Ok, Err, OnOk, OnErr, refl, sym, ap, subst}
 use Rattle.std.proofs.lemmas.List.{append-nil, append_assoc}
-use Rattle.mx_journal.specs.declared.records.Write.{Write as OneWrite}
 use Rattle.mx_journal.specs.declared.receipts.Receipt.{Receipt}
 use Rattle.mx_journal.specs.Drafted.{receipt_of}
 use Rattle.mx_journal.specs.declared.settlement.SettleFault.{SettleFault}
@@ -9,28 +8,26 @@ use Rattle.mx_nodelaws.specs.Core.{Core, KeepsPhases}
 use Rattle.mx_nodelaws.specs.World.{Quiet}
 use Rattle.mx_nodelaws.specs.declared.faults.EnterFault.{EnterFault}
 use Rattle.mx_member.specs.declared.acts.Act.{Act}
-use Rattle.mx_member.specs.declared.acts.Act.TheVariants.{Ask, Deliver, Enter, Leave, Settle, Tick, Want}
+use Rattle.mx_member.specs.declared.acts.Act.TheVariants.{Ask, Deliver, Enter, Leave, Settle, Tick}
 use Rattle.mx_member.specs.declared.parcel.Parcel.{Parcel}
 use Rattle.mx_member.specs.declared.parcel.Parcel.TheVariants as parcel
 use Rattle.mx_member.specs.Acts.{act_of}
 use Rattle.mx_member.specs.Receipts.{closed_by}
 use Rattle.mx_member.specs.Member.{MemberState, Setting, first_gap}
 use Rattle.mx_member.specs.Steps.{entered, leave_of, settle_of, take_of}
-use Rattle.mx_stations.specs.declared.answers.PutOut.{PutOut}
-use Rattle.mx_stations.specs.declared.answers.PutOut.TheVariants.{Sent, Full, Nothing}
-use Rattle.mx_stations.specs.Posts.{PutsOut, after_act, does}
-use Rattle.mx_stations.specs.Turns.{Chain, Goes, Moves, Station}
+use Rattle.mx_stations.specs.Posts.{after_act, does}
+use Rattle.mx_stations.specs.Turns.{Goes, Station}
 use Rattle.mx_stations.specs.Works.{SettlesIfDue}
+use Rattle.mx_stations.proofs.Going.{goes_keep}
 use Rattle.mx_jobs.specs.declared.tries.JobFault.{JobFault}
+use Rattle.mx_jobs.specs.Rounds.{ActsForJob}
 use Rattle.mx_jobs.specs.Sections.{Advances, CannotGoOn, Fails, IsSection, Leaves, Pends, Reaches, Rests, Runs}
 use Rattle.mx_jobs.proofs.Made.{pending_left}
 use Rattle.mx_jobs.proofs.Members.{pick, rests_acting, rests_here, rests_on}
+use Rattle.mx_jobs.proofs.Rounding.{acted_on, tried_act}
 use Rattle.mx_jobs.specs.Terms.{Terms}
 
 module _ {H S M : Type 0} (core : Core H S M) where
-  kept_by : (s t u : Station core) → t ≡ u → Rests core s u → Rests core s t
-  kept_by s t u same rests = rests_on core s u t rests (rests_here core u t same)
-
   taken_setting : (from : ℕ) (p : Parcel M) (m : MemberState S) → (take_of core from p m).state.setting ≡ m.setting
   taken_setting from (parcel.Guard letter) m = refl
   taken_setting from (parcel.Want ranges) m = refl
@@ -40,60 +37,24 @@ module _ {H S M : Type 0} (core : Core H S M) where
   rests_delivered : (from : ℕ) (p : Parcel M) (hand : Option (ℕ × Parcel M)) (s : Station core) → Rests core s (after_act core (Deliver from p) hand s)
   rests_delivered from p hand s = record { home = refl; setting = taken_setting from p s.me.member; receipts = append-nil s.me.receipts }
 
-  put_rests : (s t : Station core) (r : PutOut) → PutsOut s r t → Rests core s t
-  put_rests s t Sent did = kept_by s t _ did.6 (record { home = refl; setting = refl; receipts = refl })
-  put_rests s t Full did = kept_by s t _ did.4 (record { home = refl; setting = refl; receipts = refl })
-  put_rests s t Nothing did = rests_here core s t did.1
-
-  moved_rests : (s t : Station core) → Moves core s t → Rests core s t
-  moved_rests s t (inl did) = kept_by s t _ did.3 (rests_delivered did.0 did.1 s.me.hand s)
-  moved_rests s t (inr (inl did)) = kept_by s t _ did.3 (rests_delivered did.0 did.1 _ s)
-  moved_rests s t (inr (inr (inl did))) = kept_by s t _ did.1.1.3 (record { home = refl; setting = refl; receipts = refl })
-  moved_rests s t (inr (inr (inr (inl did)))) = kept_by s t _ did.1.1.3 (record { home = refl; setting = refl; receipts = refl })
-  moved_rests s t (inr (inr (inr (inr (inl did))))) = put_rests s t did.0 did.1
-  moved_rests s t (inr (inr (inr (inr (inr did))))) = rests_acting core Tick s t refl refl did
-
-  chain_rests : (ms : List (Station core)) (s t : Station core) → Chain core ms s t → Rests core s t
-  chain_rests [] s t same = rests_here core s t same
-  chain_rests (m ∷ ms) s t did = rests_on core s m t (moved_rests s m did.0) (chain_rests ms m t did.1)
-
   pub goes_rests : (s t : Station core) → Goes core s t → Rests core s t
-  goes_rests s t did = chain_rests did.0 s t did.1
+  goes_rests = goes_keep core (Rests core) (rests_on core) (λ s t home member receipts. record { home = home; setting = ap (λ (m : MemberState S). m.setting) member; receipts = receipts })
+      (λ from p hand s. rests_delivered from p hand s) (λ s. rests_acting core Tick s (does core Tick s) refl refl refl)
 
   -- a turn leaves phase and draft as they are
   abbrev Stays : Station core → Station core → Type 0
   Stays s t = (core.phase t.me.member.core ≡ core.phase s.me.member.core) × (t.me.member.draft ≡ s.me.member.draft)
 
   module _ (phases : KeepsPhases core) where
-    stays_as : (s t u : Station core) → t ≡ u → Stays s u → Stays s t
-    stays_as s t u same stays = subst (Stays s) (sym same) stays
-
     stays_taken : (from : ℕ) (p : Parcel M) (hand : Option (ℕ × Parcel M)) (s : Station core) → Stays s (after_act core (Deliver from p) hand s)
     stays_taken from (parcel.Guard letter) hand s = (phases.deliver_phase from letter s.me.member.core, refl)
     stays_taken from (parcel.Want ranges) hand s = (refl, refl)
     stays_taken from (parcel.Base base) hand s = (refl, refl)
     stays_taken from (parcel.Records records) hand s = (refl, refl)
 
-    put_stays : (s t : Station core) (r : PutOut) → PutsOut s r t → Stays s t
-    put_stays s t Sent did = stays_as s t _ did.6 (refl, refl)
-    put_stays s t Full did = stays_as s t _ did.4 (refl, refl)
-    put_stays s t Nothing did = stays_as s t s did.1 (refl, refl)
-
-    moved_stays : (s t : Station core) → Moves core s t → Stays s t
-    moved_stays s t (inl did) = stays_as s t _ did.3 (stays_taken did.0 did.1 s.me.hand s)
-    moved_stays s t (inr (inl did)) = stays_as s t _ did.3 (stays_taken did.0 did.1 None s)
-    moved_stays s t (inr (inr (inl did))) = stays_as s t _ did.1.1.3 (refl, refl)
-    moved_stays s t (inr (inr (inr (inl did)))) = stays_as s t _ did.1.1.3 (refl, refl)
-    moved_stays s t (inr (inr (inr (inr (inl did))))) = put_stays s t did.0 did.1
-    moved_stays s t (inr (inr (inr (inr (inr did))))) = stays_as s t _ did (phases.tick_phase s.me.member.core, refl)
-
-    chain_stays : (ms : List (Station core)) (s t : Station core) → Chain core ms s t → Stays s t
-    chain_stays [] s t same = stays_as s t s same (refl, refl)
-    chain_stays (m ∷ ms) s t did =
-        let one = moved_stays s m did.0 in let more = chain_stays ms m t did.1 in (more.0 ∙ one.0, more.1 ∙ one.1)
-
     pub goes_stays : (s t : Station core) → Goes core s t → Stays s t
-    goes_stays s t did = chain_stays did.0 s t did.1
+    goes_stays = goes_keep core Stays (λ s t u a b. (b.0 ∙ a.0, b.1 ∙ a.1)) (λ s t home member receipts. (ap (λ (m : MemberState S). core.phase m.core) member, ap (λ (m : MemberState S). m.draft) member))
+        (λ from p hand s. stays_taken from p hand s) (λ s. (phases.tick_phase s.me.member.core, refl))
 
   -- settling leaves all but the journal
   settle_keeps : (k : ℕ) (m : MemberState S) → ((settle_of k m).state.setting ≡ m.setting) × ((settle_of k m).state.core ≡ m.core) × ((settle_of k m).state.draft ≡ m.draft)
@@ -114,15 +75,16 @@ module _ {H S M : Type 0} (core : Core H S M) where
   trying a (Ok x) s t none setting did same = rests_acting core a s t none setting did
   trying a (Err e) s t none setting did same = rests_here core s t same
 
-  pub asked : {A F : Type 0} (r : Result A F) (s t : Station core) → OnOk r (t ≡ does core Ask s) → OnErr r (t ≡ s) → Rests core s t
-  asked r s t did same = trying Ask r s t refl refl did same
-
   entered_setting : (r : Result ℕ EnterFault) (m : MemberState S) → (entered r m).setting ≡ m.setting
   entered_setting (Ok n) m = refl
   entered_setting (Err e) m = refl
 
-  pub came : {A F : Type 0} (r : Result A F) (s t : Station core) → OnOk r (t ≡ does core Enter s) → OnErr r (t ≡ s) → Rests core s t
-  came r s t did same = trying Enter r s t refl (entered_setting (core.enter s.me.member.core).answer _) did same
+  -- the node asks and enters, unless it is refused
+  pub begins : {A F B G : Type 0} (a : Result A F) (b : Result B G) (s t u : Station core) → OnOk a (t ≡ does core Ask s) → OnErr a (t ≡ s) → OnOk b (u ≡ does core Enter t) → OnErr b (u ≡ t) → Rests core s u × ActsForJob core s u
+  begins a b s t u asked refused entered not = (
+    rests_on core s t u (trying Ask a s t refl refl asked refused) (trying Enter b t u refl (entered_setting (core.enter t.me.member.core).answer _) entered not),
+    acted_on core s t u (tried_act core Ask a s t tt asked refused) (tried_act core Enter b t u tt entered not),
+  )
 
 module _ {J : Type 0} (terms : Terms J) where
   runs_on : (count : ℕ) (job : J) (rs : List Receipt) (next : J) (more : List Receipt) (after : J) → Runs terms count job rs next → Runs terms count next more after → Runs terms count job (rs ++ more) after

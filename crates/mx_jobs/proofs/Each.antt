@@ -1,15 +1,10 @@
--- Lists of which each element is so at its place.
-use Rattle.std.proofs.Common.{◌≡◌, ◌∙◌, ◌+◌, ℕ, zero, suc, List, [], ◌∷◌, Option, None, IfNone, MatchOption, slice_get, Some, ap, arith, refl, subst}
+-- What is found in a list, or not.
+use Rattle.std.proofs.Common.{◌≡◌, ◌∙◌, ℕ, zero, suc, List, [], ◌∷◌, Option, None, IfNone, MatchOption, slice_get, Some, ap, refl}
 use mathlib.Core.Option.{some}
 use lib.ListN.{get_elem?}
 use Rattle.std.proofs.lemmas.Option.{same_Some}
 use Rattle.mx_stamps.proofs.Lists.{none_is_no_some}
-use Rattle.mx_jobs.specs.Posted.{AreEach, AreReady}
-
-module _ {X : Type 0} {Is : ℕ → X → Type 0} where
-  -- what is at a place is so
-  pub each_at : (k : ℕ) (xs : List X) (x : X) → slice_get xs k ≡ Some x → AreEach Is 0 xs → Is k x
-  each_at k xs x at all = subst (λ (i : ℕ). Is i x) (let e : 0 + k ≡ k = omega arith in e) (all.each k x at)
+use Rattle.mx_jobs.specs.Posted.{AreReady}
 
 -- what is so where nothing was found
 pub when_none : {T P : Type 0} (r : Option T) → ((x : T) → r ≡ Some x → ⊥) → IfNone r P → P

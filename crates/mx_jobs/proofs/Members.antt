@@ -24,9 +24,6 @@ use Rattle.mx_member.specs.Member.{MemberState, Setting, first_gap, with_draft}
 use Rattle.mx_member.specs.Steps.{read_at, read_inside, read_of, refusing, write_at, write_inside, write_of}
 use Rattle.mx_stations.specs.Posts.{does}
 use Rattle.mx_stations.specs.Turns.{Station}
-use Rattle.mx_jobs.specs.declared.tries.JobFault.{JobFault}
-use Rattle.mx_jobs.specs.declared.tries.Tried.{Tried}
-use Rattle.mx_jobs.specs.declared.tries.Tried.TheVariants.{Gap, Left, Outside, Pending}
 use Rattle.mx_jobs.specs.Laws.{AreThere}
 use Rattle.mx_jobs.specs.Sections.{Drafts, HasRead, Rests}
 
@@ -43,57 +40,33 @@ same_err f h e = cc
 pub same_ok : {A F : Type 0} (v w : A) → ◌≡◌ {A = Result A F} (Ok v) (Ok w) → v ≡ w
 same_ok v w e = cc
 
-no_gap : (n : ℕ) → ◌≡◌ {A = Result ℕ ReadFault} (Err read.NoRegister) (Err (read.Gap n)) → ⊥
-no_gap n e = cc
-
-no_full : ◌≡◌ {A = Result ℕ ReadFault} (Err read.NoRegister) (Err read.Full) → ⊥
-no_full e = cc
-
-no_settled : (n : ℕ) → ◌≡◌ {A = Result ℕ ReadFault} (Err read.NoRegister) (Err (read.Settled n)) → ⊥
-no_settled n e = cc
-
-no_outside : ◌≡◌ {A = Result ℕ ReadFault} (Err read.NoRegister) (Err read.NotInside) → ⊥
-no_outside e = cc
+other_fault : (f : ReadFault) → (read.NoRegister ≡ f → ⊥) → ◌≡◌ {A = Result ℕ ReadFault} (Err read.NoRegister) (Err f) → ⊥
+other_fault f not e = not (same_err {A = ℕ} read.NoRegister f e)
 
 module _ {S : Type 0} (m : MemberState S) where
-  -- a step that answers this value notes a read of it
+  -- a step that answers this value notes a read of it, of a register that is there
   abbrev Notes : ℕ → ℕ → Quiet (MemberState S) (Result ℕ ReadFault) → Type 0
-  Notes register v step = Ok v ≡ step.answer → step.state ≡ with_draft (with_read register v m.draft) m
+  Notes register v step = Ok v ≡ step.answer → (step.state ≡ with_draft (with_read register v m.draft) m) × (register < m.setting.registers)
 
   refuses : (register v : ℕ) (f : ReadFault) → Notes register v (refusing m f)
   refuses register v f e = absurd (ok_err v f e)
 
   inside_notes : (register n v : ℕ) → Notes register v (read_inside register n m)
   inside_notes register n v =
-      pick (Notes register v) (nat_le m.setting.registers register) _ _ (refuses register v _)
-      (pick (Notes register v) (nat_lt (first_gap m.journal) n) _ _ (refuses register v _)
+      cond_case (Notes register v) (nat_le m.setting.registers register) _ _ (λ is. refuses register v _) (λ is.
+      pick (Notes register v) (nat_lt (first_gap m.journal) n) _ _ (refuses register v _)
       (pick (Notes register v) (nat_le 8 (length m.draft.reads)) _ _ (refuses register v _)
       (pick (Notes register v) (nat_le n m.journal.base.upto) _ _ (refuses register v _)
-      (λ e. ap (λ w. with_draft (with_read register w m.draft) m) (sym (same_ok {F = ReadFault} v _ e))))))
+      (λ e. (ap (λ w. with_draft (with_read register w m.draft) m) (sym (same_ok {F = ReadFault} v _ e)), le_false m.setting.registers register is)))))
 
-  -- a step that is done notes a write
+  -- a step that is done notes a write, to a register that is there
   abbrev Wrote : ℕ → ℕ → Quiet (MemberState S) (Result (Unit {0}) WriteFault) → Type 0
-  Wrote register v step = Ok tt ≡ step.answer → step.state ≡ with_draft (with_write register v m.draft) m
+  Wrote register v step = Ok tt ≡ step.answer → (step.state ≡ with_draft (with_write register v m.draft) m) × (register < m.setting.registers)
 
   inside_wrote : (register v : ℕ) → Wrote register v (write_inside register v m)
   inside_wrote register v =
-      pick (Wrote register v) (nat_le m.setting.registers register) _ _ (λ e. absurd (ok_err tt _ e))
-      (pick (Wrote register v) (nat_le 8 (length m.draft.writes)) _ _ (λ e. absurd (ok_err tt _ e)) (λ e. refl))
-
-  -- a step that answers this value reads a register that is there
-  abbrev IsThere : ℕ → ℕ → Quiet (MemberState S) (Result ℕ ReadFault) → Type 0
-  IsThere register v step = Ok v ≡ step.answer → register < m.setting.registers
-
-  inside_there : (register n v : ℕ) → IsThere register v (read_inside register n m)
-  inside_there register n v =
-      cond_case (IsThere register v) (nat_le m.setting.registers register) _ _ (λ is e. absurd (ok_err v _ e)) (λ is e. le_false m.setting.registers register is)
-
-  abbrev WritesThere : ℕ → Quiet (MemberState S) (Result (Unit {0}) WriteFault) → Type 0
-  WritesThere register step = Ok tt ≡ step.answer → register < m.setting.registers
-
-  inside_writes_there : (register v : ℕ) → WritesThere register (write_inside register v m)
-  inside_writes_there register v =
-      cond_case (WritesThere register) (nat_le m.setting.registers register) _ _ (λ is e. absurd (ok_err tt _ e)) (λ is e. le_false m.setting.registers register is)
+      cond_case (Wrote register v) (nat_le m.setting.registers register) _ _ (λ is e. absurd (ok_err tt _ e))
+      (λ is. pick (Wrote register v) (nat_le 8 (length m.draft.writes)) _ _ (λ e. absurd (ok_err tt _ e)) (λ e. (refl, le_false m.setting.registers register is)))
 
   -- a step that is refused for want of its register reads none that is there
   abbrev Lacks : ℕ → Quiet (MemberState S) (Result ℕ ReadFault) → Type 0
@@ -102,9 +75,9 @@ module _ {S : Type 0} (m : MemberState S) where
   inside_lacks : (register n : ℕ) → Lacks register (read_inside register n m)
   inside_lacks register n =
       cond_case (Lacks register) (nat_le m.setting.registers register) _ _ (λ is e low. let high = le_true m.setting.registers register is in omega (arith, high, low))
-      (λ is. pick (Lacks register) (nat_lt (first_gap m.journal) n) _ _ (λ e low. no_gap _ e)
-      (pick (Lacks register) (nat_le 8 (length m.draft.reads)) _ _ (λ e low. no_full e)
-      (pick (Lacks register) (nat_le n m.journal.base.upto) _ _ (λ e low. no_settled _ e) (λ e low. ok_err _ _ (sym e)))))
+      (λ is. pick (Lacks register) (nat_lt (first_gap m.journal) n) _ _ (λ e low. other_fault _ (λ is. cc) e)
+      (pick (Lacks register) (nat_le 8 (length m.draft.reads)) _ _ (λ e low. other_fault _ (λ is. cc) e)
+      (pick (Lacks register) (nat_le n m.journal.base.upto) _ _ (λ e low. other_fault _ (λ is. cc) e) (λ e low. ok_err _ _ (sym e)))))
 
   -- a draft with room takes each write to a register that is there
   inside_takes : (register v : ℕ) → length m.draft.writes < 8 → register < m.setting.registers → (write_inside register v m).answer ≡ Ok tt
@@ -114,8 +87,8 @@ module _ {S : Type 0} (m : MemberState S) where
 
 module _ {H S M : Type 0} (core : Core H S M) where
   at_lacks : (register : ℕ) (m : MemberState S) (p : Phase) → Lacks m register (read_at core register m p)
-  at_lacks register m Idle e low = no_outside e
-  at_lacks register m Waiting e low = no_outside e
+  at_lacks register m Idle e low = other_fault _ (λ is. cc) e
+  at_lacks register m Waiting e low = other_fault _ (λ is. cc) e
   at_lacks register m (Inside n) e low = inside_lacks m register n e low
 
   pub read_lacks : (register : ℕ) (s : Station core) → Err read.NoRegister ≡ (read_of core register s.me.member).answer → register < s.me.member.setting.registers → ⊥
@@ -136,22 +109,12 @@ module _ {H S M : Type 0} (core : Core H S M) where
   at_wrote register v m Waiting e = absurd (ok_err tt _ e)
   at_wrote register v m (Inside n) e = inside_wrote m register v e
 
-  at_there : (register v : ℕ) (m : MemberState S) (p : Phase) → IsThere m register v (read_at core register m p)
-  at_there register v m Idle e = absurd (ok_err v _ e)
-  at_there register v m Waiting e = absurd (ok_err v _ e)
-  at_there register v m (Inside n) e = inside_there m register n v e
-
-  writes_there : (register v : ℕ) (m : MemberState S) (p : Phase) → WritesThere m register (write_at core register v m p)
-  writes_there register v m Idle e = absurd (ok_err tt _ e)
-  writes_there register v m Waiting e = absurd (ok_err tt _ e)
-  writes_there register v m (Inside n) e = inside_writes_there m register v e
-
   -- what is read or written is there
   pub read_there : (register v : ℕ) (s : Station core) → Ok v ≡ (read_of core register s.me.member).answer → register < s.me.member.setting.registers
-  read_there register v s found = at_there register v s.me.member (core.phase s.me.member.core) found
+  read_there register v s found = (at_notes register v s.me.member (core.phase s.me.member.core) found).1
 
   pub write_there : (register v : ℕ) (s : Station core) → Ok tt ≡ (write_of core register v s.me.member).answer → register < s.me.member.setting.registers
-  write_there register v s found = writes_there register v s.me.member (core.phase s.me.member.core) found
+  write_there register v s found = (at_wrote register v s.me.member (core.phase s.me.member.core) found).1
 
   -- an act that answers no receipt, and leaves the setting
   pub rests_acting : (a : Act M) (s t : Station core) → closed_by (act_of core a s.me.member).answer ≡ [] → (act_of core a s.me.member).state.setting ≡ s.me.member.setting → t ≡ does core a s → Rests core s t
@@ -197,10 +160,10 @@ module _ {H S M : Type 0} (core : Core H S M) where
 
   -- a read that found this value
   pub read_drafts : (register v : ℕ) (s t : Station core) → Ok v ≡ (read_of core register s.me.member).answer → t ≡ does core (Read register) s → Drafts core s (with_read register v s.me.member.draft) t
-  read_drafts register v s t found did = drafts_acting (Read register) (with_read register v s.me.member.draft) s t refl (at_notes register v s.me.member (core.phase s.me.member.core) found) did
+  read_drafts register v s t found did = drafts_acting (Read register) (with_read register v s.me.member.draft) s t refl (at_notes register v s.me.member (core.phase s.me.member.core) found).0 did
 
   pub write_drafts : (register v : ℕ) (s t : Station core) → Ok tt ≡ (write_of core register v s.me.member).answer → t ≡ does core (Write register v) s → Drafts core s (with_write register v s.me.member.draft) t
-  write_drafts register v s t found did = drafts_acting (Write register v) (with_write register v s.me.member.draft) s t refl (at_wrote register v s.me.member (core.phase s.me.member.core) found) did
+  write_drafts register v s t found did = drafts_acting (Write register v) (with_write register v s.me.member.draft) s t refl (at_wrote register v s.me.member (core.phase s.me.member.core) found).0 did
 
 -- the fault that was passed on
 pub which : {A : Type 0} (r : Result A ReadFault) (f g : ReadFault) → IsErrAnd r (λ x. x ≡ f) → r ≡ Err g → f ≡ g
@@ -278,12 +241,3 @@ module _ {H S M : Type 0} (core : Core H S M) where
       let grown : map (λ (x : OneWrite). x.register) (take (k + 1) writes) ≡ map (λ (x : OneWrite). x.register) (take k writes) ++ w.register ∷ [] =
       ap (map (λ (x : OneWrite). x.register)) (take_more writes k z low) ∙ map_push (λ (x : OneWrite). x.register) (take k writes) w in
       subst (AreThere s.me.member.setting.registers) (sym grown) (there_push s.me.member.setting.registers _ w.register all (subst (λ (x : Setting). w.register < x.registers) same here))
-
-pub apart_tries : ◌≡◌ {A = Result Tried JobFault} (Ok Gap) (Ok Left) → ⊥
-apart_tries e = cc
-
-pub apart_outside : ◌≡◌ {A = Result Tried JobFault} (Ok Gap) (Ok Outside) → ⊥
-apart_outside e = cc
-
-pub apart_pending : ◌≡◌ {A = Result Tried JobFault} (Ok Gap) (Ok Pending) → ⊥
-apart_pending e = cc

@@ -1,13 +1,11 @@
 -- What workers leave of the stations and jobs of a run.
-use Rattle.std.proofs.Common.{◌≡◌, ◌∙◌, ◌+◌, ◌<◌, ◌≤◌, ◌++◌, ℕ, zero, suc, List, [], ◌∷◌, None, length, map, slice_get, Some, refl, sym, ap, arith, subst}
+use Rattle.std.proofs.Common.{◌≡◌, ◌∙◌, ◌<◌, ◌≤◌, ◌++◌, ℕ, zero, suc, List, [], ◌∷◌, None, length, map, slice_get, Some, refl, sym, ap, arith, subst}
 use Rattle.std.specs.List.{AllZip}
 use Rattle.std.proofs.lemmas.List.{length-map}
 use Rattle.std.proofs.lemmas.Option.{same_Some, slice_get_within}
 use mathlib.Core.Option.{some}
 use lib.ListN.{get_elem?}
-use Rattle.mx_stamps.specs.Lists.{IsIn}
 use Rattle.mx_stamps.proofs.Lists.{in_get, none_is_no_some}
-use Rattle.mx_journal.specs.declared.records.Write.{Write}
 use Rattle.mx_journal.specs.declared.receipts.Receipt.{Receipt}
 use Rattle.mx_journal.specs.Settled.{JournalState}
 use Rattle.mx_nodelaws.specs.Core.{Core}
@@ -25,20 +23,14 @@ use Rattle.mx_jobs.specs.Sections.{Runs}
 use Rattle.mx_jobs.specs.declared.threads.Worker.{Worker}
 use Rattle.mx_jobs.specs.Posted.{AreEach, workers}
 use Rattle.mx_jobs.specs.Runs.{AreBack, AreDone, HaveRun, IsAtRest, IsDone, IsLeft, Opening, own_of, registers_at}
-use Rattle.mx_jobs.proofs.Each.{as_elem, each_at}
-use Rattle.mx_jobs.proofs.Telling.{done_is_not_yet, done_not_own, shut_is_done, shut_is_not_yet, shut_not_own}
+use Rattle.mx_jobs.proofs.Each.{as_elem}
 use Rattle.mx_jobs.proofs.OwnReceipts.{own_receipts, owned}
 use Rattle.mx_jobs.specs.Terms.{Terms}
 
 -- the stations of a new table are at rest
 pub new_rests : {H S M : Type 0} (core : Core H S M) (shape : H) (origin limit registers : ℕ) (ss : List (Station core)) (fresh_ones : AreFresh (core.count shape) (λ i. start_of core shape i origin limit registers) ss)
-    → AreEach (IsAtRest core (record { shape = shape; origin = origin; limit = limit; registers = registers; table = fresh_ones.1.0 })) 0 ss
-new_rests core shape origin limit registers ss fresh_ones = record {
-  each = λ k s at.
-      let is = fresh_ones.1.1 k s (as_elem ss k s at) in
-      subst (λ (i : ℕ). IsAtRest core (record { shape = shape; origin = origin; limit = limit; registers = registers; table = fresh_ones.1.0 }) i s) (let e : k ≡ 0 + k = omega arith in e)
-      (record { here = is.0; nodes = is.1; me = is.2 });
-}
+    → AreEach (IsAtRest core (record { shape = shape; origin = origin; limit = limit; registers = registers; table = fresh_ones.1.0 })) ss
+new_rests core shape origin limit registers ss fresh_ones k s at = let is = fresh_ones.1.1 k s (as_elem ss k s at) in record { here = is.0; nodes = is.1; me = is.2 }
 
 -- what is at a place of a mapped list
 was_at : {X Y : Type 0} (f : X → Y) (xs : List X) (k : ℕ) (y : Y) → slice_get (map f xs) k ≡ Some y → (x : X) × (slice_get xs k ≡ Some x) × (f x ≡ y)
@@ -98,10 +90,10 @@ module _ {J : Type 0} (terms : Terms J) {H S M : Type 0} (core : Core H S M) (op
   did_nothing : (s : Station core) (j : J) → IsLeft terms core options s j (s, j, GateShut)
   did_nothing s j = record {
     works = refl;
-    done = λ e. absurd (shut_is_done e);
-    reached = λ e. absurd (shut_is_not_yet e);
-    idles = λ e. absurd (shut_is_not_yet e);
-    broken = λ why e. absurd (shut_not_own why e);
+    done = λ e. cc;
+    reached = λ e. cc;
+    idles = λ e. cc;
+    broken = λ why e. cc;
     shut = λ e. refl;
   }
 
@@ -115,14 +107,18 @@ module _ {J : Type 0} (terms : Terms J) {H S M : Type 0} (core : Core H S M) (op
         let is_left = same_Some from left (sym place ∙ here) in
         let is_after = same_Some job after (sym own ∙ there) in
         let is_end = (was_at (λ (s : Station core). GateShut) stations k end last).2 in
-        subst (λ (z : Ended). IsLeft terms core options from job (left, after, z)) is_end
-        (subst (λ (z : J). IsLeft terms core options from job (left, z, GateShut)) is_after
-        (subst (λ (z : Station core). IsLeft terms core options from job (z, job, GateShut)) is_left (did_nothing from job)));
+        subst (λ (z : Station core × J × Ended). IsLeft terms core options from job z) (λ i. (is_left i, is_after i, is_end i)) (did_nothing from job);
   }
 
   -- what all workers left is back
-  module _ {F : Type 0} (fates : List F) (lefts : List (Station core × J × Ended)) (each : length jobs ≡ length stations) (linked : length stations ≤ length fates)
-      (all : AllZip (λ (w : Worker (Station core) J F) left. IsLeft terms core w.options w.station w.job left) (workers options stations jobs fates) lefts) where
+  module _ {F : Type 0} (fates : List F) (works : List (Worker (Station core) J F)) (lefts : List (Station core × J × Ended)) (each : length jobs ≡ length stations) (linked : length stations ≤ length fates)
+      (started : works ≡ workers options stations jobs fates) (led : AllZip (λ (w : Worker (Station core) J F) left. IsLeft terms core w.options w.station w.job left) works lefts) where
+    all : AllZip (λ (w : Worker (Station core) J F) left. IsLeft terms core w.options w.station w.job left) (workers options stations jobs fates) lefts
+    all = subst (λ ws. AllZip (λ (w : Worker (Station core) J F) left. IsLeft terms core w.options w.station w.job left) ws lefts) started led
+
+    pub left_many : length lefts ≡ length stations
+    left_many = zip_many _ _ lefts all ∙ many_workers options stations jobs fates each linked
+
     abbrev left_stations : List (Station core)
     left_stations = map (λ (l : Station core × J × Ended). l.0) lefts
 
@@ -142,25 +138,15 @@ module _ {J : Type 0} (terms : Terms J) {H S M : Type 0} (core : Core H S M) (op
         let at = worker_at options stations jobs fates k by.0 by.1 in
         let is_from : by.0.station ≡ from = same_Some by.0.station from (sym at.0 ∙ place) in
         let is_job : by.0.job ≡ job = same_Some by.0.job job (sym at.1 ∙ own) in
-        subst (λ (z : Station core). IsLeft terms core options z job (left, after, end)) is_from
-        (subst (λ (z : J). IsLeft terms core options by.0.station z (left, after, end)) is_job
-        (subst (λ (z : Ended). IsLeft terms core options by.0.station by.0.job (left, after, z)) is_end
-        (subst (λ (z : J). IsLeft terms core options by.0.station by.0.job (left, z, one.0.2)) is_after
-        (subst (λ (z : Station core). IsLeft terms core options by.0.station by.0.job (z, one.0.1, one.0.2)) one.2
-        (subst (λ (o : RunOptions). IsLeft terms core o by.0.station by.0.job one.0) at.2 by.2)))))
+        subst (λ (z : (RunOptions × Station core × J) × (Station core × J × Ended)). IsLeft terms core z.0.0 z.0.1 z.0.2 z.1) (λ i. ((at.2 i, is_from i, is_job i), (one.2 i, is_after i, is_end i))) by.2
 
     all_back : AreBack terms core options stations jobs ends left_stations left_jobs
     all_back =
-        let many = zip_many _ _ lefts all in
-        let workers_many = many_workers options stations jobs fates each linked in
-        let s = length-map lefts (λ (l : Station core × J × Ended). l.0) in
-        let j = length-map lefts (λ (l : Station core × J × Ended). l.1) in
-        let e = length-map lefts (λ (l : Station core × J × Ended). l.2) in
         record {
-          many = omega (arith, many, workers_many, s);
+          many = length-map lefts (λ (l : Station core × J × Ended). l.0) ∙ left_many;
           jobs_many = each;
-          afters_many = omega (arith, many, workers_many, j);
-          ends_many = omega (arith, many, workers_many, e);
+          afters_many = length-map lefts (λ (l : Station core × J × Ended). l.1) ∙ left_many;
+          ends_many = length-map lefts (λ (l : Station core × J × Ended). l.2) ∙ left_many;
           each = is_left_at;
         }
 
@@ -200,14 +186,14 @@ module _ {J : Type 0} (terms : Terms J) {H S M : Type 0} (core : Core H S M) (op
         (record {
           works = is.works;
           done = λ e. is;
-          reached = λ e. absurd (done_is_not_yet e);
-          idles = λ e. absurd (done_is_not_yet e);
-          broken = λ why e. absurd (done_not_own why e);
-          shut = λ e. absurd (shut_is_done (sym e));
+          reached = λ e. cc;
+          idles = λ e. cc;
+          broken = λ why e. cc;
+          shut = λ e. cc;
         });
   }
 
-  module _ (o : Opening H) (lefts : List (Station core)) (afters : List J) (rests : AreEach (IsAtRest core o) 0 stations) (done : AreDone terms core options stations jobs lefts afters) where
+  module _ (o : Opening H) (lefts : List (Station core)) (afters : List J) (rests : AreEach (IsAtRest core o) stations) (done : AreDone terms core options stations jobs lefts afters) where
     -- what the k-th station, which was at rest, and its job came to
     came_to : (k : ℕ) (left : Station core) → slice_get lefts k ≡ Some left
         → (from : Station core) × (job after : J) × (slice_get jobs k ≡ Some job) × (slice_get afters k ≡ Some after) × IsAtRest core o k from × IsDone terms core options from job left after
@@ -219,7 +205,7 @@ module _ {J : Type 0} (terms : Terms J) {H S M : Type 0} (core : Core H S M) (op
         let f = found_at stations k (omega (arith, low, many)) in
         let j = found_at jobs k (omega (arith, low, many, jobs_many)) in
         let a = found_at afters k (omega (arith, low, many, afters_are)) in
-        (f.0, j.0, a.0, j.1, a.1, each_at k stations f.0 f.1 rests, done.each k f.0 left j.0 a.0 f.1 j.1 here a.1)
+        (f.0, j.0, a.0, j.1, a.1, rests k f.0 f.1, done.each k f.0 left j.0 a.0 f.1 j.1 here a.1)
 
     pub of_one_table : OfOneTable lefts
     of_one_table = (

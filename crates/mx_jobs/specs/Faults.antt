@@ -8,11 +8,9 @@ use Rattle.mx_jobs.specs.declared.worker.Ended.TheVariants.{Broken, Done, GateSh
 
 -- the worker ended in this way because its job, or that of another worker, cannot go on
 abbrev pub IsBroken : Ended → Type 0
-IsBroken Done = ⊥
-IsBroken NotYet = ⊥
-IsBroken GateShut = ⊥
 IsBroken (Broken why) = Unit {0}
 IsBroken (Stopped why) = Unit {0}
+IsBroken _ = ⊥
 
 abbrev pub NoneBroken : List Ended → Type 0
 NoneBroken ends = (e : Ended) → IsIn e ends → IsBroken e → ⊥
@@ -27,19 +25,15 @@ NoneOwn ends = (why : JobFault) → IsIn (Broken why) ends → ⊥
 -- stopped the run, and the gate was shut for no worker.
 abbrev pub Tells : Option RunFault → List Ended → Type 0
 Tells None ends = (e : Ended) → IsIn e ends → e ≡ Done
-Tells (Some fault.NotAJobEach) ends = ⊥
-Tells (Some fault.Memory) ends = ⊥
-Tells (Some fault.NoThread) ends = ⊥
 Tells (Some (fault.Job why)) ends =
     IsIn (Broken why) ends ⊎ (IsIn (Stopped why) ends × NoneOwn ends)
 Tells (Some fault.GateShut) ends = IsIn GateShut ends × NoneBroken ends
 Tells (Some fault.TurnsSpent) ends =
     IsIn NotYet ends × NoneBroken ends × (IsIn GateShut ends → ⊥)
+Tells (Some _) ends = ⊥
 
 abbrev pub IfOfEnds : RunFault → Type 0 → Type 0
 IfOfEnds fault.NotAJobEach P = Unit {0}
 IfOfEnds fault.Memory P = Unit {0}
 IfOfEnds fault.NoThread P = Unit {0}
-IfOfEnds (fault.Job why) P = P
-IfOfEnds fault.GateShut P = P
-IfOfEnds fault.TurnsSpent P = P
+IfOfEnds _ P = P

@@ -1,10 +1,10 @@
-use Rattle.std.specs.Prelude.{◌≡◌, ◌+◌, ◌∷◌, [], ℕ, List, slice_get, Some}
+use Rattle.std.specs.Prelude.{◌≡◌, ◌∷◌, [], ℕ, List, slice_get, Some}
 use Rattle.mx_jobs.specs.declared.threads.Worker.{Worker}
 use Rattle.mx_jobs.specs.declared.worker.RunOptions.{RunOptions}
 
--- `IsSo` holds for each item with its place; the first item has the place `from`
-pub record AreEach {X : Type 0} (IsSo : ℕ → X → Type 0) (from : ℕ) (xs : List X) : Type 0 where
-  pub each : (k : ℕ) (x : X) → slice_get xs k ≡ Some x → IsSo (from + k) x
+-- `IsSo` holds for each item with its place
+abbrev pub AreEach : {X : Type 0} → (ℕ → X → Type 0) → List X → Type 0
+AreEach {X} IsSo xs = (k : ℕ) (x : X) → slice_get xs k ≡ Some x → IsSo k x
 
 -- each of these jobs may be asked for a section
 abbrev pub AreReady : {J : Type 0} → (J → Type 0) → List J → Type 0

@@ -2,7 +2,6 @@ use Rattle.std.specs.Prelude.{◌≡◌, ◌<◌, ◌≤◌, ◌==◌, ℕ, Bool
 use Rattle.atomic_table.specs.Seated.{TableId}
 use Rattle.mx_stamps.specs.Lists.{IsIn}
 use Rattle.mx_stamps.specs.declared.limits.TheConstants.{MAX_REGISTERS}
-use Rattle.mx_journal.specs.declared.records.Write.{Write}
 use Rattle.mx_journal.specs.declared.receipts.Receipt.{Receipt}
 use Rattle.mx_journal.specs.Settled.{JournalState}
 use Rattle.mx_nodelaws.specs.Core.{Core, IsInside}
@@ -19,7 +18,6 @@ use Rattle.mx_jobs.specs.declared.worker.RunOptions.{RunOptions}
 use Rattle.mx_jobs.specs.declared.faults.RunFault.{RunFault}
 use Rattle.mx_jobs.specs.declared.tries.JobFault.{JobFault}
 use Rattle.mx_jobs.specs.Faults.{Tells}
-use Rattle.mx_jobs.specs.Posted.{AreEach}
 use Rattle.mx_jobs.specs.Rounds.{BusyRounds, Works, WorksAtMost}
 use Rattle.mx_jobs.specs.Sections.{Advances, Fails, Reaches, Runs}
 use Rattle.mx_jobs.specs.Serial.{AreSerial}

@@ -2,7 +2,7 @@
 
 use crate::adaptive_spin::{AdaptiveSpin, is_set};
 use crate::stillness::{Stillness, put_bits};
-use mx_stamps::NodeId;
+use mx_stamps::{MAX_NODES, NodeId, NodeIds};
 use mx_stations::{News, Pause, Rest};
 use std::rt::Clock;
 use std::sync::Wait;
@@ -98,10 +98,8 @@ impl<R> Bells<R> {
     /// Rings the bells of the nodes with these bits, and lets each of them tick after its rest.
     fn let_tick(&self, nodes: u64) {
         self.due.fetch_or(nodes, Ordering::SeqCst);
-        for index in 0..21u8 {
-            if let Some(node) = NodeId::of(index)
-                && nodes >> index & 1 == 1
-            {
+        for node in NodeIds::below(MAX_NODES) {
+            if nodes >> node.get() & 1 == 1 {
                 self.call(node);
             }
         }

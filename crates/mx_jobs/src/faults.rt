@@ -1,8 +1,8 @@
 //! Why a run did not finish.
 
-ghost use Rattle.std.specs.Prelude.{◌≡◌, ◌≢◌, Some};
-ghost use Rattle.mx_jobs.specs.declared.tries.JobFault.{JobFault as TheFault};
-ghost use Rattle.mx_jobs.specs.Faults.{IfOfEnds};
+ghost use Rattle.std.specs.Prelude.{List, ◌∷◌};
+ghost use Rattle.mx_jobs.specs.declared.worker.Ended.{Ended as TheEnd};
+ghost use Rattle.mx_jobs.specs.Faults.{IfOfEnds, Tells};
 
 use crate::thread_group::StartFault;
 use crate::tries::JobFault;
@@ -51,19 +51,9 @@ pub struct Unfinished<C: Exclusion, J: Drop> {
     pub jobs: Vec<J>,
 }
 
+/// Returns the fault that is reported after one more worker has ended.
 pub(crate) fn with_end(fault: Option<RunFault>, ended: Ended) -> Option<RunFault>
-    ensures job { (why : TheFault) → fault ≡ Some (RunFault.Job why)
-        → ((w : TheFault) → ended ≢ Ended.Broken w) → result ≡ fault }
-    ensures done { ended ≡ Ended.Done → result ≡ fault }
-    ensures broken { (why : TheFault) → ended ≡ Ended.Broken why
-        → result ≡ Some (RunFault.Job why) }
-    ensures stopped { (why : TheFault) → ended ≡ Ended.Stopped why
-        → ((w : TheFault) → fault ≢ Some (RunFault.Job w)) → result ≡ Some (RunFault.Job why) }
-    ensures shut { ended ≡ Ended.GateShut
-        → ((w : TheFault) → fault ≢ Some (RunFault.Job w)) → result ≡ Some RunFault.GateShut }
-    ensures still_shut { ended ≡ Ended.NotYet → fault ≡ Some RunFault.GateShut → result ≡ fault }
-    ensures spent { ended ≡ Ended.NotYet → ((w : TheFault) → fault ≢ Some (RunFault.Job w))
-        → fault ≢ Some RunFault.GateShut → result ≡ Some RunFault.TurnsSpent }
+    ensures { (ends : List TheEnd) → Tells fault ends → Tells result (ended ∷ ends) }
 {
     match (ended, fault) {
         (Ended::Done, _) => fault,

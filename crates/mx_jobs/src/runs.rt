@@ -211,7 +211,7 @@ fn finish<C: Exclusion, J: Job>(
     requires { OfOneTable stations.items }
     ensures ok { (o : Opening C.Shape) (options : TheOptions)
         (posts : List (Post (MemberState C) (Parcel C.Msg))) (all : List J)
-        → AreEach (IsAtRest C.core o) 0 posts
+        → AreEach (IsAtRest C.core o) posts
         → AreDone J.terms C.core options posts all
         stations.items jobs.items
         → IfOk result (λ out. HaveRun J.terms o.registers all

@@ -84,11 +84,9 @@ fn node_after<C: Exclusion>(node: NodeId, station: &Station<C>) -> NodeId
 fn successor<C: Exclusion>(node: NodeId, station: &Station<C>) -> NodeId
     ensures { result < station.now.nodes }
 {
-    match NodeId::of(node.get() + 1) {
-        Some(next) if next.get() < station.nodes() => next,
-        _ => match NodeId::of(0) {
-            Some(first) if 0 < station.nodes() => first,
-            _ => station.node(),
-        },
+    let own = station.node();
+    match NodeId::of((node.get() + 1) % station.nodes()) {
+        Some(next) => next,
+        None => own,
     }
 }

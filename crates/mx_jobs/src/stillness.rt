@@ -1,6 +1,6 @@
 //! Which stations tick once all nodes of a run rest.
 
-use mx_stamps::NodeId;
+use mx_stamps::{MAX_NODES, NodeId, NodeIds};
 use mx_stations::Pause;
 use std::sync::atomic::{AtomicU64, Ordering};
 
@@ -48,9 +48,9 @@ impl Stillness {
         let waiting = self.waiting.load(Ordering::SeqCst);
         let (mut earliest, mut first) = (u64::MAX, 0);
         let (mut latest, mut last) = (0, 0);
-        for index in 0..21u8 {
-            let bit = everyone & 1 << index;
-            let section = self.section_of(index);
+        for (node, section) in NodeIds::below(MAX_NODES).zip(self.sections.iter()) {
+            let bit = everyone & 1 << node.get();
+            let section = section.load(Ordering::SeqCst);
             if bit & waiting != 0 && section < earliest {
                 (earliest, first) = (section, bit);
             }
@@ -62,13 +62,6 @@ impl Stillness {
             everyone
         } else {
             first | last
-        }
-    }
-
-    fn section_of(&self, index: u8) -> u64 {
-        match self.sections.get(index as usize) {
-            Some(section) => section.load(Ordering::SeqCst),
-            None => 0,
         }
     }
 

@@ -24,15 +24,14 @@ both_written t t1 t2 a b (Ok u) first second = second ∙ ap (λ (x : Text). x +
 both_written t t1 t2 a b (Err e) first second = tt
 
 -- the reason of an entry that is there, and of one past the end
-pub reason_here : (p : Fields) (trace before : List Entry) (k : ℕ) (e : Entry) (broken : Clause) → slice_get trace k ≡ Some e → before ≡ take k trace
-    → reason_of p before e broken ≡ reason_at p trace k broken
-reason_here p trace before k e broken here is =
-    ap (λ (b : List Entry). reason_of p b e broken) is
-    ∙ sym (ap (λ (o : Option Entry). option_map_or (λ (x : Entry). reason_of p (take k trace) x broken) o []) here)
+pub reason_here : (p : Fields) (trace : List Entry) (k : ℕ) (e : Entry) (broken : Clause) → slice_get trace k ≡ Some e
+    → reason_of p (take k trace) broken e.event e.outcome ≡ reason_at p trace k broken
+reason_here p trace k e broken here =
+    sym (ap (λ (o : Option Entry). option_map_or (λ (x : Entry). reason_of p (take k trace) broken x.event x.outcome) o []) here)
 
 pub reason_past : (p : Fields) (trace : List Entry) (k : ℕ) (broken : Clause) → length trace ≤ k → reason_at p trace k broken ≡ []
 reason_past p trace k broken past =
-    ap (λ (o : Option Entry). option_map_or (λ (x : Entry). reason_of p (take k trace) x broken) o []) (slice_get_past trace k past)
+    ap (λ (o : Option Entry). option_map_or (λ (x : Entry). reason_of p (take k trace) broken x.event x.outcome) o []) (slice_get_past trace k past)
 
 module _ (j : Bool) (p : Fields) (text : Text) where
   -- a report on the trace that was read

@@ -1,5 +1,3 @@
 mod ItemLemmas
 mod LineLemmas
-mod SceneLemmas
-mod ReachLemmas
 pub mod JudgeLemmas

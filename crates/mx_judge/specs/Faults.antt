@@ -41,13 +41,9 @@ fault_text (Item k fault) =
 fault_text Memory = codes "mx: trace: out of memory"
 
 -- the member that is missing or wrong; none, at another fault
-abbrev pub wrong_in : ItemFault → Option Member
-wrong_in (item.Wrong m) = Some m
-wrong_in _ = None
-
 abbrev pub wrong_member : TraceFault → Option Member
-wrong_member (Line k fault) = wrong_in fault
-wrong_member (Item k fault) = wrong_in fault
+wrong_member (Line k (item.Wrong m)) = Some m
+wrong_member (Item k (item.Wrong m)) = Some m
 wrong_member _ = None
 
 -- the text may follow the words of a fault: a message about this member, without control bytes; and

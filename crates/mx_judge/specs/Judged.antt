@@ -1,10 +1,9 @@
 -- What `judge` prints.
-use Rattle.std.specs.Prelude.{◌≡◌, ◌↔◌, ℕ, ◌++◌, Bool, List, [], Result, Ok, Err, codes, decimal, length, if◌then◌else◌}
+use Rattle.std.specs.Prelude.{◌++◌, Bool, List, [], Result, Ok, Err, codes, decimal, length, if◌then◌else◌}
 use Rattle.mx_plan.specs.Text.{Text, line_feed}
 use Rattle.mx_plan.specs.Fields.{Fields}
 use Rattle.mx_trace.specs.declared.outcome.Entry.{Entry}
-use Rattle.mx_explorer.specs.Verdict.{IsFirstBroken, IsSoundTrace}
-use Rattle.mx_explorer.specs.declared.verdict.Clause.{Clause}
+pub use Rattle.mx_explorer.specs.Verdict.{IsVerdictOf}
 use Rattle.mx_explorer.specs.declared.verdict.Verdict.{Verdict}
 use Rattle.mx_explorer.specs.declared.verdict.Verdict.TheVariants.{Sound, Broken}
 use Rattle.mx_driver.specs.VerdictLines.{clause_text, verdict_line, verdict_status}
@@ -18,13 +17,6 @@ use Rattle.mx_judge.specs.Reasons.{entered_in, reason_for}
 use Rattle.mx_judge.specs.Traces.{place_word, trace_at}
 use Rattle.mx_judge.specs.declared.faults.TraceFault.{TraceFault}
 
--- the verdict on a trace: sound exactly if the trace is; otherwise the first item that breaks a
--- rule, and the rule
-abbrev pub IsVerdictOf : List Entry → Verdict → Type 0
-IsVerdictOf trace verdict =
-    ((verdict ≡ Sound) ↔ IsSoundTrace trace)
-    × ((k : ℕ) (clause : Clause) → (verdict ≡ Broken k clause) ↔ IsFirstBroken trace k clause)
-
 -- how many events there are, and how many sections were entered
 abbrev pub counts_line : List Entry → Text
 counts_line trace =
@@ -32,14 +24,11 @@ counts_line trace =
     ++ line_feed
 
 -- the start of the object of a verdict
-abbrev pub broken_start : ℕ → Clause → Text
-broken_start k clause =
-    word_start (codes "verdict") (codes "broken") ++ number_member (codes "index") k
-    ++ word_member (codes "clause") (clause_text clause)
-
 abbrev pub verdict_start : Verdict → Text
 verdict_start Sound = word_start (codes "verdict") (codes "sound")
-verdict_start (Broken k clause) = broken_start k clause
+verdict_start (Broken k clause) =
+    word_start (codes "verdict") (codes "broken") ++ number_member (codes "index") k
+    ++ word_member (codes "clause") (clause_text clause)
 
 abbrev pub counts_members : List Entry → Text
 counts_members trace =
@@ -48,24 +37,19 @@ counts_members trace =
 
 module _ (word : Text) (t : Listed) (reason : Text) where
   -- where the k-th event is, and why it breaks a rule
-  abbrev pub reason_line : ℕ → Text
-  reason_line k =
-      word ++ codes " " ++ decimal (place_of t k) ++ codes ": " ++ reason ++ line_feed
-
   abbrev pub reason_lines : Verdict → Text
   reason_lines Sound = []
-  reason_lines (Broken k clause) = reason_line k
+  reason_lines (Broken k clause) =
+      word ++ codes " " ++ decimal (place_of t k) ++ codes ": " ++ reason ++ line_feed
 
   abbrev pub judged_lines : Verdict → Text
   judged_lines verdict = counts_line t.entries ++ verdict_line verdict ++ reason_lines verdict
 
   -- the same as members of the verdict's object
-  abbrev pub reason_member : ℕ → Text
-  reason_member k = number_member word (place_of t k) ++ word_member (codes "reason") reason
-
   abbrev pub reason_members : Verdict → Text
   reason_members Sound = []
-  reason_members (Broken k clause) = reason_member k
+  reason_members (Broken k clause) =
+      number_member word (place_of t k) ++ word_member (codes "reason") reason
 
   abbrev pub verdict_object : Verdict → Text
   verdict_object verdict =

@@ -1,8 +1,7 @@
 -- Members: the members of objects. Faults: the faults of a trace, and the line for each. Outcomes,
 -- Messages, Entries: the outcome, the message and the entry in an object. Listed: a trace with the
--- places of its entries. Traces: the trace in a text. Scenes: what the sections before an event say
--- of it. Reasons: why an event breaks a rule, in words. EntryJson: entries and messages as JSON.
--- Judged: what is printed.
+-- places of its entries. Traces: the trace in a text. Reasons: why an event breaks a rule, in words.
+-- EntryJson: entries and messages as JSON. Judged: what is printed.
 pub mod Members
 pub mod Faults
 pub mod Outcomes
@@ -10,7 +9,6 @@ pub mod Messages
 pub mod Entries
 pub mod Listed
 pub mod Traces
-pub mod Scenes
 pub mod Reasons
 pub mod EntryJson
 pub mod Judged

@@ -1,5 +1,5 @@
 -- Why an event breaks a rule, in words.
-use Rattle.std.specs.Prelude.{ℕ, suc, ◌++◌, Bool, true, false, List, [], Option, Some, None, codes, decimal, slice_get, take, if◌then◌else◌}
+use Rattle.std.specs.Prelude.{ℕ, suc, ◌++◌, Bool, true, false, List, [], Option, Some, None, codes, decimal, length, slice_get, take, if◌then◌else◌}
 use Rattle.std.specs.List.{count_by}
 use Rattle.std.specs.Option.{option_map_or}
 use Rattle.mx_events.specs.declared.event.Event.{Event}
@@ -7,7 +7,10 @@ use Rattle.mx_events.specs.declared.event.Event.TheVariants.{Enter, Leave, Read}
 use Rattle.mx_trace.specs.declared.outcome.Entry.{Entry}
 use Rattle.mx_trace.specs.declared.outcome.Outcome.{Outcome}
 use Rattle.mx_trace.specs.declared.outcome.Outcome.TheVariants.{Entered, Left, Value}
-use Rattle.mx_explorer.specs.Ledger.{is_node}
+use Rattle.mx_trace.specs.Sections.{Section}
+use Rattle.mx_trace.specs.Trace.{sections}
+use Rattle.mx_explorer.specs.Ledger.{holder, is_node, last_write}
+use Rattle.mx_explorer.specs.declared.ledger.LastWrite.{LastWrite}
 use Rattle.mx_explorer.specs.declared.verdict.Clause.{Clause}
 use Rattle.mx_explorer.specs.declared.verdict.Clause.TheVariants as clause
 use Rattle.mx_explorer.specs.declared.verdict.Verdict.{Verdict}
@@ -15,10 +18,6 @@ use Rattle.mx_explorer.specs.declared.verdict.Verdict.TheVariants.{Sound, Broken
 use Rattle.mx_plan.specs.Text.{Text}
 use Rattle.mx_plan.specs.Fields.{Fields}
 use Rattle.mx_format.specs.EventTexts.{name_of, register_name_of}
-use Rattle.mx_judge.specs.Scenes.{scene_before}
-use Rattle.mx_judge.specs.declared.scene.Content.{Content}
-use Rattle.mx_judge.specs.declared.scene.Scene.{Scene}
-use Rattle.mx_judge.specs.declared.scene.Writer.{Writer}
 
 -- a node enters a section with this event
 abbrev pub enters : Event → Outcome → Bool
@@ -32,43 +31,41 @@ is_entry e = enters e.event e.outcome
 abbrev pub entered_in : List Entry → ℕ
 entered_in = count_by is_entry
 
+-- a name and a number, each with words before it
+abbrev pub named : Text → Text → Text → ℕ → Text
+named words name more number = words ++ name ++ more ++ decimal number
+
 module _ (p : Fields) where
-  -- who is inside, by the number of the newest section and the node inside it
-  abbrev pub inside_text : ℕ → Option ℕ → Text
-  inside_text section None = codes ", while no node is inside"
-  inside_text section (Some i) =
-      codes ", while " ++ name_of p i ++ codes " is inside section " ++ decimal section
+  -- who is inside, by the node inside the newest section and the number of this section
+  abbrev pub inside_by : Option ℕ → ℕ → Text
+  inside_by None n = codes ", while no node is inside"
+  inside_by (Some i) n = named (codes ", while ") (name_of p i) (codes " is inside section ") n
 
-  abbrev pub writer_text : Option Writer → Text
-  writer_text None = codes "never written"
-  writer_text (Some w) =
-      codes "written by " ++ name_of p w.node ++ codes " in section " ++ decimal w.section
+  abbrev pub inside_text : List Section → Text
+  inside_text ss = inside_by (holder ss) (length ss)
 
-  abbrev pub expected_text : Content → Text
-  expected_text held =
-      codes ", expected " ++ decimal held.value ++ codes ", " ++ writer_text held.writer
+  -- what a register holds by its last write
+  abbrev pub expected_text : Option LastWrite → Text
+  expected_text None = codes ", expected 0, never written"
+  expected_text (Some w) =
+      codes ", expected " ++ decimal w.value
+      ++ named (codes ", written by ") (name_of p w.node) (codes " in section ") w.section
 
-  abbrev pub entry_reason : Scene → ℕ → Text
-  entry_reason scene i =
-      codes "enter " ++ name_of p i ++ inside_text scene.section scene.inside
+  -- the node reads another value than the register holds, or it reads outside a section
+  abbrev pub wanted_text : List Section → ℕ → ℕ → Text
+  wanted_text ss i register =
+      if is_node i (holder ss) then expected_text (last_write register ss) else inside_text ss
 
-  abbrev pub exit_reason : Scene → ℕ → ℕ → Text
-  exit_reason scene i n =
-      codes "leave " ++ name_of p i ++ codes " from section " ++ decimal n
-      ++ inside_text scene.section scene.inside
-
-  -- the node reads outside a section, or it reads another value than the register holds
-  abbrev pub read_reason : Scene → ℕ → ℕ → ℕ → Text
-  read_reason scene i register value =
-      name_of p i ++ codes " reads " ++ register_name_of p register ++ codes " " ++ decimal value
-      ++ (if is_node i scene.inside then expected_text scene.held
-      else inside_text scene.section scene.inside)
-
-  -- a node enters while one is inside; or it leaves a section in which it is not
-  abbrev pub overlap_reason : Scene → Event → Outcome → Text
-  overlap_reason scene (Enter i) (Entered n) = entry_reason scene i
-  overlap_reason scene (Leave i) (Left receipt) = exit_reason scene i receipt.number
-  overlap_reason scene _ _ = []
+  -- a node enters while one is inside; or it leaves a section in which it is not, or reads wrongly
+  abbrev pub misfit_reason : List Section → Event → Outcome → Text
+  misfit_reason ss (Enter i) (Entered n) = codes "enter " ++ name_of p i ++ inside_text ss
+  misfit_reason ss (Leave i) (Left receipt) =
+      named (codes "leave ") (name_of p i) (codes " from section ") receipt.number
+      ++ inside_text ss
+  misfit_reason ss (Read i register) (Value value) =
+      name_of p i ++ named (codes " reads ") (register_name_of p register) (codes " ") value
+      ++ wanted_text ss i register
+  misfit_reason ss _ _ = []
 
   -- a node enters with another number than the next one
   abbrev pub number_reason : ℕ → Event → Outcome → Text
@@ -77,20 +74,16 @@ module _ (p : Fields) where
       ++ codes ", the next is " ++ decimal next
   number_reason next _ _ = []
 
-  abbrev pub reading_reason : Scene → Event → Outcome → Text
-  reading_reason scene (Read i register) (Value value) = read_reason scene i register value
-  reading_reason scene _ _ = []
-
-  -- why an entry breaks this rule, by the sections of the entries before it
-  abbrev pub reason_of : List Entry → Entry → Clause → Text
-  reason_of before e clause.Overlap = overlap_reason (scene_before before e.event) e.event e.outcome
-  reason_of before e clause.Number = number_reason (suc (entered_in before)) e.event e.outcome
-  reason_of before e clause.Read = reading_reason (scene_before before e.event) e.event e.outcome
+  -- why an entry breaks this rule, by the entries before it
+  abbrev pub reason_of : List Entry → Clause → Event → Outcome → Text
+  reason_of before clause.Number = number_reason (suc (entered_in before))
+  reason_of before _ = misfit_reason (sections before)
 
   -- why the k-th entry breaks this rule
   abbrev pub reason_at : List Entry → ℕ → Clause → Text
   reason_at trace k broken =
-      option_map_or (λ e. reason_of (take k trace) e broken) (slice_get trace k) []
+      option_map_or (λ (e : Entry). reason_of (take k trace) broken e.event e.outcome)
+      (slice_get trace k) []
 
   -- why a trace with this verdict is broken; nothing, if it is sound
   abbrev pub reason_for : List Entry → Verdict → Text

@@ -69,13 +69,10 @@ with_sent t message =
     if length t.entries == 0 then Err item.NoSender else Ok (with_message t message)
 
 -- this trace, and then what the k-th line or item has, if it has something
-abbrev pub with_any : ℕ → Listed → Option Item → Result Listed ItemFault
-with_any k t None = Ok t
-with_any k t (Some (Event entry)) = with_entry k t entry
-with_any k t (Some (Message message)) = with_sent t message
-
 abbrev pub with_item : ℕ → Listed → Result (Option Item) ItemFault → Result Listed ItemFault
-with_item k t (Ok item) = with_any k t item
+with_item k t (Ok None) = Ok t
+with_item k t (Ok (Some (Event entry))) = with_entry k t entry
+with_item k t (Ok (Some (Message message))) = with_sent t message
 with_item k t (Err fault) = Err fault
 
 -- continues if the k-th item had no fault; otherwise returns the fault with this number

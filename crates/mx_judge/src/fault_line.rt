@@ -33,16 +33,9 @@ pub(crate) fn stop_at(alloc: Global, plan: &Plan, text: &[u8], fault: TraceFault
         × IsStopWith (trace_line fault message) result }
     ensures memory { fault ≡ TraceFault.Memory → result ≡ Stop.Memory }
 {
-    match fault {
-        TraceFault::Memory => Stop::Memory,
-        _ => stop_with_line(alloc, plan, text, fault),
+    if let TraceFault::Memory = fault {
+        return Stop::Memory;
     }
-}
-
-fn stop_with_line(alloc: Global, plan: &Plan, text: &[u8], fault: TraceFault) -> Stop
-    ensures { (message : Text) × IsMessageOf fault message
-        × IsStopWith (trace_line fault message) result }
-{
     match message_of(alloc, plan, text, fault) {
         Ok(message) => stop_with(alloc, FaultLine { fault, message }),
         Err(_) => Stop::Memory,

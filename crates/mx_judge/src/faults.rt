@@ -1,7 +1,7 @@
 //! The faults of a trace.
 
 ghost use Rattle.std.specs.Prelude.{◌≡◌, Some};
-ghost use Rattle.mx_judge.specs.Faults.{fault_text, item_text, line_fault, list_fault, wrong_in, wrong_member};
+ghost use Rattle.mx_judge.specs.Faults.{fault_text, item_text, line_fault, list_fault, wrong_member};
 
 use crate::members::Member;
 use std::alloc::AllocError;
@@ -24,18 +24,6 @@ pub(crate) enum ItemFault {
     /// There are 1,000,000 events before it.
     TooMany,
     Memory,
-}
-
-impl ItemFault {
-    /// Returns the member that is missing or wrong, if that is the fault.
-    fn wrong_member(self) -> Option<Member>
-        ensures { result ≡ wrong_in self }
-    {
-        match self {
-            ItemFault::Wrong(member) => Some(member),
-            _ => None,
-        }
-    }
 }
 
 impl fmt::Display for ItemFault {
@@ -103,7 +91,8 @@ impl TraceFault {
         ensures { result ≡ wrong_member self }
     {
         match self {
-            TraceFault::Line(_, fault) | TraceFault::Item(_, fault) => fault.wrong_member(),
+            TraceFault::Line(_, ItemFault::Wrong(member))
+            | TraceFault::Item(_, ItemFault::Wrong(member)) => Some(member),
             _ => None,
         }
     }

@@ -1,12 +1,8 @@
 //! `judge`: the verdict on a trace.
 
-ghost use Rattle.std.specs.Prelude.{Ok};
-ghost use Rattle.mx_cli.specs.Printing.{Prints, sight};
-ghost use Rattle.mx_judge.specs.Judged.{IsJudged, IsJudgement};
-ghost use Rattle.mx_judge.specs.Listed.{listed};
+ghost use Rattle.mx_judge.specs.Judged.{IsJudgement};
 
 use crate::judgement::judgement_of;
-use crate::trace::Trace;
 use crate::trace_reader::{place_word, trace_in};
 use mx_cli::{Command, Stop, print};
 use mx_driver::verdict_status;
@@ -32,30 +28,14 @@ impl Command for Judge {
         text: &[u8],
         out: &mut O,
     ) -> Result<u8, Stop> {
-        match trace_in(alloc, plan, text) {
-            Ok(trace) => {
-                let word = place_word(text);
-                print_judgement(alloc, plan, word, &trace, self.is_json, out)
-            }
-            Err(stop) => Err(stop),
+        let trace = match trace_in(alloc, plan, text) {
+            Ok(trace) => trace,
+            Err(stop) => return Err(stop),
+        };
+        let (word, verdict) = (place_word(text), judge(trace.entries.as_slice()));
+        match judgement_of(alloc, self.is_json, plan, word, &trace, verdict) {
+            Ok(text) => print(text.as_bytes(), verdict_status(verdict), out),
+            Err(_) => Err(Stop::Memory),
         }
-    }
-}
-
-fn print_judgement<O: Output>(
-    alloc: Global,
-    plan: &Plan,
-    word: &str,
-    trace: &Trace,
-    is_json: bool,
-    out: &mut O,
-) -> Result<u8, Stop>
-    ensures prints { Prints (IsJudged is_json plan.now word.now (Ok (listed trace.now)))
-        (sight O.Output out.old) (sight O.Output out.new) result }
-{
-    let verdict = judge(trace.entries.as_slice());
-    match judgement_of(alloc, is_json, plan, word, trace, verdict) {
-        Ok(text) => print(text.as_bytes(), verdict_status(verdict), out),
-        Err(_) => Err(Stop::Memory),
     }
 }

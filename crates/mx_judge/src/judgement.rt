@@ -89,17 +89,11 @@ impl Judged<'_> {
     {
         match verdict {
             Verdict::Sound => Ok(()),
-            Verdict::Broken(index, _) => self.add_reason_line(index, text),
+            Verdict::Broken(index, _) => {
+                let (word, place, reason) = (self.word, self.trace.place_of(index), self.reason);
+                writeln!(text, "{word} {place}: {reason}")
+            }
         }
-    }
-
-    fn add_reason_line(&self, index: u64, text: &mut String) -> Result<(), AllocError>
-        ensures { OnOk result (string_bytes text.new ≡ string_bytes text.old
-            ++ spec.reason_line self.now.word.now (listed self.now.trace.now)
-            self.now.reason.now index) }
-    {
-        let (word, place, reason) = (self.word, self.trace.place_of(index), self.reason);
-        writeln!(text, "{word} {place}: {reason}")
     }
 
     /// Appends the object of the verdict.
@@ -121,17 +115,11 @@ impl Judged<'_> {
     {
         match verdict {
             Verdict::Sound => Ok(()),
-            Verdict::Broken(index, _) => self.add_reason_member(index, text),
+            Verdict::Broken(index, _) => {
+                add_number(self.word, self.trace.place_of(index), text)?;
+                add_word("reason", self.reason, text)
+            }
         }
-    }
-
-    fn add_reason_member(&self, index: u64, text: &mut String) -> Result<(), AllocError>
-        ensures { OnOk result (string_bytes text.new ≡ string_bytes text.old
-            ++ spec.reason_member self.now.word.now (listed self.now.trace.now)
-            self.now.reason.now index) }
-    {
-        add_number(self.word, self.trace.place_of(index), text)?;
-        add_word("reason", self.reason, text)
     }
 }
 
@@ -149,17 +137,12 @@ fn start_verdict(verdict: Verdict, text: &mut String) -> Result<(), AllocError>
 {
     match verdict {
         Verdict::Sound => start_word("verdict", "sound", text),
-        Verdict::Broken(index, clause) => start_broken(index, clause, text),
+        Verdict::Broken(index, clause) => {
+            start_word("verdict", "broken", text)?;
+            add_number("index", index, text)?;
+            add_word("clause", clause_word(clause), text)
+        }
     }
-}
-
-fn start_broken(index: u64, clause: Clause, text: &mut String) -> Result<(), AllocError>
-    ensures { OnOk result (string_bytes text.new
-        ≡ string_bytes text.old ++ spec.broken_start index clause) }
-{
-    start_word("verdict", "broken", text)?;
-    add_number("index", index, text)?;
-    add_word("clause", clause_word(clause), text)
 }
 
 /// Returns the word of a clause in a verdict.

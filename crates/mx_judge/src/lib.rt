@@ -12,7 +12,6 @@ mod members;
 mod message;
 mod outcome_reader;
 mod reasons;
-mod scene;
 mod trace;
 mod trace_reader;
 mod wrong_member;

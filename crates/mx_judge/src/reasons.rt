@@ -1,13 +1,13 @@
 //! Why an event breaks a rule, in words.
 
-ghost use Rattle.std.specs.Prelude.{◌≡◌, ◌≤◌, ◌++◌, suc, length, IfOk, OnOk, string_bytes};
-ghost use Rattle.mx_explorer.specs.Verdict.{IsFirstBroken, IsSoundTrace};
-ghost use Rattle.mx_judge.specs.Judged.{IsVerdictOf};
+ghost use Rattle.std.specs.Prelude.{◌≡◌, ◌≤◌, ◌++◌, List, length, IfOk, OnOk, string_bytes};
+ghost use Rattle.mx_trace.specs.Sections.{Section};
+ghost use Rattle.mx_explorer.specs.Ledger.{IsLedgerOf};
+ghost use Rattle.mx_explorer.specs.Verdict.{IsSoundTrace, IsVerdictOf};
 ghost use Rattle.mx_judge.specs.Reasons as spec;
 
-use crate::scene::{Content, Scene, Writer, scene_before};
 use mx_events::Event;
-use mx_explorer::{Clause, Verdict};
+use mx_explorer::{Clause, LastWrite, Ledger, Verdict};
 use mx_format::{name_of, register_name_of};
 use mx_plan::Plan;
 use mx_stamps::NodeId;
@@ -28,25 +28,10 @@ pub fn reason_for(
     ensures { IsVerdictOf entries.now verdict → IfOk result (λ reason.
         string_bytes reason ≡ spec.reason_for plan.now entries.now verdict) }
 {
-    match verdict {
-        Verdict::Sound => Ok(String::new(alloc)),
-        Verdict::Broken(index, clause) => reason_at(alloc, plan, entries, index, clause),
-    }
-}
-
-/// Returns why the entry of this index, the first that breaks a rule, breaks it.
-fn reason_at(
-    alloc: Global,
-    plan: &Plan,
-    entries: &[Entry],
-    index: u64,
-    clause: Clause,
-) -> Result<String, AllocError>
-    ensures { IsFirstBroken entries.now index clause
-        → IfOk result (λ reason.
-        string_bytes reason ≡ spec.reason_at plan.now entries.now index clause) }
-{
     let mut text = String::new(alloc);
+    let Verdict::Broken(index, clause) = verdict else {
+        return Ok(text);
+    };
     let at = index as usize;
     if at >= entries.len() {
         return Ok(text);
@@ -65,26 +50,13 @@ fn add_reason(
     text: &mut String,
 ) -> Result<(), AllocError>
     ensures { IsSoundTrace before.now → OnOk result (string_bytes text.new
-        ≡ string_bytes text.old ++ spec.reason_of plan.now before.now entry.now clause) }
+        ≡ string_bytes text.old ++ spec.reason_of plan.now before.now clause
+        entry.now.event entry.now.outcome) }
 {
     match clause {
-        Clause::Overlap => {
-            let scene = scene_before(before, &entry.event);
-            add_overlap(plan, &scene, entry, text)
-        }
-        Clause::Number => add_wrong_number(plan, next_number(before), entry, text),
-        Clause::Read => {
-            let scene = scene_before(before, &entry.event);
-            add_wrong_read(plan, &scene, entry, text)
-        }
+        Clause::Number => add_wrong_number(plan, entered_in(before) + 1, entry, text),
+        _ => add_misfit(plan, &Ledger::of(before), entry, text),
     }
-}
-
-/// Returns the number of the next section after these entries.
-fn next_number(before: &[Entry]) -> u64
-    ensures { result ≡ suc (spec.entered_in before.now) }
-{
-    entered_in(before) + 1
 }
 
 /// Returns how many sections were entered.
@@ -101,59 +73,6 @@ fn is_entry(entry: &Entry) -> bool
     match (&entry.event, &entry.outcome) {
         (Event::Enter(_), Outcome::Entered(_)) => true,
         _ => false,
-    }
-}
-
-fn add_overlap(
-    plan: &Plan,
-    scene: &Scene,
-    entry: &Entry,
-    text: &mut String,
-) -> Result<(), AllocError>
-    ensures { OnOk result (string_bytes text.new ≡ string_bytes text.old
-        ++ spec.overlap_reason plan.now scene.now entry.now.event entry.now.outcome) }
-{
-    match (&entry.event, &entry.outcome) {
-        (Event::Enter(node), Outcome::Entered(_)) => add_entry(plan, scene, *node, text),
-        (Event::Leave(node), Outcome::Left(receipt)) => {
-            add_exit(plan, scene, *node, receipt.number, text)
-        }
-        _ => Ok(()),
-    }
-}
-
-fn add_entry(plan: &Plan, scene: &Scene, node: NodeId, text: &mut String) -> Result<(), AllocError>
-    ensures { OnOk result (string_bytes text.new
-        ≡ string_bytes text.old ++ spec.entry_reason plan.now scene.now node) }
-{
-    write!(text, "enter {}", name_of(plan, node))?;
-    add_inside(plan, scene, text)
-}
-
-fn add_exit(
-    plan: &Plan,
-    scene: &Scene,
-    node: NodeId,
-    number: u64,
-    text: &mut String,
-) -> Result<(), AllocError>
-    ensures { OnOk result (string_bytes text.new
-        ≡ string_bytes text.old ++ spec.exit_reason plan.now scene.now node number) }
-{
-    write!(text, "leave {} from section {number}", name_of(plan, node))?;
-    add_inside(plan, scene, text)
-}
-
-fn add_inside(plan: &Plan, scene: &Scene, text: &mut String) -> Result<(), AllocError>
-    ensures { OnOk result (string_bytes text.new ≡ string_bytes text.old
-        ++ spec.inside_text plan.now scene.now.section scene.now.inside) }
-{
-    match scene.inside {
-        Some(node) => {
-            let (name, section) = (name_of(plan, node), scene.section);
-            write!(text, ", while {name} is inside section {section}")
-        }
-        None => text.push_str(", while no node is inside"),
     }
 }
 
@@ -175,60 +94,101 @@ fn add_wrong_number(
     }
 }
 
-fn add_wrong_read(
+/// Appends why an entry that has the next number breaks a rule, given the ledger of those before.
+fn add_misfit(
     plan: &Plan,
-    scene: &Scene,
+    ledger: &Ledger,
     entry: &Entry,
     text: &mut String,
 ) -> Result<(), AllocError>
-    ensures { OnOk result (string_bytes text.new ≡ string_bytes text.old
-        ++ spec.reading_reason plan.now scene.now entry.now.event entry.now.outcome) }
+    ensures { (ss : List Section) → IsLedgerOf ss ledger.now → OnOk result (string_bytes text.new
+        ≡ string_bytes text.old
+        ++ spec.misfit_reason plan.now ss entry.now.event entry.now.outcome) }
 {
     match (&entry.event, &entry.outcome) {
+        (Event::Enter(node), Outcome::Entered(_)) => {
+            write!(text, "enter {}", name_of(plan, *node))?;
+            add_inside(plan, ledger, text)
+        }
+        (Event::Leave(node), Outcome::Left(receipt)) => {
+            let name = name_of(plan, *node);
+            add_named("leave ", name, " from section ", receipt.number, text)?;
+            add_inside(plan, ledger, text)
+        }
         (Event::Read(node, register), Outcome::Value(value)) => {
-            add_read(plan, scene, *node, *register, *value, text)
+            text.push_str(name_of(plan, *node))?;
+            add_named(
+                " reads ",
+                register_name_of(plan, *register),
+                " ",
+                *value,
+                text,
+            )?;
+            add_wanted(plan, ledger, *node, *register, text)
         }
         _ => Ok(()),
     }
 }
 
-fn add_read(
+/// Appends what a node should have read, or why it should not have read.
+fn add_wanted(
     plan: &Plan,
-    scene: &Scene,
+    ledger: &Ledger,
     node: NodeId,
     register: u8,
-    value: u64,
+    text: &mut String,
+) -> Result<(), AllocError>
+    ensures { (ss : List Section) → IsLedgerOf ss ledger.now → OnOk result (string_bytes text.new
+        ≡ string_bytes text.old ++ spec.wanted_text plan.now ss node register) }
+{
+    if ledger.is_inside(node) {
+        add_expected(plan, ledger.last_write(register), text)
+    } else {
+        add_inside(plan, ledger, text)
+    }
+}
+
+fn add_inside(plan: &Plan, ledger: &Ledger, text: &mut String) -> Result<(), AllocError>
+    ensures { (ss : List Section) → IsLedgerOf ss ledger.now → OnOk result (string_bytes text.new
+        ≡ string_bytes text.old ++ spec.inside_text plan.now ss) }
+{
+    match ledger.inside {
+        Some(node) => {
+            let name = name_of(plan, node);
+            add_named(", while ", name, " is inside section ", ledger.last, text)
+        }
+        None => text.push_str(", while no node is inside"),
+    }
+}
+
+fn add_expected(
+    plan: &Plan,
+    expected: Option<LastWrite>,
     text: &mut String,
 ) -> Result<(), AllocError>
     ensures { OnOk result (string_bytes text.new
-        ≡ string_bytes text.old ++ spec.read_reason plan.now scene.now node register value) }
+        ≡ string_bytes text.old ++ spec.expected_text plan.now expected) }
 {
-    let (name, register) = (name_of(plan, node), register_name_of(plan, register));
-    write!(text, "{name} reads {register} {value}")?;
-    if scene.is_inside(node) {
-        add_expected(plan, &scene.held, text)
-    } else {
-        add_inside(plan, scene, text)
-    }
-}
-
-fn add_expected(plan: &Plan, held: &Content, text: &mut String) -> Result<(), AllocError>
-    ensures { OnOk result (string_bytes text.new
-        ≡ string_bytes text.old ++ spec.expected_text plan.now held.now) }
-{
-    write!(text, ", expected {}, ", held.value)?;
-    add_writer(plan, &held.writer, text)
-}
-
-fn add_writer(plan: &Plan, writer: &Option<Writer>, text: &mut String) -> Result<(), AllocError>
-    ensures { OnOk result (string_bytes text.new
-        ≡ string_bytes text.old ++ spec.writer_text plan.now writer.now) }
-{
-    match writer {
-        Some(writer) => {
-            let (name, section) = (name_of(plan, writer.node), writer.section);
-            write!(text, "written by {name} in section {section}")
+    match expected {
+        Some(write) => {
+            let name = name_of(plan, write.node);
+            write!(text, ", expected {}", write.value)?;
+            add_named(", written by ", name, " in section ", write.section, text)
         }
-        None => text.push_str("never written"),
+        None => text.push_str(", expected 0, never written"),
     }
+}
+
+/// Appends a name and a number, each with words before it.
+fn add_named(
+    words: &str,
+    name: &str,
+    more: &str,
+    number: u64,
+    text: &mut String,
+) -> Result<(), AllocError>
+    ensures { OnOk result (string_bytes text.new ≡ string_bytes text.old
+        ++ spec.named words.now name.now more.now number) }
+{
+    write!(text, "{words}{name}{more}{number}")
 }

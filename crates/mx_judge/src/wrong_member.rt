@@ -76,11 +76,8 @@ fn json_of(text: &[u8], fault: TraceFault) -> &[u8] {
 
 /// Returns the line with a number, counted from 1.
 fn line_of(text: &[u8], number: u64) -> &[u8] {
-    let mut lines = text.split(|byte| *byte == b'\n').zip(1u64..);
-    match lines.find(|(_, k)| *k == number) {
-        Some((line, _)) => line,
-        None => &[],
-    }
+    let mut lines = text.split(|byte| *byte == b'\n');
+    lines.nth(number.saturating_sub(1) as usize).unwrap_or(&[])
 }
 
 fn object_of<'v, 'a>(value: &'v Value<'a>, fault: TraceFault) -> Option<&'v Value<'a>> {
@@ -99,14 +96,16 @@ fn message_about(
     let found = object.and_then(|object| object.get(member.key()));
     let word = found.and_then(Value::as_str).unwrap_or("");
     let known = known_words(alloc, plan, object, member)?;
-    let wrong = WrongMember {
-        found,
-        expected: member.expected(),
-        known: known.as_slice(),
-        nearest: nearest(alloc, word, known.as_slice())?,
-    };
+    let nearest = Nearest(nearest(alloc, word, known.as_slice())?);
     let mut text = String::new(alloc);
-    text.write(wrong)?;
+    match found {
+        Some(value) => write!(text, ": found {}, expected ", Found(value))?,
+        None => text.push_str(": missing; expected ")?,
+    }
+    match member.expected() {
+        Some(phrase) => write!(text, "{phrase}{nearest}")?,
+        None => write!(text, "{}{nearest}", Listed(known.as_slice()))?,
+    }
     Ok(text)
 }
 
@@ -144,31 +143,6 @@ fn outcome_words(
     }
     words.push("refused")?;
     Ok(words)
-}
-
-/// A member that is missing or wrong, and what is expected of it.
-#[derive(Clone, Copy)]
-struct WrongMember<'w, 'a> {
-    /// `None` if it is missing.
-    found: Option<&'w Value<'a>>,
-    /// A phrase, or `None` if it is one of the known words.
-    expected: Option<&'static str>,
-    known: &'w [&'w str],
-    nearest: Option<&'w str>,
-}
-
-impl Display for WrongMember<'_, '_> {
-    fn fmt<W: fmt::Write>(&self, f: &mut fmt::Formatter<W>) -> fmt::Result {
-        match self.found {
-            Some(value) => write!(f, ": found {}, expected ", Found(value))?,
-            None => f.write_str(": missing; expected ")?,
-        }
-        match self.expected {
-            Some(phrase) => f.write_str(phrase)?,
-            None => write!(f, "{}", Listed(self.known))?,
-        }
-        write!(f, "{}", Nearest(self.nearest))
-    }
 }
 
 /// A value as a message shows it: short ones as they were written.

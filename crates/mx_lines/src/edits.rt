@@ -24,8 +24,9 @@ pub fn nearest<'a>(
     let mut least = MAX_EDITS + 1;
     let mut best = None;
     for other in known {
-        let count = edits(alloc, name, other)?;
-        if count < least && count <= name.len().max(other.len()) / 3 {
+        let most = name.len().max(other.len()) / 3;
+        let count = edits(alloc, name, other, most.min(least))?;
+        if count < least && count <= most {
             least = count;
             best = Some(*other);
         }
@@ -34,13 +35,29 @@ pub fn nearest<'a>(
 }
 
 /// Returns how many edits lead from a name to another: characters added, removed, changed or
-/// swapped. Returns 0 if only ASCII case differs, and 64 if a name is too long to be near.
-fn edits(alloc: Global, name: &str, other: &str) -> Result<usize, AllocError> {
+/// swapped. Returns 0 if only ASCII case differs. More than `most` edits may be any greater number.
+fn edits(alloc: Global, name: &str, other: &str, most: usize) -> Result<usize, AllocError> {
     if name.len() > MAX_BYTES || other.len() > MAX_BYTES {
         return Ok(MAX_BYTES);
     }
     if name.eq_ignore_ascii_case(other) {
         return Ok(0);
     }
+    let lacking = lacks(name, other).max(lacks(other, name));
+    if lacking > most {
+        return Ok(lacking);
+    }
     osa_distance(alloc, name, other)
+}
+
+/// Returns how many kinds of characters of a name another lacks. Each of them takes an edit, so this
+/// tells names that are far from each other, at less cost than `osa_distance`.
+fn lacks(name: &str, other: &str) -> usize {
+    (kinds(name) & !kinds(other)).count_ones() as usize
+}
+
+/// Returns the characters of a name, as a set of 64 kinds.
+fn kinds(name: &str) -> u64 {
+    name.chars()
+        .fold(0, |set, c| set | 1 << (u32::from(c) % 64))
 }

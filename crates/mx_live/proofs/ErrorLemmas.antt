@@ -10,7 +10,7 @@ use Rattle.mx_plan.specs.declared.shape.Shape.TheVariants as planned
 use Rattle.mx_ricart.specs.Step.{ricart_core}
 use Rattle.mx_maekawa.specs.Step.{maekawa_core}
 use Rattle.mx_raymond.specs.Step.{raymond_core}
-use Rattle.mx_cli.specs.Requests.{LiveRequest}
+use Rattle.mx_cli.specs.declared.request.LiveOptions.{LiveOptions}
 use Rattle.mx_cli.specs.declared.stop.Stop.{Stop}
 use Rattle.mx_cli.specs.declared.stop.Stop.TheVariants as stop
 use Rattle.mx_cli.specs.Reading.{IsPlanOf, Reads}
@@ -22,9 +22,7 @@ use Rattle.mx_stations.specs.declared.worker.Worked.TheVariants as worked
 use Rattle.mx_jobs.specs.Serial.{AreSerial}
 use Rattle.mx_live.specs.declared.live_error.LiveError.{LiveError}
 use Rattle.mx_live.specs.declared.live_error.LiveError.TheVariants.{Plan, TooFewSections, TurnsSpent, GateShut, Writer, Memory, NoThread}
-use Rattle.mx_live.specs.declared.threads.WorkerConfig.{WorkerConfig}
 use Rattle.mx_live.specs.LiveErrors.{Fails, HasNone, InVain, InVainBy, IsWhy, RunsInVain, unread_error}
-use Rattle.mx_live.specs.Workers.{orders_in}
 use Rattle.mx_live.specs.Shown.{live_text}
 use Rattle.mx_live.specs.Together.{ComeOf, HaveSections}
 use Rattle.mx_live.specs.Lives.{Ends, Fits, Halts, Prints, Shows}
@@ -35,15 +33,15 @@ why_of worked.Done error why = absurd why
 why_of (worked.NotYet n) error why = inl why
 why_of worked.GateShut error why = inr why
 
-vain_of : {H S M : Type 0} (core : Core H S M) (shape : H) (p : Fields) (orders : WorkerConfig) (error : LiveError) → RunsInVain core shape p orders error → (error ≡ TurnsSpent) ⊎ (error ≡ GateShut)
+vain_of : {H S M : Type 0} (core : Core H S M) (shape : H) (p : Fields) (orders : LiveOptions) (error : LiveError) → RunsInVain core shape p orders error → (error ≡ TurnsSpent) ⊎ (error ≡ GateShut)
 vain_of core shape p orders error vain = why_of vain.first.one.1 error vain.first.why
 
-vain_by : (shape : Shape) (p : Fields) (orders : WorkerConfig) (error : LiveError) → InVainBy shape p orders error → (error ≡ TurnsSpent) ⊎ (error ≡ GateShut)
+vain_by : (shape : Shape) (p : Fields) (orders : LiveOptions) (error : LiveError) → InVainBy shape p orders error → (error ≡ TurnsSpent) ⊎ (error ≡ GateShut)
 vain_by (planned.Ricart count) p orders error vain = vain_of ricart_core count p orders error vain
 vain_by (planned.Maekawa family) p orders error vain = vain_of maekawa_core family p orders error vain
 vain_by (planned.Raymond tree) p orders error vain = vain_of raymond_core tree p orders error vain
 
-module _ (takes : Bool) (told : Option Telling) (request : LiveRequest) where
+module _ (takes : Bool) (told : Option Telling) (request : LiveOptions) where
   -- what an error says
   abbrev pub Halted : Held → Held → LiveError → Type 0
   Halted old new error = Halts takes told request error × Prints told request error old new
@@ -56,10 +54,10 @@ module _ (takes : Bool) (told : Option Telling) (request : LiveRequest) where
   plan_halts stop.Memory held read = (tt, inl (Keeps-refl held))
 
   -- threads that ran in vain
-  pub vain_halts : (p : Fields) (error : LiveError) (held : Held) → IsPlanOf told p → Fits request p → HasNone p (orders_in request) error → Halted held held error
-  vain_halts p error held read fits (inl vain) = elim (vain_by p.shape p (orders_in request) error vain) [
-    | inl is ↦ subst (λ h. Halted held held h) (sym is) ((p, read, fits, subst (λ h. InVain p (orders_in request) h) is vain), Keeps-refl held)
-    | inr is ↦ subst (λ h. Halted held held h) (sym is) ((p, read, fits, subst (λ h. InVain p (orders_in request) h) is vain), Keeps-refl held)
+  pub vain_halts : (p : Fields) (error : LiveError) (held : Held) → IsPlanOf told p → Fits request p → HasNone p request error → Halted held held error
+  vain_halts p error held read fits (inl vain) = elim (vain_by p.shape p request error vain) [
+    | inl is ↦ subst (λ h. Halted held held h) (sym is) ((p, read, fits, subst (λ h. InVain p request h) is vain), Keeps-refl held)
+    | inr is ↦ subst (λ h. Halted held held h) (sym is) ((p, read, fits, subst (λ h. InVain p request h) is vain), Keeps-refl held)
   ]
   vain_halts p error held read fits (inr (inl is)) = subst (λ h. Halted held held h) (sym is) (tt, inl (Keeps-refl held))
   vain_halts p error held read fits (inr (inr is)) = subst (λ h. Halted held held h) (sym is) ((p, read, fits), Keeps-refl held)
@@ -70,12 +68,12 @@ module _ (takes : Bool) (told : Option Telling) (request : LiveRequest) where
   output_halts error old new (inr is) whole = subst (λ h. Halted old new h) (sym is) (tt, whole)
 
   -- the end of a run that came to none
-  pub none_ends : (p : Fields) (r : Result (Unit {0}) LiveError) (error why : LiveError) (held : Held) (kept_back : Bool) → r ≡ Err error → error ≡ why → IsPlanOf told p → Fits request p → HasNone p (orders_in request) why → Ends takes told request held held kept_back r
+  pub none_ends : (p : Fields) (r : Result (Unit {0}) LiveError) (error why : LiveError) (held : Held) (kept_back : Bool) → r ≡ Err error → error ≡ why → IsPlanOf told p → Fits request p → HasNone p request why → Ends takes told request held held kept_back r
   none_ends p r error why held kept_back is from read fits none =
       subst (λ (x : Result (Unit {0}) LiveError). Ends takes told request held held kept_back x) (sym is) (subst (λ h. Halted held held h) (sym from) (vain_halts p why held read fits none))
 
   -- the end of a run that came to a journal, which was printed, or not
-  pub shown_ends : (p : Fields) (receipts : List Receipt) (journal : JournalState) (r : Result (Unit {0}) LiveError) (old new : Held) (kept_back : Bool) → IsPlanOf told p → Fits request p → ComeOf p (orders_in request) receipts journal → AreSerial receipts journal
+  pub shown_ends : (p : Fields) (receipts : List Receipt) (journal : JournalState) (r : Result (Unit {0}) LiveError) (old new : Held) (kept_back : Bool) → IsPlanOf told p → Fits request p → ComeOf p request receipts journal → AreSerial receipts journal
       → HaveSections (length p.nodes) request.sections receipts → OnOk r (Appends old new (live_text p (length receipts) journal)) → OnOk r (kept_back ≡ false) → IfErr r (Fails takes)
       → OnErr r (Keeps old new ⊎ Appends old new (live_text p (length receipts) journal)) → Ends takes told request old new kept_back r
   shown_ends p receipts journal (Ok done) old new kept_back plan fits come serial have ok passed err whole = ((p, receipts, journal, plan, fits, come, serial, have, ok), passed)

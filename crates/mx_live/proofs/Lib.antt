@@ -4,4 +4,4 @@ pub mod WorkerLemmas
 pub mod SectionLemmas
 pub mod ProgressLemmas
 pub mod ErrorLemmas
-mod RequestLemmas
+pub mod RequestLemmas

@@ -18,7 +18,7 @@ use Rattle.mx_stations.specs.Posts.{Post}
 use Rattle.mx_stations.specs.Turns.{Station}
 use Rattle.mx_jobs.specs.Serial.{AreSerial}
 use Rattle.mx_live.specs.declared.live_error.LiveError.{LiveError}
-use Rattle.mx_live.specs.declared.threads.WorkerConfig.{WorkerConfig}
+use Rattle.mx_cli.specs.declared.request.LiveOptions.{LiveOptions}
 use Rattle.mx_live.specs.LiveErrors.{HasNone, InVainBy, IsShort}
 use Rattle.mx_live.specs.Together.{AreGathered, ComeOf, GatheredBy, HaveSections}
 use Rattle.mx_live.specs.Workers.{AreDone, HaveRun, stations_of}
@@ -95,7 +95,7 @@ module _ {T P : Type 0} (sections : ℕ) where
       let both = length-append t.me.receipts (receipts_of posts) in
       both ∙ ap (λ (n : ℕ). n + length (receipts_of posts)) own ∙ ap (λ (n : ℕ). sections + n) rest ∙ turn ∙ sym (suc-mul (length posts) sections)
 
-module _ {H S M : Type 0} (core : Core H S M) (shape : H) (p : Fields) (orders : WorkerConfig) where
+module _ {H S M : Type 0} (core : Core H S M) (shape : H) (p : Fields) (orders : LiveOptions) where
   full : (left : List (Station core × Worked)) (journal : JournalState) (receipts : List Receipt) → HaveRun core shape p orders left → AreDone left → IsGathered (stations_of left) journal receipts → AreFull orders.sections 0 (stations_of left)
   full left journal receipts run done gathered = λ k s at.
       let one = unmapped (λ (ended : Station core × Worked). ended.0) left k s at in
@@ -127,9 +127,9 @@ module _ {T P : Type 0} where
       record { numbered = g.numbered; records = g.records; covers = g.covers; reads = g.reads; shows = g.shows }
 
 -- what is gathered by the algorithm of a shape, where that is the plan's
-pub come_by : (shape : Shape) (p : Fields) (orders : WorkerConfig) (receipts : List Receipt) (journal : JournalState) → p.shape ≡ shape → GatheredBy shape p orders receipts journal → ComeOf p orders receipts journal
+pub come_by : (shape : Shape) (p : Fields) (orders : LiveOptions) (receipts : List Receipt) (journal : JournalState) → p.shape ≡ shape → GatheredBy shape p orders receipts journal → ComeOf p orders receipts journal
 come_by shape p orders receipts journal is come = subst (λ (s : Shape). GatheredBy s p orders receipts journal) (sym is) come
 
 -- and why nothing is
-pub none_by : (shape : Shape) (p : Fields) (orders : WorkerConfig) (error : LiveError) → p.shape ≡ shape → InVainBy shape p orders error ⊎ IsShort error → HasNone p orders error
+pub none_by : (shape : Shape) (p : Fields) (orders : LiveOptions) (error : LiveError) → p.shape ≡ shape → InVainBy shape p orders error ⊎ IsShort error → HasNone p orders error
 none_by shape p orders error is none = subst (λ (s : Shape). InVainBy s p orders error ⊎ IsShort error) (sym is) none

@@ -21,7 +21,7 @@ use Rattle.mx_stations.specs.Running.{fresh}
 use Rattle.mx_stations.specs.Turns.{Station}
 use Rattle.mx_stations.specs.Works.{IsWithin}
 use Rattle.mx_stations.proofs.Rounding.{rounds_kept, rounds_node, rounds_some}
-use Rattle.mx_live.specs.declared.threads.WorkerConfig.{WorkerConfig}
+use Rattle.mx_cli.specs.declared.request.LiveOptions.{LiveOptions}
 use Rattle.mx_live.specs.Stations.{AreAtRest}
 use Rattle.mx_live.specs.declared.threads.Worker.{Worker}
 use Rattle.mx_live.specs.Workers.{AreDone, AreLeft, HaveRun, IsLeft, stations_of, worker_of}
@@ -29,7 +29,7 @@ use Rattle.mx_live.proofs.StationLemmas.{first_and_more, nil_is_no_more, there, 
 
 module _ {H S M : Type 0} (core : Core H S M) where
   -- what workers with these orders left
-  pub left_by : (orders : WorkerConfig) (works : List (Worker (Station core) Climate)) (stations : List (Station core)) (left : List (Station core × Worked)) → works ≡ map (worker_of orders) stations
+  pub left_by : (orders : LiveOptions) (works : List (Worker (Station core) Climate)) (stations : List (Station core)) (left : List (Station core × Worked)) → works ≡ map (worker_of orders) stations
       → AllZip (λ (w : Worker (Station core) Climate) ended. IsLeft core w.orders w.station ended) works left → AreLeft core orders stations left
   left_by orders works [] [] same all = tt
   left_by orders [] [] (e ∷ left) same all = absurd all
@@ -43,7 +43,7 @@ module _ {H S M : Type 0} (core : Core H S M) where
       )
 
   -- what a worker left is of the station at its place
-  pub left_at : (orders : WorkerConfig) (stations : List (Station core)) (left : List (Station core × Worked)) → AreLeft core orders stations left → (k : ℕ) (ended : Station core × Worked) → get_elem? left k ≡ some ended
+  pub left_at : (orders : LiveOptions) (stations : List (Station core)) (left : List (Station core × Worked)) → AreLeft core orders stations left → (k : ℕ) (ended : Station core × Worked) → get_elem? left k ≡ some ended
       → (from : Station core) × (get_elem? stations k ≡ some from) × IsLeft core orders from ended
   left_at orders stations left all k ended at = zip_at (IsLeft core orders) stations left all k ended at
 
@@ -63,7 +63,7 @@ module _ {H S M : Type 0} (core : Core H S M) where
       → (shape : H) (i origin limit registers : ℕ) → from.me ≡ fresh i (start_of core shape i origin limit registers) → length to.me.receipts ≤ most
   none_more phases most from to within shape i origin limit registers rest = within_most most to (within (rests_within phases most from shape i origin limit registers rest))
 
-module _ {H S M : Type 0} (core : Core H S M) (shape : H) (p : Fields) (orders : WorkerConfig) where
+module _ {H S M : Type 0} (core : Core H S M) (shape : H) (p : Fields) (orders : LiveOptions) where
   -- where what was left is: at the plan's table, each station at its node's place
   pub left_home : (left : List (Station core × Worked)) (run : HaveRun core shape p orders left) (k : ℕ) (ended : Station core × Worked) → get_elem? left k ≡ some ended
       → (ended.0.table ≡ run.rested.table) × (ended.0.nodes ≡ length p.nodes) × (ended.0.me.node ≡ k)

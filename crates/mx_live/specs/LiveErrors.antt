@@ -22,7 +22,7 @@ use Rattle.mx_stations.specs.declared.worker.Worked.TheVariants as worked
 use Rattle.mx_stations.specs.Turns.{Station}
 use Rattle.mx_live.specs.declared.live_error.LiveError.{LiveError}
 use Rattle.mx_live.specs.declared.live_error.LiveError.TheVariants.{Plan, TooFewSections, TurnsSpent, GateShut, Writer, Memory, NoThread}
-use Rattle.mx_live.specs.declared.threads.WorkerConfig.{WorkerConfig}
+use Rattle.mx_cli.specs.declared.request.LiveOptions.{LiveOptions}
 use Rattle.mx_live.specs.Workers.{AreDone, HaveRun}
 
 -- the line that reports an error; `name` is the name of the plan's file
@@ -73,19 +73,19 @@ EndInVain left error = FirstNotDone left error ⊎ (AreDone left × (error ≡ M
 -- Workers may leave stations of this plan so that some worker is not done, and this is the error of
 -- the first such worker, in order of the nodes. It does not say that threads left them.
 pub record RunsInVain {H S M : Type 0} (core : Core H S M) (shape : H) (p : Fields)
-    (orders : WorkerConfig) (error : LiveError) : Type 0 where
+    (orders : LiveOptions) (error : LiveError) : Type 0 where
   pub left : List (Station core × Worked)
   pub run : HaveRun core shape p orders left
   pub first : FirstNotDone left error
 
 -- the same, with the algorithm of this shape
-abbrev pub InVainBy : Shape → Fields → WorkerConfig → LiveError → Type 0
+abbrev pub InVainBy : Shape → Fields → LiveOptions → LiveError → Type 0
 InVainBy (planned.Ricart count) p orders error = RunsInVain ricart_core count p orders error
 InVainBy (planned.Maekawa family) p orders error = RunsInVain maekawa_core family p orders error
 InVainBy (planned.Raymond tree) p orders error = RunsInVain raymond_core tree p orders error
 
 -- the same, with the plan's shape
-abbrev pub InVain : Fields → WorkerConfig → LiveError → Type 0
+abbrev pub InVain : Fields → LiveOptions → LiveError → Type 0
 InVain p orders error = InVainBy p.shape p orders error
 
 -- memory ran out, or a thread could not be started
@@ -94,7 +94,7 @@ IsShort error = (error ≡ Memory) ⊎ (error ≡ NoThread)
 
 -- why a run of this plan has no journal: a worker is not done, memory ran out, or a thread could not
 -- be started
-abbrev pub HasNone : Fields → WorkerConfig → LiveError → Type 0
+abbrev pub HasNone : Fields → LiveOptions → LiveError → Type 0
 HasNone p orders error = InVain p orders error ⊎ IsShort error
 
 -- the error of an output that failed: it refused, which an output that takes all never does, or

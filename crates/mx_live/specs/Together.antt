@@ -12,7 +12,7 @@ use Rattle.mx_raymond.specs.Step.{raymond_core}
 use Rattle.mx_stations.specs.declared.worker.Worked.{Worked}
 use Rattle.mx_stations.specs.Gathered.{IsGathered}
 use Rattle.mx_stations.specs.Turns.{Station}
-use Rattle.mx_live.specs.declared.threads.WorkerConfig.{WorkerConfig}
+use Rattle.mx_cli.specs.declared.request.LiveOptions.{LiveOptions}
 use Rattle.mx_live.specs.Workers.{AreDone, HaveRun, stations_of}
 
 -- each of these nodes has exactly this number of the receipts, and there are no others
@@ -23,14 +23,14 @@ pub record HaveSections (nodes sections : ℕ) (receipts : List Receipt) : Type 
 -- All workers of a run of this plan are done, and the receipts and the journal were gathered from
 -- their stations.
 pub record AreGathered {H S M : Type 0} (core : Core H S M) (shape : H) (p : Fields)
-    (orders : WorkerConfig) (receipts : List Receipt) (journal : JournalState) : Type 0 where
+    (orders : LiveOptions) (receipts : List Receipt) (journal : JournalState) : Type 0 where
   pub left : List (Station core × Worked)
   pub run : HaveRun core shape p orders left
   pub done : AreDone left
   pub gathered : IsGathered (stations_of left) journal receipts
 
 -- the same, with the algorithm of this shape
-abbrev pub GatheredBy : Shape → Fields → WorkerConfig → List Receipt → JournalState → Type 0
+abbrev pub GatheredBy : Shape → Fields → LiveOptions → List Receipt → JournalState → Type 0
 GatheredBy (planned.Ricart count) p orders receipts journal =
     AreGathered ricart_core count p orders receipts journal
 GatheredBy (planned.Maekawa family) p orders receipts journal =
@@ -39,5 +39,5 @@ GatheredBy (planned.Raymond tree) p orders receipts journal =
     AreGathered raymond_core tree p orders receipts journal
 
 -- the same, with the plan's shape
-abbrev pub ComeOf : Fields → WorkerConfig → List Receipt → JournalState → Type 0
+abbrev pub ComeOf : Fields → LiveOptions → List Receipt → JournalState → Type 0
 ComeOf p orders receipts journal = GatheredBy p.shape p orders receipts journal

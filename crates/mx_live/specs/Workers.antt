@@ -7,24 +7,14 @@ use Rattle.mx_member.specs.Member.{MemberState}
 use Rattle.mx_member.specs.Steps.{start_of}
 use Rattle.mx_stations.specs.Posts.{Post}
 use Rattle.mx_plan.specs.Fields.{Fields}
-use Rattle.mx_cli.specs.Requests.{LiveRequest}
+use Rattle.mx_cli.specs.declared.request.LiveOptions.{LiveOptions}
 use Rattle.mx_stations.specs.declared.worker.Worked.{Worked}
 use Rattle.mx_stations.specs.declared.worker.Worked.TheVariants.{Done, NotYet, GateShut}
 use Rattle.mx_stations.specs.Turns.{Station}
 use Rattle.mx_stations.specs.Running.{fresh}
 use Rattle.mx_stations.specs.Works.{WorksAtMost, WorksFor}
-use Rattle.mx_live.specs.declared.threads.WorkerConfig.{WorkerConfig}
 use Rattle.mx_live.specs.declared.threads.Worker.{Worker}
 use Rattle.mx_live.specs.Stations.{AreAtRest}
-
-abbrev pub orders_in : LiveRequest → WorkerConfig
-orders_in request =
-    record {
-      sections = request.sections;
-      seed = request.seed;
-      turns = request.turns;
-      settle = request.settle;
-    }
 
 -- the weather (the source of fates) of the links to node i, whose seed is `seed` plus i, modulo
 -- 2^64. Of the 256 values of a random byte, 16 lose a parcel and 16 repeat it
@@ -32,7 +22,7 @@ abbrev pub weather_of : ℕ → ℕ → Climate
 weather_of seed i = record { words = generator_of ((seed + i) % 2 ^ 64); lost = 16; doubled = 16 }
 
 -- the worker of a station, with these orders and with the weather of its own links
-abbrev pub worker_of : {S M : Type 0} → WorkerConfig → Post (MemberState S) (Parcel M)
+abbrev pub worker_of : {S M : Type 0} → LiveOptions → Post (MemberState S) (Parcel M)
     → Worker (Post (MemberState S) (Parcel M)) Climate
 worker_of orders station =
     record {
@@ -44,7 +34,7 @@ worker_of orders station =
 module _ {H S M : Type 0} (core : Core H S M) where
   -- What a worker that started with the station `from` returned: its station, and how it ended. The
   -- worker used register 0 alone, made at most the ordered number of turns, and settled as ordered.
-  pub record IsLeft (orders : WorkerConfig) (from : Station core) (ended : Station core × Worked)
+  pub record IsLeft (orders : LiveOptions) (from : Station core) (ended : Station core × Worked)
       : Type 0 where
     pub works : WorksAtMost core 0 orders.settle orders.turns from ended.0
     -- if `from` was a new station, no more sections were left than ordered
@@ -60,12 +50,12 @@ module _ {H S M : Type 0} (core : Core H S M) where
     pub shut : ended.1 ≡ GateShut → ended.0 ≡ from
 
   -- what workers with these orders, one for each of these stations, returned, in order
-  abbrev pub AreLeft : WorkerConfig → List (Station core) → List (Station core × Worked) → Type 0
+  abbrev pub AreLeft : LiveOptions → List (Station core) → List (Station core × Worked) → Type 0
   AreLeft orders stations left = AllZip (IsLeft orders) stations left
 
   -- what the workers of a run of this plan returned, in order of the nodes: each started with the
   -- new station of its node
-  pub record HaveRun (shape : H) (p : Fields) (orders : WorkerConfig)
+  pub record HaveRun (shape : H) (p : Fields) (orders : LiveOptions)
       (left : List (Station core × Worked)) : Type 0 where
     pub stations : List (Station core)
     pub rested : AreAtRest core shape p stations

@@ -5,7 +5,7 @@ ghost use Rattle.std.specs.Prelude.{◌≡◌, ◌⊎◌, Option, false, length,
 ghost use Rattle.std.specs.Io.KnownBytes.{Appends, Keeps};
 ghost use Rattle.mx_cli.specs.Table.{mx_app};
 ghost use Rattle.mx_cli.specs.Words.{texts_of};
-ghost use Rattle.mx_cli.specs.Requests.{AskNothing, live_request_of, request_asked, request_of};
+ghost use Rattle.mx_cli.specs.Requests.{AskNothing, request_asked, request_of};
 ghost use Rattle.mx_cli.specs.Reports.{Answers, Declines, seen};
 ghost use Rattle.mx_io.specs.Told.{Telling};
 ghost use Rattle.mx_live.specs.LiveErrors.{Fails};
@@ -17,10 +17,10 @@ ghost use Rattle.mx_live.specs.Progress.{TellsProgress};
 use crate::live_error::{LiveError, report_error, unread_error};
 use crate::live_text::add_journal;
 use crate::node_runs::live_by_shape;
-use mx_cli::{LiveRequest, Request, fetch_plan, parse, refuse};
+use mx_cli::{LiveOptions, Request, Task, fetch_plan, parse, refuse};
 use mx_io::{Output, Source};
 use mx_jobs::Host;
-use mx_plan::Plan;
+use mx_plan::{Needs, Plan};
 use mx_stations::Gathered;
 use std::alloc::Global;
 
@@ -64,46 +64,51 @@ fn carry_out<R: Host, S: Source, O: Output, E: Output>(
         (seen O.Output E.Output out.old err.old) (seen O.Output E.Output out.new err.new) result }
 {
     match request {
-        Request::Live(run) => run_live(rt, alloc, run, source, out, err),
+        Request::Task(files, Task::Live(options)) => {
+            run_live(rt, alloc, files.plan, options, source, out, err)
+        }
         _ => 2,
     }
 }
 
-fn run_live<R: Host, S: Source, O: Output, E: Output>(
+/// Runs the nodes of the plan of this name in threads, prints their merged journal, and returns the
+/// exit status.
+pub fn run_live<R: Host, S: Source, O: Output, E: Output>(
     rt: &R,
     alloc: Global,
-    request: &LiveRequest<'_>,
+    plan: &str,
+    options: &LiveOptions,
     source: &mut S,
     out: &mut O,
     err: &mut E,
 ) -> u8
-    ensures { Lives (O.takes_all out.old) (E.takes_all err.old)
-        (S.told source.old request.now.plan.now) (live_request_of request.now)
+    ensures lives { Lives (O.takes_all out.old) (E.takes_all err.old)
+        (S.told source.old plan.now) plan.now options.now
         (seen O.Output E.Output out.old err.old) (seen O.Output E.Output out.new err.new) result }
 {
-    match live_and_show(rt, alloc, request, source, out, err) {
+    match live_and_show(rt, alloc, plan, options, source, out, err) {
         Ok(()) => 0,
-        Err(error) => report_error(alloc, error, request.plan, err),
+        Err(error) => report_error(alloc, error, plan, err),
     }
 }
 
 fn live_and_show<R: Host, S: Source, O: Output, E: Output>(
     rt: &R,
     alloc: Global,
-    request: &LiveRequest<'_>,
+    plan: &str,
+    options: &LiveOptions,
     source: &mut S,
     out: &mut O,
     err: &mut E,
 ) -> Result<(), LiveError>
-    ensures ends { Ends (O.takes_all out.old) (S.told source.old request.now.plan.now)
-        (live_request_of request.now)
+    ensures ends { Ends (O.takes_all out.old) (S.told source.old plan.now) options.now
         (O.written out.old) (O.written out.new) (O.keeps_back out.new) result }
-    ensures progress { TellsProgress request.now.progress
+    ensures progress { TellsProgress options.now.progress
         (E.written err.old) (E.written err.new) }
     ensures stays { E.takes_all err.new ≡ E.takes_all err.old }
 {
-    match fetch_plan(alloc, source, request.plan) {
-        Ok(plan) => live_plan(rt, alloc, &plan, request, out, err),
+    match fetch_plan(alloc, source, plan, Needs::All) {
+        Ok(plan) => live_plan(rt, alloc, &plan, options, out, err),
         Err(stop) => Err(unread_error(stop)),
     }
 }
@@ -112,21 +117,21 @@ fn live_plan<R: Host, O: Output, E: Output>(
     rt: &R,
     alloc: Global,
     plan: &Plan,
-    request: &LiveRequest<'_>,
+    options: &LiveOptions,
     out: &mut O,
     err: &mut E,
 ) -> Result<(), LiveError>
     ensures ends { (told : Option Telling) → IsPlanOf told plan.now
-        → Ends (O.takes_all out.old) told (live_request_of request.now)
+        → Ends (O.takes_all out.old) told options.now
         (O.written out.old) (O.written out.new) (O.keeps_back out.new) result }
-    ensures progress { TellsProgress request.now.progress
+    ensures progress { TellsProgress options.now.progress
         (E.written err.old) (E.written err.new) }
     ensures stays { E.takes_all err.new ≡ E.takes_all err.old }
 {
-    if u64::from(plan.nodes()).saturating_mul(request.sections) > plan.sections() {
+    if u64::from(plan.nodes()).saturating_mul(options.sections) > plan.sections() {
         return Err(LiveError::TooFewSections);
     }
-    let gathered = live_by_shape(rt, alloc, plan, request, err)?;
+    let gathered = live_by_shape(rt, alloc, plan, options, err)?;
     show(alloc, plan, &gathered, out)
 }
 

@@ -1,19 +1,18 @@
 //! Runs each node of a plan in a thread, and gathers the stations.
 
 ghost use Rattle.std.specs.Prelude.{◌≡◌, ◌⊎◌, length, IfErr, IfNone, IfOk, IfSome};
-ghost use Rattle.mx_cli.specs.Requests.{live_request_of};
 ghost use Rattle.mx_stations.specs.Gathered.{IsGathered, OfOneTable};
 ghost use Rattle.mx_jobs.specs.Serial.{AreSerial};
 ghost use Rattle.mx_live.specs.LiveErrors.{EndInVain, FirstNotDone, HasNone, IsShort, RunsInVain};
 ghost use Rattle.mx_live.specs.Progress.{TellsProgress};
 ghost use Rattle.mx_live.specs.Stations.{AreAtRest};
 ghost use Rattle.mx_live.specs.Together.{AreGathered, ComeOf, HaveSections};
-ghost use Rattle.mx_live.specs.Workers.{AreDone, AreLeft, orders_in, stations_of};
+ghost use Rattle.mx_live.specs.Workers.{AreDone, AreLeft, stations_of};
 
 use crate::live_error::LiveError;
 use crate::progress::report_if_asked;
-use crate::threads::{Ended, WorkerConfig, join_all, start_all};
-use mx_cli::LiveRequest;
+use crate::threads::{Ended, join_all, start_all};
+use mx_cli::LiveOptions;
 use mx_io::Output;
 use mx_jobs::Host;
 use mx_maekawa::Maekawa;
@@ -28,31 +27,31 @@ pub(crate) fn live_by_shape<R: Host, E: Output>(
     rt: &R,
     alloc: Global,
     plan: &Plan,
-    request: &LiveRequest<'_>,
+    options: &LiveOptions,
     err: &mut E,
 ) -> Result<Gathered, LiveError>
     ensures serial { IfOk result (λ all. AreSerial all.receipts.items all.journal) }
     ensures sections { IfOk result (λ all.
-        HaveSections (length plan.now.nodes) request.now.sections all.receipts.items) }
+        HaveSections (length plan.now.nodes) options.now.sections all.receipts.items) }
     ensures come { IfOk result (λ all.
-        ComeOf plan.now (orders_in (live_request_of request.now)) all.receipts.items all.journal) }
-    ensures err { IfErr result (HasNone plan.now (orders_in (live_request_of request.now))) }
-    ensures progress { TellsProgress request.now.progress
+        ComeOf plan.now options.now all.receipts.items all.journal) }
+    ensures err { IfErr result (HasNone plan.now options.now) }
+    ensures progress { TellsProgress options.now.progress
         (E.written err.old) (E.written err.new) }
     ensures stays { E.takes_all err.new ≡ E.takes_all err.old }
 {
     match plan.shape() {
         Shape::Ricart(shape) => {
             let stations = stations_in::<Ricart>(alloc, plan, shape)?;
-            live_at(rt, alloc, plan, stations, request, err)
+            live_at(rt, alloc, plan, stations, options, err)
         }
         Shape::Maekawa(shape) => {
             let stations = stations_in::<Maekawa>(alloc, plan, shape)?;
-            live_at(rt, alloc, plan, stations, request, err)
+            live_at(rt, alloc, plan, stations, options, err)
         }
         Shape::Raymond(shape) => {
             let stations = stations_in::<Raymond>(alloc, plan, shape)?;
-            live_at(rt, alloc, plan, stations, request, err)
+            live_at(rt, alloc, plan, stations, options, err)
         }
     }
 }
@@ -62,7 +61,7 @@ fn live_at<C: Exclusion + Send + 'static, R: Host, E: Output>(
     alloc: Global,
     plan: &Plan,
     stations: Vec<Station<C>>,
-    request: &LiveRequest<'_>,
+    options: &LiveOptions,
     err: &mut E,
 ) -> Result<Gathered, LiveError>
 where
@@ -72,18 +71,18 @@ where
     ensures serial { IfOk result (λ all. AreSerial all.receipts.items all.journal) }
     ensures come { (shape : C.Shape) → AreAtRest C.core shape plan.now stations.items
         → IfOk result (λ all.
-        HaveSections (length plan.now.nodes) request.now.sections all.receipts.items
+        HaveSections (length plan.now.nodes) options.now.sections all.receipts.items
         × AreGathered C.core shape plan.now
-        (orders_in (live_request_of request.now)) all.receipts.items all.journal) }
+        options.now all.receipts.items all.journal) }
     ensures err { (shape : C.Shape) → AreAtRest C.core shape plan.now stations.items
         → IfErr result (λ error.
-        RunsInVain C.core shape plan.now (orders_in (live_request_of request.now)) error
+        RunsInVain C.core shape plan.now options.now error
         ⊎ IsShort error) }
-    ensures progress { TellsProgress request.now.progress
+    ensures progress { TellsProgress options.now.progress
         (E.written err.old) (E.written err.new) }
     ensures stays { E.takes_all err.new ≡ E.takes_all err.old }
 {
-    let left = run_stations(rt, alloc, plan, stations, request, err)?;
+    let left = run_stations(rt, alloc, plan, stations, options, err)?;
     gather_left(alloc, left)
 }
 
@@ -116,34 +115,23 @@ pub fn run_stations<C: Exclusion + Send + 'static, R: Host, E: Output>(
     alloc: Global,
     plan: &Plan,
     stations: Vec<Station<C>>,
-    request: &LiveRequest<'_>,
+    options: &LiveOptions,
     err: &mut E,
 ) -> Result<Vec<Ended<C>>, LiveError>
 where
     C::Msg: Send + 'static,
     C::Shape: Send + 'static,
     ensures left { IfOk result (λ left.
-        AreLeft C.core (orders_in (live_request_of request.now)) stations.items left.items) }
+        AreLeft C.core options.now stations.items left.items) }
     ensures short { IfErr result IsShort }
-    ensures progress { TellsProgress request.now.progress
+    ensures progress { TellsProgress options.now.progress
         (E.written err.old) (E.written err.new) }
     ensures stays { E.takes_all err.new ≡ E.takes_all err.old }
 {
     let watch = watch_over(stations.as_slice())?;
-    let workers = start_all(rt, alloc, plan.nodes(), stations, orders_of(request))?;
-    report_if_asked(rt, alloc, request.progress, watch, &workers, err);
+    let workers = start_all(rt, alloc, plan.nodes(), stations, *options)?;
+    report_if_asked(rt, alloc, options.progress, watch, &workers, err);
     Ok(join_all(rt, workers)?)
-}
-
-fn orders_of(request: &LiveRequest<'_>) -> WorkerConfig
-    ensures { result ≡ orders_in (live_request_of request.now) }
-{
-    WorkerConfig {
-        sections: request.sections,
-        seed: request.seed,
-        turns: request.turns,
-        settle: request.settle,
-    }
 }
 
 /// Gathers the journals and receipts of the stations that the workers left, if all workers are

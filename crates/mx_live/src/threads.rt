@@ -4,6 +4,7 @@ ghost use Rattle.std.specs.Prelude.{◌≡◌, ◌<◌, IfOk, map};
 ghost use Rattle.std.specs.List.{AllZip};
 ghost use Rattle.mx_live.specs.Workers.{IsLeft, weather_of, worker_of};
 
+use mx_cli::LiveOptions;
 use mx_explorer::Weather;
 use mx_jobs::{Host, StartFault, StartGate, ThreadGroup, Work};
 use mx_letters::Fates;
@@ -20,16 +21,6 @@ const LOST: u16 = 16;
 /// How many of 256 parcels a link repeats, on average.
 const DOUBLED: u16 = 16;
 
-#[derive(Clone, Copy)]
-pub(crate) struct WorkerConfig {
-    pub(crate) sections: u64,
-    /// The seed of the links to node 0. That of the links to node i is greater by i (modulo 2^64).
-    pub(crate) seed: u64,
-    pub(crate) turns: u64,
-    /// After how many of its own sections each station settles its journal, or 0 for never.
-    pub(crate) settle: u64,
-}
-
 /// What a worker leaves: its station, and how it ended.
 pub type Ended<C> = (Station<C>, Worked);
 
@@ -37,7 +28,7 @@ pub type Ended<C> = (Station<C>, Worked);
 #[derive(Drop)]
 pub(crate) struct Worker<S, F> {
     station: S,
-    orders: WorkerConfig,
+    orders: LiveOptions,
     fates: F,
 }
 
@@ -78,7 +69,7 @@ pub(crate) fn start_all<C: Exclusion + Send + 'static, R: Host>(
     alloc: Global,
     nodes: u8,
     stations: Vec<Station<C>>,
-    orders: WorkerConfig,
+    orders: LiveOptions,
 ) -> Result<Workers<C, R>, AllocError>
 where
     C::Msg: Send + 'static,

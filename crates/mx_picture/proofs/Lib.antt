@@ -1,3 +1,2 @@
 mod PictureLemmas
-mod SheetLemmas
 mod TraceLemmas

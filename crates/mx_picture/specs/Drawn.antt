@@ -7,6 +7,8 @@ use Rattle.mx_plan.specs.declared.shape.Shape.TheVariants.{Ricart, Maekawa, Raym
 use Rattle.mx_format.specs.EventTexts.{name_of}
 use Rattle.mx_format.specs.Lines.{texts_from}
 use Rattle.mx_picture.specs.declared.opening.Frame.{Frame}
+use Rattle.mx_picture.specs.declared.opening.Title.{Title}
+use Rattle.mx_picture.specs.declared.opening.Title.TheVariants.{Run, Trace}
 
 abbrev pub opening_line : Frame → Text
 opening_line frame =
@@ -42,6 +44,10 @@ abbrev pub trace_title : Fields → Text → Text
 trace_title p judgement =
     codes "<title>Trace, nodes:" ++ names_text p ++ line_feed ++ judgement
     ++ (codes "</title>" ++ line_feed)
+
+abbrev pub title_text : Fields → Title → Text
+title_text p (Run events) = title_line p events
+title_text p (Trace judgement _) = trace_title p judgement.now
 
 -- a page: its first line opens it, then comes its title, and its last line closes it
 abbrev pub IsPage : Text → Text → Type 0

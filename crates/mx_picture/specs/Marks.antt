@@ -1,4 +1,4 @@
--- Which events of a trace a picture shows, and which one it marks.
+-- Which events a picture shows, and which one of a trace it marks.
 use Rattle.std.specs.Prelude.{◌&&◌, ◌||◌, ◌++◌, ◌==◌, ℕ, Bool, true, Option, None, Some, codes, decimal, if◌then◌else◌, is_none, nat_le, string_bytes}
 use Rattle.mx_plan.specs.Text.{Text}
 use Rattle.mx_plan.specs.Fields.{Fields}
@@ -23,13 +23,13 @@ abbrev pub shows_node : Option ℕ → ℕ → Bool
 shows_node None node = true
 shows_node (Some shown) node = shown == node
 
--- a delivery is of no node that a trace names
+-- a delivery is of no node that an event names
 abbrev pub shows_event : Option ℕ → Option ℕ → Bool
 shows_event shown None = is_none shown
 shows_event shown (Some node) = shows_node shown node
 
--- the k-th event of a trace is shown; it may be near, which is to send or deliver a message from or to
--- a shown node
+-- the k-th event is shown; it may be near, which is to send or deliver a parcel from or to a
+-- shown node
 abbrev pub is_shown : Part → ℕ → Event → Bool → Bool
 is_shown part k event is_near =
     shows_index part k && (is_near || shows_event part.node (node_of event))

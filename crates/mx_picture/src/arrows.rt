@@ -1,12 +1,29 @@
 //! The arrows of parcels.
 
 use crate::columns::Columns;
-use crate::route::Route;
-use crate::segment::{ASIDE, ROW, Segment};
+use crate::labels::Side;
+use crate::segment::{SHIFT, Segment};
+use crate::sent::Route;
 use std::alloc::AllocError;
 
+/// The distance between two rows, in pixels.
+pub(crate) const ROW: u64 = 13;
+
+/// How far the piece of an arrow goes to the side, in pixels.
+pub(crate) const ASIDE: u64 = 26;
+
+/// How far the bow of an arrow to its own node swings to the left, in pixels.
+const BOW: u64 = 20;
+
+/// An arrow is long if it goes down by this much or more, in pixels: the text of its delivery then
+/// names the sender.
+const LONG: u64 = 26 * ROW;
+
+/// An arrow is also long if the numbers of its two nodes differ by this much or more.
+const LONG_NODES: u8 = 6;
+
 /// What of a parcel's arrow is drawn. It is dashed if the parcel was delivered before.
-#[derive(Clone, Copy)]
+#[derive(Clone, Copy, PartialEq)]
 pub(crate) enum End {
     /// All, to the delivery this many pixels down.
     Whole { is_repeat: bool, down: u64 },
@@ -16,43 +33,63 @@ pub(crate) enum End {
     Delivery { is_repeat: bool },
     /// A start that goes down to where the parcel is lost, this many pixels, and ends in a cross.
     Loss { down: u64 },
+    /// A start with a mark: no event delivers the parcel, and it is not lost.
+    Open,
+}
+
+impl End {
+    /// Returns whether a delivered parcel's arrow is long or begins in a row that is not shown.
+    pub(crate) fn is_far(self, route: Route) -> bool {
+        match self {
+            End::Whole { down, .. } => {
+                down >= LONG || route.from.get().abs_diff(route.to.get()) >= LONG_NODES
+            }
+            _ => true,
+        }
+    }
 }
 
 /// The arrow of a parcel, or a piece of it. It begins at the height `y`, where the parcel is sent;
 /// a tip alone ends there, at the delivery.
 #[derive(Drop)]
 pub(crate) struct Arrow {
+    pub(crate) number: u64,
+    pub(crate) flight: u64,
     pub(crate) route: Route,
-    pub(crate) end: End,
     pub(crate) y: u64,
+    pub(crate) end: End,
     /// The title, escaped.
     pub(crate) title: String,
 }
 
 impl Arrow {
+    /// Returns the line of the arrow. That of a lost parcel is beside its sender, and an arrow of no
+    /// other node. The bow of an arrow to its own node counts as a line at the left of the node.
     pub(crate) fn segment(&self, columns: &Columns) -> Segment {
-        match self.end {
-            End::Whole { down, .. } => Segment::new(self.route, columns, self.y, down),
-            End::Loss { down } => Segment::piece(self.route, columns, self.y, down),
-            _ => Segment::new(self.route, columns, self.y, 0),
+        let Route { from, to, .. } = self.route;
+        let x = columns.x_of(from).saturating_add(SHIFT);
+        let (to, end, down) = match (self.end, self.route.side()) {
+            (End::Loss { down }, Side::Left) => (from, x.saturating_sub(ASIDE), down),
+            (End::Loss { down }, Side::Right) => (from, x.saturating_add(ASIDE), down),
+            (End::Whole { down, .. }, _) => (to, columns.x_of(to).saturating_add(SHIFT), down),
+            _ => (to, columns.x_of(to).saturating_add(SHIFT), 0),
+        };
+        let aside = if end == x { BOW } else { 0 };
+        Segment {
+            nodes: [from, to],
+            from: x.saturating_sub(aside),
+            top: self.y,
+            to: end.saturating_sub(aside),
+            bottom: self.y.saturating_add(down),
         }
     }
 
-    /// Takes over the title of an arrow that looks the same, if both are of losses. Returns whether it
-    /// did.
-    pub(crate) fn absorb(&mut self, other: &Arrow) -> Result<bool, AllocError> {
-        let (End::Loss { down: own }, End::Loss { down }) = (self.end, other.end) else {
-            return Ok(false);
-        };
-        let is_same = own == down
+    /// Returns whether an arrow can be drawn with this one, of another parcel to the same side.
+    pub(crate) fn looks_like(&self, other: &Arrow) -> bool {
+        self.end == other.end
             && self.y == other.y
             && self.route.from == other.route.from
-            && self.route.is_left() == other.route.is_left();
-        if is_same {
-            self.title.push('\n')?;
-            self.title.push_str(other.title.as_str())?;
-        }
-        Ok(is_same)
+            && self.route.side() == other.route.side()
     }
 
     pub(crate) fn add_to(&self, columns: &Columns, text: &mut String) -> Result<(), AllocError> {
@@ -67,32 +104,28 @@ impl Arrow {
     /// Appends the start tag, and the two paths of a loss after it.
     fn add_path(&self, columns: &Columns, text: &mut String) -> Result<(), AllocError> {
         let class = self.route.class();
-        let (back, aside) = if self.route.is_left() {
-            ("", "-")
-        } else {
-            ("-", "")
-        };
+        let (aside, back) = (self.route.side().sign(), self.route.side().other().sign());
         let from = columns.x_of(self.route.from);
         let to = columns.x_of(self.route.to);
         let y = self.y;
+        let again = match self.end {
+            End::Whole { is_repeat, .. } | End::Delivery { is_repeat } if is_repeat => " again",
+            _ => "",
+        };
         match self.end {
-            End::Whole { is_repeat, down } => {
-                let again = again(is_repeat);
+            End::Whole { down, .. } => {
                 write!(text, "<path class=\"{class}{again}\" d=\"M{from} {y}")?;
                 add_way(from, to, down, text)?;
                 write!(text, "\" marker-end=\"url(#{class})\">")
             }
-            End::Sending => write!(
+            End::Sending | End::Open => write!(
                 text,
                 "<path class=\"{class}\" d=\"M{from} {y}l{aside}{ASIDE} {ROW}\">"
             ),
-            End::Delivery { is_repeat } => {
-                let again = again(is_repeat);
-                write!(
-                    text,
-                    "<path class=\"{class}{again}\" d=\"M{to} {y}m{back}{ASIDE}-{ROW}l{aside}{ASIDE} {ROW}\" marker-end=\"url(#{class})\">"
-                )
-            }
+            End::Delivery { .. } => write!(
+                text,
+                "<path class=\"{class}{again}\" d=\"M{to} {y}m{back}{ASIDE}-{ROW}l{aside}{ASIDE} {ROW}\" marker-end=\"url(#{class})\">"
+            ),
             End::Loss { down } => {
                 write!(
                     text,
@@ -105,10 +138,6 @@ impl Arrow {
             }
         }
     }
-}
-
-fn again(is_repeat: bool) -> &'static str {
-    if is_repeat { " again" } else { "" }
 }
 
 /// Appends the way of an arrow: straight to another node, or by a bow back to its own.

@@ -2,10 +2,11 @@
 
 ghost use Rattle.std.specs.Prelude.{◌≤◌, max};
 
-use crate::labels::Label;
+use crate::labels::{Label, Side};
 use crate::text::width_of;
+use mx_format::name_of;
 use mx_plan::Plan;
-use mx_stamps::{MAX_NODES, NodeId};
+use mx_stamps::{MAX_NODES, NodeId, NodeIds};
 
 /// The least distance between the lines of neighbours, in pixels.
 const MIN_COLUMN: u64 = 60;
@@ -19,6 +20,9 @@ const MAX_SPAN: u64 = 2000;
 /// The room between a text and the line of the next node, in pixels.
 const GAP: u64 = 8;
 
+/// For each node, whether it has a line.
+pub(crate) type Lanes = [bool; MAX_NODES as usize];
+
 /// The room that texts want beside the line of each node, in pixels: half its name on both sides,
 /// and texts of events on the left and on the right.
 #[derive(Clone, Copy)]
@@ -30,22 +34,21 @@ struct Room {
 
 impl Room {
     fn new(plan: &Plan, labels: &[Label]) -> Self {
+        let none = [0; MAX_NODES as usize];
         let mut room = Room {
-            names: [0; MAX_NODES as usize],
-            left: [0; MAX_NODES as usize],
-            right: [0; MAX_NODES as usize],
+            names: none,
+            left: none,
+            right: none,
         };
-        for index in 0..MAX_NODES {
-            let name = plan.node_name(index).unwrap_or("");
-            room.names[usize::from(index)] = width_of(name) / 2;
+        for node in plan.node_ids() {
+            room.names[usize::from(node.get())] = width_of(name_of(plan, node)) / 2;
         }
         for label in labels {
             let index = usize::from(label.node.get());
             let wanted = label.reach();
-            if label.side.is_left() {
-                room.left[index] = room.left[index].max(wanted);
-            } else {
-                room.right[index] = room.right[index].max(wanted);
+            match label.side {
+                Side::Left => room.left[index] = room.left[index].max(wanted),
+                Side::Right => room.right[index] = room.right[index].max(wanted),
             }
         }
         room
@@ -60,40 +63,10 @@ impl Room {
     }
 }
 
-/// The set of nodes that have a line.
-#[derive(Clone, Copy)]
-pub(crate) struct Lanes {
-    has: [bool; MAX_NODES as usize],
-}
-
-impl Lanes {
-    /// Creates the set of the first nodes, this many.
-    pub(crate) fn new(nodes: u8) -> Self {
-        let mut has = [false; MAX_NODES as usize];
-        for index in 0..MAX_NODES as usize {
-            has[index] = index < usize::from(nodes);
-        }
-        Lanes { has }
-    }
-
-    pub(crate) fn add(&mut self, node: NodeId) {
-        self.has[usize::from(node.get())] = true;
-    }
-
-    pub(crate) fn has(&self, node: NodeId) -> bool {
-        self.has[usize::from(node.get())]
-    }
-
-    pub(crate) fn len(&self) -> u64 {
-        self.has.iter().filter(|has| **has).count() as u64
-    }
-}
-
 /// The horizontal positions of the lines of nodes, in pixels from the first line.
 #[derive(Clone, Copy)]
 pub(crate) struct Columns {
-    pub(crate) lanes: Lanes,
-    places: [u64; MAX_NODES as usize],
+    lines: [Option<u64>; MAX_NODES as usize],
     pub(crate) last: u64,
 }
 
@@ -104,36 +77,40 @@ impl Columns {
         let room = Room::new(plan, labels);
         let columns = Columns::within(MAX_COLUMN, lanes, &room);
         if columns.last <= MAX_SPAN {
-            columns
-        } else {
-            Columns::within(widest_column(lanes.len()), lanes, &room)
+            return columns;
         }
+        let lines = lanes.iter().filter(|has| **has).count() as u64;
+        Columns::within(widest_column(lines), lanes, &room)
     }
 
     fn within(widest: u64, lanes: &Lanes, room: &Room) -> Self {
         let mut columns = Columns {
-            lanes: *lanes,
-            places: [0; MAX_NODES as usize],
+            lines: [None; MAX_NODES as usize],
             last: 0,
         };
         let mut before = None;
-        for index in 0..MAX_NODES {
-            if let Some(node) = NodeId::of(index)
-                && lanes.has(node)
-            {
+        for node in NodeIds::below(MAX_NODES) {
+            let index = usize::from(node.get());
+            if lanes[index] {
                 if let Some(before) = before {
                     let width = column_width(room.between(before, node), widest);
                     columns.last = columns.last.saturating_add(width);
                 }
-                columns.places[usize::from(index)] = columns.last;
+                columns.lines[index] = Some(columns.last);
                 before = Some(node);
             }
         }
         columns
     }
 
+    /// Returns the position of a node's line, if it has one.
+    pub(crate) fn line_of(&self, node: NodeId) -> Option<u64> {
+        self.lines[usize::from(node.get())]
+    }
+
+    /// Returns the position of a node's line, or that of the first line if it has none.
     pub(crate) fn x_of(&self, node: NodeId) -> u64 {
-        self.places[usize::from(node.get())]
+        self.line_of(node).unwrap_or(0)
     }
 }
 

@@ -1,4 +1,4 @@
-//! `picture`: the events of a text happen as in a replay, and are drawn.
+//! `picture`: the events of a text, or of a script, happen as in a replay, and are drawn.
 
 ghost use Rattle.std.specs.Prelude.{length};
 ghost use Rattle.mx_cli.specs.Printing.{Prints, sight};
@@ -6,9 +6,11 @@ ghost use Rattle.mx_cli.specs.Requests.{part_of};
 ghost use Rattle.mx_driver.specs.Jobs.{run_by};
 ghost use Rattle.mx_driver.specs.Runs.{AllNameNodes};
 ghost use Rattle.mx_picture.specs.Pictures.{IsDrawn, IsPartOf, IsPictured, IsRunDrawn};
+ghost use Rattle.mx_scripts.specs.Printed.{IsOnScript};
 
 use crate::drawing::Drawing;
 use crate::losses::Losses;
+use crate::opening::Title;
 use crate::page::page_of;
 use crate::part::Part;
 use mx_cli::{Command, PicturePart, Stop, print};
@@ -16,6 +18,7 @@ use mx_driver::{node_in, observe};
 use mx_io::Output;
 use mx_network::Event;
 use mx_plan::{Plan, read_events};
+use mx_scripts::file_of_bytes;
 use std::alloc::Global;
 
 /// `picture`: a picture of the outcomes of the events that the text lists.
@@ -37,6 +40,28 @@ impl Command for Picture<'_> {
         out: &mut O,
     ) -> Result<u8, Stop> {
         draw_text(alloc, plan, self, text, Losses::new(alloc), out)
+    }
+}
+
+/// `picture` of a script: a picture of its events, and of the parcels that it loses.
+#[derive(Clone, Copy)]
+pub struct PictureScript<'a>(pub Picture<'a>);
+
+impl Command for PictureScript<'_> {
+    ghost reports = { λ c p text. IsOnScript (IsPictured (part_of c.0.part)) p text };
+
+    fn run<O: Output>(
+        &self,
+        alloc: Global,
+        plan: &Plan,
+        text: &[u8],
+        out: &mut O,
+    ) -> Result<u8, Stop> {
+        let mut losses = Losses::new(alloc);
+        match file_of_bytes(alloc, plan, text, &mut losses) {
+            Ok(file) => draw_text(alloc, plan, &self.0, file.as_bytes(), losses, out),
+            Err(stop) => Err(stop),
+        }
     }
 }
 
@@ -110,8 +135,9 @@ fn print_picture<O: Output>(
         (run_by plan.now plan.now.shape events.now).end)
         (sight O.Output out.old) (sight O.Output out.new) result }
 {
-    let mut drawing = Drawing::new(alloc, events, losses, part)?;
+    let mut drawing = Drawing::new(alloc, plan, events, losses, part)?;
     observe(alloc, plan, events, &mut drawing)?;
-    let page = page_of(plan, events.len() as u64, part, &drawing.rows.sheet)?;
+    let title = Title::Run(events.len() as u64);
+    let page = page_of(plan, &title, &drawing.rows)?;
     print(page.as_bytes(), 0, out)
 }

@@ -1,53 +1,67 @@
-//! Draws a run: a `Drawing` is a sink that gives each event shown a row, with its parcels.
+//! Draws a run: a `Drawing` is a sink that draws each event, and the losses between events.
 
-ghost use Rattle.std.specs.Prelude.{◌<◌, length};
 ghost use Rattle.mx_driver.specs.Runs.{silent};
 
-use crate::losses::{Losses, draw_losses};
-use crate::omissions::{is_shown, pass_over};
-use crate::parcels::{draw_arrival, draw_sent};
+use crate::losses::{Loss, Losses};
 use crate::part::Part;
-use crate::rows::Rows;
-use crate::side::Side;
+use crate::rows::{Rows, Step};
+use crate::sent::{Source, find_all};
 use mx_driver::{Sink, newest};
 use mx_format::Letter;
-use mx_network::{Cluster, Entry, Event};
+use mx_network::{Cluster, Event};
 use mx_nodelaws::Exclusion;
 use mx_plan::Plan;
-use mx_stamps::NodeId;
 use std::alloc::{AllocError, Global};
-use std::collections::HashSet;
 
 #[derive(Drop)]
-pub(crate) struct Drawing {
-    pub(crate) rows: Rows,
-    /// The numbers of the parcels that some event of the run delivers.
-    pub(crate) arriving: HashSet<u64>,
-    pub(crate) losses: Losses,
+pub(crate) struct Drawing<'a> {
+    pub(crate) rows: Rows<'a>,
+    losses: Vec<Loss>,
+    /// How many losses have been drawn.
+    drawn: usize,
 }
 
-impl Drawing {
+impl<'a> Drawing<'a> {
     pub(crate) fn new(
         alloc: Global,
+        plan: &'a Plan,
         events: &[Event],
         losses: Losses,
         part: &Part,
     ) -> Result<Self, AllocError> {
-        let mut arriving = HashSet::new(alloc);
+        let Losses { list, mut fates } = losses;
         for event in events {
-            if let Event::Deliver(number) = event {
-                arriving.insert(*number)?;
-            }
+            fates.expect(event)?;
         }
         Ok(Drawing {
-            rows: Rows::new(alloc, part),
-            arriving,
-            losses,
+            rows: Rows::new(alloc, plan, part, fates),
+            losses: list,
+            drawn: 0,
         })
+    }
+
+    /// Draws the losses that come after `place` events.
+    fn draw_losses<C: Exclusion>(
+        &mut self,
+        place: u64,
+        cluster: &Cluster<C>,
+    ) -> Result<(), AllocError>
+    where
+        C::Msg: Letter,
+    {
+        let mut lost = Vec::new(self.rows.sheet.alloc);
+        for index in self.drawn..self.losses.len() {
+            match self.losses.get(index) {
+                Some(loss) if loss.place <= place => lost.push(loss.number)?,
+                _ => break,
+            }
+        }
+        self.drawn = self.drawn.saturating_add(lost.len());
+        self.rows.draw_lost(cluster, lost.as_slice(), place)
     }
 }
 
-impl<C: Exclusion> Sink<Cluster<C>> for Drawing
+impl<C: Exclusion> Sink<Cluster<C>> for Drawing<'_>
 where
     C::Msg: Letter,
 {
@@ -55,93 +69,38 @@ where
 
     fn event(
         &mut self,
-        _alloc: Global,
-        plan: &Plan,
+        alloc: Global,
+        _plan: &Plan,
         index: u64,
         before: u64,
         cluster: &Cluster<C>,
         _text: &mut String,
     ) -> Result<(), AllocError> {
-        draw_losses(plan, index, cluster, self)?;
-        draw_row(plan, index, before, cluster, self)
+        self.draw_losses(index, cluster)?;
+        let entry = newest(cluster.trace());
+        let delivered = match &entry.event {
+            Event::Deliver(number) => cluster.find(*number),
+            _ => None,
+        };
+        let step = Step {
+            index,
+            entry,
+            delivered,
+            sent: find_all(alloc, cluster, before, cluster.sent())?,
+        };
+        self.rows.draw(cluster, &step)
     }
 
     /// Ends the picture. Returns status 0.
     fn end(
         &mut self,
         _alloc: Global,
-        plan: &Plan,
+        _plan: &Plan,
         cluster: &Cluster<C>,
         _text: &mut String,
     ) -> Result<u8, AllocError> {
-        draw_losses(plan, u64::MAX, cluster, self)?;
+        self.draw_losses(cluster.trace().len() as u64, cluster)?;
         self.rows.end()?;
         Ok(0)
-    }
-}
-
-fn draw_row<C: Exclusion>(
-    plan: &Plan,
-    index: u64,
-    before: u64,
-    cluster: &Cluster<C>,
-    drawing: &mut Drawing,
-) -> Result<(), AllocError>
-where
-    C::Msg: Letter,
-    requires { 0 < length cluster.now.trace }
-{
-    let entry = newest(cluster.trace());
-    if !is_shown(index, before, entry, cluster, drawing) {
-        drawing.rows.omit(index, entry)?;
-        pass_over(plan, &entry.event, cluster, drawing)?;
-        return draw_sent(plan, cluster, before, &entry.event, false, drawing);
-    }
-    drawing.rows.begin(index)?;
-    draw_event(plan, before, entry, cluster, drawing)?;
-    draw_sent(plan, cluster, before, &entry.event, true, drawing)?;
-    drawing.rows.sheet.next_row()
-}
-
-fn draw_event<C: Exclusion>(
-    plan: &Plan,
-    before: u64,
-    entry: &Entry,
-    cluster: &Cluster<C>,
-    drawing: &mut Drawing,
-) -> Result<(), AllocError>
-where
-    C::Msg: Letter,
-{
-    match &entry.event {
-        Event::Deliver(number) => match cluster.sent_parcel(*number) {
-            Some(sent) => draw_arrival(plan, *number, *number, &sent, &mut drawing.rows),
-            None => Ok(()),
-        },
-        event => {
-            let node = event.node().unwrap_or_default();
-            let side = side_of_act(cluster, node, before);
-            drawing.rows.write_act(plan, entry)?;
-            drawing.rows.draw_act(node, side, &entry.outcome)
-        }
-    }
-}
-
-/// Returns the left if the event sent parcels, from `before` on, and all go to the right, so that no
-/// arrow runs under its text.
-fn side_of_act<C: Exclusion>(cluster: &Cluster<C>, node: NodeId, before: u64) -> Side {
-    let mut to_left = false;
-    let mut to_right = false;
-    for (_, sent) in cluster.parcels_from(before) {
-        if sent.to.get() > node.get() {
-            to_right = true;
-        } else {
-            to_left = true;
-        }
-    }
-    if to_right && !to_left {
-        Side::Left
-    } else {
-        Side::Right
     }
 }

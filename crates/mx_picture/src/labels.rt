@@ -2,15 +2,72 @@
 //! else none of other nodes.
 
 use crate::columns::Columns;
-use crate::crossing::Crossing;
-use crate::open_arrows::OpenArrows;
+use crate::open_arrows::{Crossing, OpenArrows};
 use crate::segment::{Rect, SHIFT, Segment};
-use crate::side::{Side, Tone};
+use crate::sheet::Sheet;
 use mx_stamps::NodeId;
-use std::alloc::{AllocError, Global};
+use std::alloc::AllocError;
 
 /// Half the height of a text's characters, in pixels.
 const HALF_HIGH: u64 = 5;
+
+/// The place of a text: to the left or right of its node.
+#[derive(Clone, Copy, PartialEq)]
+pub(crate) enum Side {
+    Left,
+    Right,
+}
+
+impl Side {
+    pub(crate) fn other(self) -> Side {
+        match self {
+            Side::Left => Side::Right,
+            Side::Right => Side::Left,
+        }
+    }
+
+    /// Returns the sign of distances to this side.
+    pub(crate) fn sign(self) -> &'static str {
+        match self {
+            Side::Left => "-",
+            Side::Right => "",
+        }
+    }
+}
+
+/// What a text is about, which decides how it is written and how far from its node.
+#[derive(Clone, Copy)]
+pub(crate) enum Tone {
+    /// An event of the node.
+    Event,
+    /// What is in the air: parcels that no event delivers, beside their marks, or an event of a
+    /// node that is not known.
+    Air,
+    /// Why an event breaks a rule.
+    Reason,
+}
+
+impl Tone {
+    /// Returns the distance between the text and its node, in pixels.
+    fn gap(self) -> u64 {
+        match self {
+            Tone::Event | Tone::Reason => 17,
+            Tone::Air => 33,
+        }
+    }
+
+    /// Returns the class of a text on a side, and its distance from the node.
+    fn attributes(self, side: Side) -> &'static str {
+        match (self, side) {
+            (Tone::Event, Side::Left) => " class=\"left\" dx=\"-17\"",
+            (Tone::Event, Side::Right) => " dx=\"17\"",
+            (Tone::Air, Side::Left) => " class=\"air left\" dx=\"-33\"",
+            (Tone::Air, Side::Right) => " class=\"air\" dx=\"33\"",
+            (Tone::Reason, Side::Left) => " class=\"reason left\" dx=\"-17\"",
+            (Tone::Reason, Side::Right) => " class=\"reason\" dx=\"17\"",
+        }
+    }
+}
 
 /// A text beside a node, at the height `y`, `width` pixels wide, with the side that it prefers.
 #[derive(Drop)]
@@ -33,38 +90,25 @@ impl Label {
         let node = x.saturating_add(SHIFT);
         let near = self.tone.gap();
         let far = self.reach();
-        let (left, right) = if side.is_left() {
-            (node.saturating_sub(far), node.saturating_sub(near))
-        } else {
-            (node.saturating_add(near), node.saturating_add(far))
+        let (left, right) = match side {
+            Side::Left => (node.saturating_sub(far), node.saturating_sub(near)),
+            Side::Right => (node.saturating_add(near), node.saturating_add(far)),
         };
         Rect {
             left,
             right,
-            top: self.top(),
-            bottom: self.bottom(),
+            top: self.y.saturating_sub(HALF_HIGH),
+            bottom: self.y.saturating_add(HALF_HIGH),
         }
     }
 
-    fn top(&self) -> u64 {
-        self.y.saturating_sub(HALF_HIGH)
-    }
-
-    fn bottom(&self) -> u64 {
-        self.y.saturating_add(HALF_HIGH)
-    }
-
-    fn crossing(&self, x: u64, arrows: &OpenArrows, side: Side) -> Crossing {
-        arrows.crossing(self.node, &self.rect(x, side))
-    }
-
+    /// Returns the better side of the text, once the arrows beside it are open.
     fn better_side(&self, x: u64, arrows: &OpenArrows) -> Side {
-        let here = self.crossing(x, arrows, self.side);
-        if let Crossing::Clear = here {
-            return self.side;
-        }
+        let here = arrows.crossing(self.node, &self.rect(x, self.side));
         let other = self.side.other();
-        if here.is_worse_than(self.crossing(x, arrows, other)) {
+        if here.is_worse_than(Crossing::Clear)
+            && here.is_worse_than(arrows.crossing(self.node, &self.rect(x, other)))
+        {
             other
         } else {
             self.side
@@ -72,63 +116,59 @@ impl Label {
     }
 }
 
-/// How far texts extend to the left and to the right of the first node's line, in pixels, without
-/// the gaps between texts and nodes.
-#[derive(Clone, Copy)]
-pub(crate) struct Extent {
+/// Texts as SVG, and how far they extend to the left and to the right of the first node's line, in
+/// pixels, without the gaps between texts and nodes.
+#[derive(Drop)]
+pub(crate) struct Texts {
+    pub(crate) svg: String,
     pub(crate) left: u64,
     pub(crate) right: u64,
 }
 
-impl Extent {
-    fn with(self, label: &Label, x: u64, side: Side) -> Extent {
-        if side.is_left() {
-            let left = self.left.max(label.width.saturating_sub(x));
-            Extent { left, ..self }
-        } else {
-            let right = self.right.max(label.width.saturating_add(x));
-            Extent { right, ..self }
+impl Sheet {
+    /// Returns the texts beside nodes, each on its side.
+    pub(crate) fn texts(&self, columns: &Columns) -> Result<Texts, AllocError> {
+        let mut sides = self.sides(columns)?;
+        let mut texts = Texts {
+            svg: String::new(self.alloc),
+            left: 0,
+            right: 0,
+        };
+        for label in &self.labels {
+            let x = columns.x_of(label.node);
+            let side = sides.pop().unwrap_or(label.side);
+            match side {
+                Side::Left => texts.left = texts.left.max(label.width.saturating_sub(x)),
+                Side::Right => texts.right = texts.right.max(label.width.saturating_add(x)),
+            }
+            let attributes = label.tone.attributes(side);
+            let (y, shown) = (label.y, label.text.as_str());
+            write!(
+                texts.svg,
+                "<text{attributes} x=\"{x}\" y=\"{y}\" dy=\"4\">{shown}</text>\n"
+            )?;
         }
+        Ok(texts)
     }
-}
 
-/// Returns the side of each text, the last first. The arrows are in the order of their ends.
-fn sides_of(
-    alloc: Global,
-    labels: &[Label],
-    segments: Vec<Segment>,
-    columns: &Columns,
-) -> Result<Vec<Side>, AllocError> {
-    let mut sides = Vec::new(alloc);
-    let mut arrows = OpenArrows::new(alloc, segments);
-    for label in labels.iter().rev() {
-        arrows.rise(label.top(), label.bottom())?;
-        sides.push(label.better_side(columns.x_of(label.node), &arrows))?;
+    /// Returns the side of each text, the last first.
+    fn sides(&self, columns: &Columns) -> Result<Vec<Side>, AllocError> {
+        let mut arrows = OpenArrows::new(self.alloc, self.segments(columns)?);
+        let mut sides = Vec::new(self.alloc);
+        for label in self.labels.iter().rev() {
+            let x = columns.x_of(label.node);
+            arrows.rise(&label.rect(x, label.side))?;
+            sides.push(label.better_side(x, &arrows))?;
+        }
+        Ok(sides)
     }
-    Ok(sides)
-}
 
-/// Appends the texts, each on its side, as SVG. Returns how far they extend.
-pub(crate) fn add_labels(
-    alloc: Global,
-    labels: &[Label],
-    segments: Vec<Segment>,
-    columns: &Columns,
-    text: &mut String,
-) -> Result<Extent, AllocError> {
-    let mut sides = sides_of(alloc, labels, segments, columns)?;
-    let mut extent = Extent { left: 0, right: 0 };
-    for label in labels {
-        let x = columns.x_of(label.node);
-        let side = sides.pop().unwrap_or(label.side);
-        extent = extent.with(label, x, side);
-        let attributes = label.tone.attributes(side);
-        let y = label.y;
-        let shown = label.text.as_str();
-        write!(
-            text,
-            "<text{attributes} x=\"{x}\" y=\"{y}\" dy=\"4\">{shown}</text>\n"
-        )?;
+    /// Returns the lines of the arrows that are not pieces, in the order of their ends.
+    fn segments(&self, columns: &Columns) -> Result<Vec<Segment>, AllocError> {
+        let mut segments = Vec::new(self.alloc);
+        for arrow in &self.arrows {
+            segments.push(arrow.segment(columns))?;
+        }
+        Ok(segments)
     }
-    Ok(extent)
 }

@@ -23,7 +23,7 @@ pub(crate) struct Legend {
 
 /// The legend of a run. The arrows of parcels also differ in width and tip, so that they can be
 /// distinguished without colours.
-pub(crate) static RUN_LEGEND: Legend = Legend {
+pub(crate) static RUN: Legend = Legend {
     styles: ".request{stroke:#0072b2}.grant{stroke:#009e73;stroke-width:2.4px}.other{stroke:#cc79a7}
 .again{stroke-dasharray:6 4}.overtaken{stroke:#d55e00;stroke-width:1.8px}.pending{stroke:#555}
 .air{font-style:italic}.left{text-anchor:end}
@@ -46,8 +46,15 @@ pub(crate) static RUN_LEGEND: Legend = Legend {
 ",
 };
 
+/// What some legends have beside that of a run: nothing.
+pub(crate) static NOTHING: Legend = Legend {
+    styles: "",
+    width: 0,
+    svg: "",
+};
+
 /// What the legend of a trace with messages has beside that of a run, at its right.
-pub(crate) static MARKS_LEGEND: Legend = Legend {
+pub(crate) static MARKS: Legend = Legend {
     styles: ".broken{fill:#d55e00;stroke:#000;stroke-width:1.2px}.reason{fill:#a04000}\n",
     width: 1030,
     svg: "<circle class=\"refused\" cx=\"836\" cy=\"18\" r=\"2.5\"/><text x=\"846\" y=\"22\">refused</text>
@@ -56,7 +63,7 @@ pub(crate) static MARKS_LEGEND: Legend = Legend {
 };
 
 /// What the legend of a script that loses parcels has beside that of a run, at its right.
-pub(crate) static LOSSES_LEGEND: Legend = Legend {
+pub(crate) static LOSSES: Legend = Legend {
     styles: ".lost{stroke:#d55e00;stroke-dasharray:3 3}.cross{stroke-width:1.8px;stroke-dasharray:none}\n",
     width: 902,
     svg: "<g class=\"lost\"><path d=\"M836 12l26 13\"/><path class=\"cross\" d=\"M836 12m26 13m-3-3l6 6m0-6l-6 6\"/></g><text x=\"872\" y=\"22\">lost</text>
@@ -64,7 +71,7 @@ pub(crate) static LOSSES_LEGEND: Legend = Legend {
 };
 
 /// The legend of a trace without messages.
-pub(crate) static TRACE_LEGEND: Legend = Legend {
+pub(crate) static TRACE: Legend = Legend {
     styles: ".broken{fill:#d55e00;stroke:#000;stroke-width:1.2px}.reason{fill:#a04000}
 .air{font-style:italic}.left{text-anchor:end}
 </style>

@@ -1,11 +1,12 @@
 //! What `--letters` draws: the letters of the algorithm, each once, and the phases of nodes.
 
 ghost use Rattle.std.specs.Prelude.{◌≡◌};
-ghost use Rattle.mx_picture.specs.LettersOnly.{changes_phase, is_drawn, is_first_delivery, is_letter, is_original};
+ghost use Rattle.mx_picture.specs.LettersOnly.{changes_phase, is_drawn, is_letter, is_original};
 
 use crate::sheet::Flight;
+use mx_events::Event;
 use mx_member::Parcel;
-use mx_network::{Event, Outcome};
+use mx_trace::Outcome;
 
 pub(crate) fn is_letter<M>(parcel: &Parcel<M>) -> bool
     ensures { result ≡ is_letter parcel.now }
@@ -16,20 +17,21 @@ pub(crate) fn is_letter<M>(parcel: &Parcel<M>) -> bool
     }
 }
 
-pub(crate) fn is_original<M>(event: &Event, parcel: &Parcel<M>) -> bool
-    ensures { result ≡ is_original event.now parcel.now }
+/// Returns whether a parcel that an event sends is a letter, and not one that a tick sends again.
+pub(crate) fn is_original(event: &Event, is_letter: bool) -> bool
+    ensures { result ≡ is_original event.now is_letter }
 {
-    match event {
-        Event::Tick(_) => false,
-        _ => is_letter(parcel),
-    }
+    is_letter && !matches!(event, Event::Tick(_))
 }
 
 pub(crate) fn is_drawn(event: &Event, outcome: &Outcome, flights: &[Flight]) -> bool
     ensures { result ≡ is_drawn event.now outcome.now flights.now }
 {
     match event {
-        Event::Deliver(number) => is_first_delivery(*number, flights),
+        Event::Deliver(number) => match flights.get(*number as usize) {
+            Some(flight) => flight.is_original && !flight.is_delivered,
+            None => false,
+        },
         _ => changes_phase(outcome),
     }
 }
@@ -40,14 +42,5 @@ fn changes_phase(outcome: &Outcome) -> bool
     match outcome {
         Outcome::Asked(_) | Outcome::Entered(_) | Outcome::Left(_) | Outcome::Cancelled => true,
         _ => false,
-    }
-}
-
-fn is_first_delivery(number: u64, flights: &[Flight]) -> bool
-    ensures { result ≡ is_first_delivery number flights.now }
-{
-    match flights.get(number as usize) {
-        Some(flight) => flight.is_original && !flight.is_delivered,
-        None => false,
     }
 }

@@ -1,13 +1,42 @@
 //! The arrows beside a text. Texts are visited from the bottom of the picture up, so that only the
 //! arrows that are open in a row have to be kept.
 
-use crate::crossing::Crossing;
+ghost use Rattle.std.specs.Prelude.{◌≡◌, nat_lt};
+ghost use Rattle.mx_picture.specs.Crossings.{rank_of};
+
 use crate::segment::{Rect, Segment};
 use mx_stamps::NodeId;
 use std::alloc::{AllocError, Global};
 
 /// The greatest number of arrows that are looked at for one place of a text: those that end first.
 const MAX_OPEN: usize = 1000;
+
+/// The arrows that run through the place of a text: none, only those from or to its node, or also
+/// others.
+#[derive(Clone, Copy)]
+pub(crate) enum Crossing {
+    Clear,
+    Own,
+    Foreign,
+}
+
+impl Crossing {
+    fn rank(self) -> u8
+        ensures { result ≡ rank_of self }
+    {
+        match self {
+            Crossing::Clear => 0,
+            Crossing::Own => 1,
+            Crossing::Foreign => 2,
+        }
+    }
+
+    pub(crate) fn is_worse_than(self, other: Crossing) -> bool
+        ensures { result ≡ nat_lt (rank_of other) (rank_of self) }
+    {
+        other.rank() < self.rank()
+    }
+}
 
 /// The arrows that end above a height, and those that are open there: they end below it, and begin
 /// above it.
@@ -17,7 +46,8 @@ pub(crate) struct OpenArrows {
     above: Vec<Segment>,
     /// The arrows that are open, and some that begin below.
     open: Vec<Segment>,
-    /// `open` may have this many arrows before those that begin below are removed.
+    /// `open` may have this many arrows before those that begin below are removed: they may be half
+    /// of all.
     room: usize,
 }
 
@@ -31,25 +61,22 @@ impl OpenArrows {
         }
     }
 
-    /// Goes up to a text from the height `top` to `bottom`.
-    pub(crate) fn rise(&mut self, top: u64, bottom: u64) -> Result<(), AllocError> {
+    /// Goes up to a text in this rectangle.
+    pub(crate) fn rise(&mut self, rect: &Rect) -> Result<(), AllocError> {
         let below = self.above.iter().rev();
-        let opened = below.take_while(|segment| segment.ends_from(top)).count();
+        let opened = below
+            .take_while(|segment| segment.bottom >= rect.top)
+            .count();
         for _ in 0..opened {
             if let Some(segment) = self.above.pop() {
                 self.open.push(segment)?;
             }
         }
-        self.remove_closed(bottom);
-        Ok(())
-    }
-
-    /// Removes the arrows that begin below, if they may be half of all.
-    fn remove_closed(&mut self, y: u64) {
         if self.open.len() > self.room {
-            self.open.retain(|segment| segment.begins_by(y));
+            self.open.retain(|segment| segment.top <= rect.bottom);
             self.room = self.open.len().saturating_mul(2);
         }
+        Ok(())
     }
 
     /// Returns which arrows run through this place of a text of the node.
@@ -57,7 +84,7 @@ impl OpenArrows {
         let mut crossing = Crossing::Clear;
         for segment in self.open.iter().rev().take(MAX_OPEN) {
             if segment.crosses(rect) {
-                if !segment.is_of(node) {
+                if !segment.nodes.contains(&node) {
                     return Crossing::Foreign;
                 }
                 crossing = Crossing::Own;

@@ -1,11 +1,11 @@
 //! The first two lines of a picture: its size, and its title.
 
-ghost use Rattle.std.specs.Prelude.{◌≡◌, ◌<◌, ◌++◌, IfOk, OnOk, Some, string_bytes};
-ghost use Rattle.mx_picture.specs.Drawn.{algorithm_name, name_text, names_text, opening_line, title_end, title_line, title_start, trace_title};
+ghost use Rattle.std.specs.Prelude.{◌≡◌, ◌++◌, IfOk, OnOk, Some, string_bytes};
+ghost use Rattle.mx_picture.specs.Drawn.{algorithm_name, names_text, opening_line, title_end, title_line, title_start, title_text, trace_title};
 
+use mx_explorer::Verdict;
 use mx_format::name_of;
 use mx_plan::{Plan, Shape};
-use mx_stamps::{MAX_NODES, NodeId};
 use std::alloc::{AllocError, Global};
 use std::fmt;
 
@@ -33,9 +33,26 @@ impl fmt::Display for Frame {
     }
 }
 
-/// Returns the title of a run of this many events. Names need no escapes: a plan allows no character
-/// in them that XML escapes.
-pub(crate) fn title_of(alloc: Global, plan: &Plan, events: u64) -> Result<String, AllocError>
+/// What the title of a picture says, after the nodes.
+#[derive(Clone, Copy)]
+pub(crate) enum Title<'a> {
+    /// How many events a run has.
+    Run(u64),
+    /// What `judge` prints of a trace, and the verdict.
+    Trace(&'a str, Verdict),
+}
+
+/// Returns the title. Names need no escapes: a plan allows no character in them that XML escapes.
+pub(crate) fn title_of(alloc: Global, plan: &Plan, title: &Title<'_>) -> Result<String, AllocError>
+    ensures { IfOk result (λ text. string_bytes text ≡ title_text plan.now title.now) }
+{
+    match title {
+        Title::Run(events) => run_title(alloc, plan, *events),
+        Title::Trace(judgement, _) => trace_title(alloc, plan, judgement),
+    }
+}
+
+fn run_title(alloc: Global, plan: &Plan, events: u64) -> Result<String, AllocError>
     ensures { IfOk result (λ title. string_bytes title ≡ title_line plan.now events) }
 {
     let mut text = String::new(alloc);
@@ -52,8 +69,7 @@ fn add_title(plan: &Plan, events: u64, text: &mut String) -> Result<(), AllocErr
     text.write(TitleEnd(events))
 }
 
-/// Returns the title of a trace: the nodes, and the lines that `judge` prints of the trace.
-pub(crate) fn trace_title(alloc: Global, plan: &Plan, judgement: &str) -> Result<String, AllocError>
+fn trace_title(alloc: Global, plan: &Plan, judgement: &str) -> Result<String, AllocError>
     ensures { IfOk result (λ title. string_bytes title ≡ trace_title plan.now judgement.now) }
 {
     let mut text = String::new(alloc);
@@ -100,16 +116,9 @@ pub(crate) fn algorithm_of(plan: &Plan) -> &'static str
 fn add_names(plan: &Plan, text: &mut String) -> Result<(), AllocError>
     ensures { OnOk result (string_bytes text.new ≡ string_bytes text.old ++ names_text plan.now) }
 {
-    for i in 0..plan.nodes() {
-        add_name(plan, i, text)?;
+    for node in plan.node_ids() {
+        text.push_str(" ")?;
+        text.push_str(name_of(plan, node))?;
     }
     Ok(())
-}
-
-fn add_name(plan: &Plan, i: u8, text: &mut String) -> Result<(), AllocError>
-    requires { i < MAX_NODES }
-    ensures { OnOk result (string_bytes text.new ≡ string_bytes text.old ++ name_text plan.now i) }
-{
-    text.push_str(" ")?;
-    text.push_str(name_of(plan, NodeId::of(i).unwrap()))
 }

@@ -1,21 +1,21 @@
 //! The whole picture: its size, its nodes, and all that was drawn.
 
 ghost use Rattle.std.specs.Prelude.{string_bytes, IfOk};
-ghost use Rattle.mx_picture.specs.Drawn.{IsPage, IsPicture};
+ghost use Rattle.mx_picture.specs.Drawn.{IsPage, title_text};
 
-use crate::columns::{Columns, Lanes};
-use crate::labels::Extent;
-use crate::legend::{LOSSES_LEGEND, Legend, RUN_LEGEND, STYLES};
-use crate::opening::{Frame, algorithm_of, title_of};
-use crate::part::Part;
-use crate::segment::y_of;
-use crate::shapes::Shapes;
+use crate::arrows::End;
+use crate::columns::Columns;
+use crate::labels::Texts;
+use crate::legend::{LOSSES, Legend, MARKS, NOTHING, RUN, STYLES, TRACE};
+use crate::opening::{Frame, Title, algorithm_of, title_of};
+use crate::rows::Rows;
 use crate::sheet::Sheet;
 use crate::text::width_of;
+use mx_explorer::Verdict;
 use mx_format::name_of;
+use mx_judge::clause_word;
 use mx_plan::Plan;
-use mx_stamps::{MAX_NODES, NodeId};
-use std::alloc::{AllocError, Global};
+use std::alloc::AllocError;
 
 /// The height above the first row, in pixels: the heading, the legend and the names of the nodes.
 const HEAD: u64 = 86;
@@ -40,40 +40,92 @@ const MARGIN: u64 = 40;
 /// The distance of the heading from the edge, in pixels.
 const INDENT: u64 = 16;
 
-/// What stands above the rows of a picture: its heading and its legend.
-#[derive(Clone, Copy)]
-pub(crate) struct Head<'a> {
-    pub(crate) heading: &'a str,
-    pub(crate) legend: &'a Legend,
-    /// What the legend has at its right, if it has more.
-    pub(crate) more: Option<&'a Legend>,
+/// The number of bytes that the SVG of a row takes, roughly.
+const ROW_BYTES: usize = 400;
+
+/// All of a picture below its title, and its frame.
+#[derive(Drop)]
+struct Body {
+    frame: Frame,
+    svg: String,
 }
 
-impl Head<'_> {
-    /// Returns the width that the head wants, in pixels.
-    fn width(&self) -> u64 {
-        let legend = self.more.unwrap_or(self.legend);
-        legend.width.max(heading_width(self.heading))
+/// Returns the page with this title, which has its lines from the second on, and these rows.
+pub(crate) fn page_of(plan: &Plan, title: &Title<'_>, rows: &Rows<'_>) -> Result<String, AllocError>
+    ensures { IfOk result (λ page. IsPage (title_text plan.now title.now) (string_bytes page)) }
+{
+    let alloc = rows.sheet.alloc;
+    let second = title_of(alloc, plan, title)?;
+    let body = body_of(rows, title)?;
+    let mut text = String::new(alloc);
+    text.write(body.frame)?;
+    text.push_str(second.as_str())?;
+    text.push_str(body.svg.as_str())?;
+    text.push_str("</svg>\n")?;
+    Ok(text)
+}
+
+fn body_of(rows: &Rows<'_>, title: &Title<'_>) -> Result<Body, AllocError> {
+    let sheet = &rows.sheet;
+    let heading = heading_of(rows, title)?;
+    let (legend, more) = legends_of(sheet, title);
+    let columns = columns_of(rows);
+    let texts = sheet.texts(&columns)?;
+    let width = heading_width(heading.as_str()).max(legend.width);
+    let frame = frame_of(&columns, &texts, width.max(more.width), sheet.y);
+    let mut svg = String::new(sheet.alloc);
+    // so that it need not grow step by step
+    svg.reserve(sheet.labels.len().saturating_mul(ROW_BYTES))?;
+    add_head(sheet, &frame, heading.as_str(), legend, more, &mut svg)?;
+    add_indices(sheet, &frame, &mut svg)?;
+    add_nodes(rows, &columns, &mut svg)?;
+    sheet.add_lines(rows.plan, &columns, &mut svg)?;
+    sheet.add_marks(&columns, &mut svg)?;
+    svg.push_str(texts.svg.as_str())?;
+    Ok(Body { frame, svg })
+}
+
+/// Returns the positions of the nodes' lines. In a part of a run, only nodes that act or receive get
+/// a line, or all if there are none.
+fn columns_of(rows: &Rows<'_>) -> Columns {
+    let part = &rows.part;
+    let sheet = &rows.sheet;
+    let is_whole = part.from == 0 && part.to == u64::MAX && part.node.is_none();
+    let mut lanes = sheet.lanes;
+    if is_whole || !lanes.contains(&true) {
+        for node in rows.plan.node_ids() {
+            lanes[usize::from(node.get())] = true;
+        }
+    }
+    Columns::new(rows.plan, &lanes, sheet.labels.as_slice())
+}
+
+/// Returns the legend of a picture, and what it has at its right. A trace with messages has the
+/// legend of a run.
+fn legends_of(sheet: &Sheet, title: &Title<'_>) -> (&'static Legend, &'static Legend) {
+    match title {
+        Title::Trace(_, _) if sheet.flights.is_empty() => (&TRACE, &NOTHING),
+        Title::Trace(_, _) => (&RUN, &MARKS),
+        Title::Run(_) => {
+            let mut arrows = sheet.arrows.iter();
+            let has_losses = arrows.any(|arrow| matches!(arrow.end, End::Loss { .. }));
+            (&RUN, if has_losses { &LOSSES } else { &NOTHING })
+        }
     }
 }
 
-/// Returns the frame with room for these columns, for texts of this extent, and for this head. All
-/// lines end `bottom` pixels below the first row.
-fn frame_of(columns: &Columns, extent: Extent, head: &Head<'_>, bottom: u64) -> Frame {
-    let left = extent
-        .left
-        .saturating_add(MARGIN)
-        .max(NAME)
-        .saturating_add(INDICES);
-    let right = extent
-        .right
-        .saturating_add(MARGIN)
-        .max(columns.last.saturating_add(NAME))
-        .saturating_add(INDICES);
+/// Returns the frame with room for these columns and texts, and for a head of this width. All lines
+/// end `bottom` pixels below the first row.
+fn frame_of(columns: &Columns, texts: &Texts, width: u64, bottom: u64) -> Frame {
+    let left = texts.left.saturating_add(MARGIN).max(NAME);
+    let left = left.saturating_add(INDICES);
+    let names = columns.last.saturating_add(NAME);
+    let right = texts.right.saturating_add(MARGIN).max(names);
+    let right = right.saturating_add(INDICES);
     Frame {
         left,
         top: HEAD,
-        width: left.saturating_add(right).max(head.width()),
+        width: left.saturating_add(right).max(width),
         height: bottom.saturating_add(HEAD + FOOT),
     }
 }
@@ -84,107 +136,32 @@ fn heading_width(heading: &str) -> u64 {
     width_of(heading).saturating_mul(5) / 4 + 2 * INDENT
 }
 
-#[derive(Drop)]
-struct Page<'a> {
-    plan: &'a Plan,
-    shapes: &'a Shapes,
-    columns: Columns,
-    frame: Frame,
-    /// Where the lines of nodes end.
-    bottom: u64,
-}
-
-/// All of a picture below its title, and its frame.
-#[derive(Drop)]
-pub(crate) struct Body {
-    frame: Frame,
-    svg: String,
-}
-
-/// Returns the picture of a run of this many events.
-pub(crate) fn page_of(
-    plan: &Plan,
-    events: u64,
-    part: &Part,
-    sheet: &Sheet,
-) -> Result<String, AllocError>
-    ensures { IfOk result (λ page. IsPicture plan.now events (string_bytes page)) }
-{
-    let title = title_of(sheet.shapes.alloc, plan, events)?;
-    let heading = heading_of(plan, part, sheet)?;
-    let head = Head {
-        heading: heading.as_str(),
-        legend: &RUN_LEGEND,
-        more: sheet.shapes.has_losses.then_some(&LOSSES_LEGEND),
-    };
-    let body = body_of(plan, part, sheet, head)?;
-    whole_page(sheet.shapes.alloc, title.as_str(), &body)
-}
-
-/// Returns the page with this title, which is its second line, or a few lines from the second on.
-pub(crate) fn whole_page(alloc: Global, title: &str, body: &Body) -> Result<String, AllocError>
-    ensures { IfOk result (λ page. IsPage title.now (string_bytes page)) }
-{
-    let mut text = String::new(alloc);
-    text.write(body.frame)?;
-    text.push_str(title)?;
-    text.push_str(body.svg.as_str())?;
-    text.push_str("</svg>\n")?;
-    Ok(text)
-}
-
-pub(crate) fn body_of(
-    plan: &Plan,
-    part: &Part,
-    sheet: &Sheet,
-    head: Head<'_>,
-) -> Result<Body, AllocError> {
-    let shapes = &sheet.shapes;
-    // In a part of a run, only nodes that act or receive get a line, or all if there are none.
-    let lanes = if part.is_whole() || shapes.lanes.len() == 0 {
-        Lanes::new(plan.nodes())
-    } else {
-        shapes.lanes
-    };
-    let columns = Columns::new(plan, &lanes, shapes.labels.as_slice());
-    let texts = shapes.texts(&columns)?;
-    let bottom = y_of(sheet.row);
-    let frame = frame_of(&columns, texts.extent, &head, bottom);
-    let page = Page {
-        plan,
-        shapes,
-        columns,
-        frame,
-        bottom,
-    };
-    let mut svg = String::new(shapes.alloc);
-    svg.reserve(shapes.room())?;
-    add_page(&page, head, texts.svg.as_str(), &mut svg)?;
-    Ok(Body { frame, svg })
-}
-
-/// Returns the algorithm, the number of nodes, the number of sections entered, which part of the
-/// run is shown, and whether that part is empty.
-fn heading_of(plan: &Plan, part: &Part, sheet: &Sheet) -> Result<String, AllocError> {
-    let mut text = String::new(sheet.shapes.alloc);
-    let algorithm = algorithm_of(plan);
-    let nodes = plan.nodes();
-    let entered = sheet.entered;
-    write!(
-        text,
-        "{algorithm} algorithm, nodes: {nodes}, sections entered: {entered}"
-    )?;
-    add_part(plan, part, sheet, &mut text)?;
+/// Returns the algorithm of a run, the number of nodes, the number of sections entered, the verdict
+/// on a trace, which part is shown, and whether that part is empty.
+fn heading_of(rows: &Rows<'_>, title: &Title<'_>) -> Result<String, AllocError> {
+    let sheet = &rows.sheet;
+    let mut text = String::new(sheet.alloc);
+    match title {
+        Title::Run(_) => write!(text, "{} algorithm", algorithm_of(rows.plan))?,
+        Title::Trace(_, _) => text.push_str("Trace")?,
+    }
+    let (nodes, entered) = (rows.plan.nodes(), sheet.entered);
+    write!(text, ", nodes: {nodes}, sections entered: {entered}")?;
+    match title {
+        Title::Run(_) => (),
+        Title::Trace(_, Verdict::Sound) => text.push_str(", verdict sound")?,
+        Title::Trace(_, Verdict::Broken(index, clause)) => {
+            let word = clause_word(*clause);
+            write!(text, ", verdict broken at {index}: {word}")?
+        }
+    }
+    add_part(rows, &mut text)?;
     Ok(text)
 }
 
 /// Appends to a heading which part is shown, and whether it is empty.
-pub(crate) fn add_part(
-    plan: &Plan,
-    part: &Part,
-    sheet: &Sheet,
-    text: &mut String,
-) -> Result<(), AllocError> {
+fn add_part(rows: &Rows<'_>, text: &mut String) -> Result<(), AllocError> {
+    let part = &rows.part;
     if part.from > 0 {
         write!(text, ", from event {}", part.from)?;
     }
@@ -192,94 +169,70 @@ pub(crate) fn add_part(
         write!(text, ", to event {}", part.to)?;
     }
     if let Some(node) = part.node {
-        write!(text, ", node {}", name_of(plan, node))?;
+        write!(text, ", node {}", name_of(rows.plan, node))?;
     }
     if part.only_letters {
         text.push_str(", letters only")?;
     }
-    if sheet.shapes.labels.is_empty() {
+    if rows.sheet.labels.is_empty() {
         text.push_str(", no events")?;
     }
     Ok(())
 }
 
-/// Appends all of a page below its title. `texts` is the SVG of the texts beside nodes.
-fn add_page(
-    page: &Page<'_>,
-    head: Head<'_>,
-    texts: &str,
+/// Appends the description, the styles, the white background, the legend and the heading.
+fn add_head(
+    sheet: &Sheet,
+    frame: &Frame,
+    heading: &str,
+    legend: &Legend,
+    more: &Legend,
     text: &mut String,
 ) -> Result<(), AllocError> {
-    add_head(page, head, text)?;
-    add_guides(page, text)?;
-    add_indices(page, text)?;
-    add_lanes(page, text)?;
-    page.shapes.add_lines(page.plan, &page.columns, text)?;
-    page.shapes.add_marks(&page.columns, text)?;
-    text.push_str(texts)
-}
-
-/// Appends the description, the styles, the white background, the legend and the heading.
-fn add_head(page: &Page<'_>, head: Head<'_>, text: &mut String) -> Result<(), AllocError> {
-    let mut story = page.shapes.story.as_str();
+    let mut story = sheet.story.as_str();
     if story.is_empty() {
         story = " none.";
     }
-    let left = page.frame.left;
-    let width = page.frame.width;
-    let height = page.frame.height;
+    let (left, width, height) = (frame.left, frame.width, frame.height);
     let aside = left.saturating_sub(INDENT);
-    let (styles, svg) = match head.more {
-        Some(more) => (more.styles, more.svg),
-        None => ("", ""),
-    };
     write!(
         text,
-        "<desc>Time runs downward; the text of each event is beside its node. Sections:{story}</desc>\n{STYLES}{styles}{}",
-        head.legend.styles
+        "<desc>Time runs downward; the text of each event is beside its node. Sections:{story}</desc>\n{STYLES}{}{}",
+        more.styles, legend.styles
     )?;
     write!(
         text,
-        "<g transform=\"translate(-{left} -{HEAD})\">\n<path class=\"paper\" d=\"M0 0h{width}v{height}h-{width}z\"/>\n<g transform=\"translate(0 22)\">\n{}{svg}</g>\n</g>\n",
-        head.legend.svg
+        "<g transform=\"translate(-{left} -{HEAD})\">\n<path class=\"paper\" d=\"M0 0h{width}v{height}h-{width}z\"/>\n<g transform=\"translate(0 22)\">\n{}{}</g>\n</g>\n",
+        legend.svg, more.svg
     )?;
     write!(
         text,
-        "<text class=\"heading\" x=\"-{aside}\" y=\"-66\">{}</text>\n",
-        head.heading
+        "<text class=\"heading\" x=\"-{aside}\" y=\"-66\">{heading}</text>\n"
     )
 }
 
-fn add_guides(page: &Page<'_>, text: &mut String) -> Result<(), AllocError> {
-    let left = page.frame.left;
-    let width = page.frame.width;
+/// Appends the guides, and the indices of the events, at the left edge and at the right one.
+fn add_indices(sheet: &Sheet, frame: &Frame, text: &mut String) -> Result<(), AllocError> {
+    let (left, width) = (frame.left, frame.width);
     text.push_str("<path class=\"guide\" d=\"")?;
-    for y in &page.shapes.guides {
+    for y in &sheet.guides {
         write!(text, "M-{left} {y}h{width}")?;
     }
-    text.push_str("\"/>\n")
-}
-
-/// Appends the indices of the events, at the left edge and at the right one.
-fn add_indices(page: &Page<'_>, text: &mut String) -> Result<(), AllocError> {
-    let aside = page.frame.left.saturating_sub(INDEX_END);
-    let across = page.frame.width.saturating_sub(INDICES);
-    let indices = page.shapes.indices.as_str();
+    let aside = left.saturating_sub(INDEX_END);
+    let across = width.saturating_sub(INDICES);
+    let indices = sheet.indices.as_str();
     write!(
         text,
-        "<g id=\"indices\" class=\"index\" transform=\"translate(-{aside})\">\n<text y=\"-18\">event</text>\n{indices}</g>\n<use href=\"#indices\" x=\"{across}\"/>\n"
+        "\"/>\n<g id=\"indices\" class=\"index\" transform=\"translate(-{aside})\">\n<text y=\"-18\">event</text>\n{indices}</g>\n<use href=\"#indices\" x=\"{across}\"/>\n"
     )
 }
 
 /// Appends the line of each node that is shown, with its name above and below.
-fn add_lanes(page: &Page<'_>, text: &mut String) -> Result<(), AllocError> {
-    for index in 0..MAX_NODES {
-        if let Some(node) = NodeId::of(index)
-            && page.columns.lanes.has(node)
-        {
-            let name = name_of(page.plan, node);
-            let x = page.columns.x_of(node);
-            let bottom = page.bottom;
+fn add_nodes(rows: &Rows<'_>, columns: &Columns, text: &mut String) -> Result<(), AllocError> {
+    for node in rows.plan.node_ids() {
+        if let Some(x) = columns.line_of(node) {
+            let name = name_of(rows.plan, node);
+            let bottom = rows.sheet.y;
             write!(
                 text,
                 "<path class=\"node\" d=\"M{x}-12V{bottom}\"/>\n<text class=\"name\" x=\"{x}\" y=\"-18\">{name}</text>\n<text class=\"name\" x=\"{x}\" y=\"{bottom}\" dy=\"20\">{name}</text>\n"

@@ -1,8 +1,9 @@
 ghost use Rattle.std.specs.Prelude.{◌≡◌};
-ghost use Rattle.mx_picture.specs.Falls.{shows_loss};
-ghost use Rattle.mx_picture.specs.Marks.{shows_index, shows_node};
+ghost use Rattle.mx_events.specs.Events.{node_of};
+ghost use Rattle.mx_picture.specs.Marks.{is_shown, shows_event, shows_index, shows_node};
 
-use crate::route::Route;
+use crate::sent::Sent;
+use mx_events::Event;
 use mx_stamps::NodeId;
 
 /// The events from the index `from` to `to`, which is included, of all nodes or of one. Only
@@ -22,15 +23,7 @@ impl Part {
         self.from <= index && index <= self.to
     }
 
-    /// Returns whether a loss, before which this many events happened, does not come after the last
-    /// event of the part.
-    pub(crate) fn has_loss(&self, place: u64) -> bool
-        ensures { result ≡ shows_loss self.now place }
-    {
-        place <= self.to
-    }
-
-    pub(crate) fn has_node(&self, node: NodeId) -> bool
+    fn has_node(&self, node: NodeId) -> bool
         ensures { result ≡ shows_node self.now.node node }
     {
         match self.node {
@@ -39,12 +32,28 @@ impl Part {
         }
     }
 
-    /// Returns whether a parcel of this route is from or to a shown node.
-    pub(crate) fn is_near(&self, route: &Route) -> bool {
-        self.has_node(route.from) || self.has_node(route.to)
+    /// Returns whether a parcel is from or to a shown node, and is a letter if only letters are shown.
+    pub(crate) fn has_parcel(&self, sent: &Sent) -> bool {
+        let is_near = self.has_node(sent.route.from) || self.has_node(sent.route.to);
+        is_near && (!self.only_letters || sent.is_letter)
     }
 
-    pub(crate) fn is_whole(&self) -> bool {
-        self.from == 0 && self.to == u64::MAX && self.node.is_none()
+    /// Returns whether an event is one of the node of the part, if it has one. A delivery is of no
+    /// node that a run or a trace names.
+    fn has_event(&self, event: &Event) -> bool
+        ensures { result ≡ shows_event self.now.node (node_of event.now) }
+    {
+        match event.node() {
+            Some(node) => self.has_node(node),
+            None => self.node.is_none(),
+        }
+    }
+
+    /// Returns whether an event is shown: it has an index of the part, and is one of its node, or
+    /// near: it sends or delivers a parcel from or to that node.
+    pub(crate) fn shows(&self, index: u64, event: &Event, is_near: bool) -> bool
+        ensures { result ≡ is_shown self.now index event.now is_near }
+    {
+        self.has_index(index) && (is_near || self.has_event(event))
     }
 }

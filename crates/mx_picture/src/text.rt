@@ -13,18 +13,13 @@ pub(crate) fn escaped(alloc: Global, raw: &str) -> Result<String, AllocError> {
 }
 
 pub(crate) fn add_escaped(raw: &str, text: &mut String) -> Result<(), AllocError> {
-    if raw.as_bytes().iter().any(|byte| is_special(*byte)) {
-        add_each_escaped(raw, text)
-    } else {
-        text.push_str(raw)
+    if !raw
+        .as_bytes()
+        .iter()
+        .any(|byte| matches!(*byte, b'&' | b'<' | b'>'))
+    {
+        return text.push_str(raw);
     }
-}
-
-fn is_special(byte: u8) -> bool {
-    matches!(byte, b'&' | b'<' | b'>')
-}
-
-fn add_each_escaped(raw: &str, text: &mut String) -> Result<(), AllocError> {
     for character in raw.chars() {
         match character {
             '&' => text.push_str("&amp;")?,

@@ -10,9 +10,10 @@ ghost use Rattle.mx_picture.specs.TracePictures.{IsTraceDrawn, IsTracePictured, 
 
 use crate::command::part_of;
 use crate::marked::marked_by;
+use crate::opening::Title;
+use crate::page::page_of;
 use crate::part::Part;
 use crate::trace_drawing::draw_trace;
-use crate::trace_page::trace_page;
 use mx_cli::{Command, PicturePart, Stop, print};
 use mx_driver::verdict_status;
 use mx_explorer::{Verdict, judge};
@@ -92,6 +93,6 @@ fn picture_of(
 {
     let judgement = judgement_of(alloc, false, plan, word, trace, verdict)?;
     let marked = marked_by(alloc, plan, word, trace, verdict)?;
-    let rows = draw_trace(alloc, plan, part, trace, &marked)?;
-    trace_page(plan, judgement.as_str(), verdict, part, &rows.sheet)
+    let rows = draw_trace(alloc, plan, part, trace, marked)?;
+    page_of(plan, &Title::Trace(judgement.as_str(), verdict), &rows)
 }

@@ -1,122 +1,81 @@
-//! Draws a trace: each event shown gets a row, with its messages.
+//! Draws a trace: each event, with its messages.
 
-ghost use Rattle.std.specs.Prelude.{◌≡◌};
-ghost use Rattle.mx_events.specs.Events.{node_of};
-ghost use Rattle.mx_picture.specs.Marks.{is_shown, shows_event};
-
+use crate::fates::Fates;
 use crate::marked::Marked;
-use crate::messages::Mail;
 use crate::part::Part;
-use crate::rows::Rows;
-use crate::side::Side;
+use crate::rows::{Rows, Step};
+use crate::sent::{Sent, Source, find_all};
 use mx_events::Event;
-use mx_format::EventText;
 use mx_judge::Trace;
 use mx_plan::Plan;
-use mx_trace::{Entry, Outcome};
 use std::alloc::{AllocError, Global};
+use std::collections::HashMap;
 
-pub(crate) fn draw_trace(
+pub(crate) fn draw_trace<'a>(
     alloc: Global,
-    plan: &Plan,
+    plan: &'a Plan,
     part: &Part,
     trace: &Trace,
-    marked: &Option<Marked>,
-) -> Result<Rows, AllocError> {
-    let mut rows = Rows::new(alloc, part);
-    let mut mail = Mail::new(alloc, trace)?;
+    marked: Option<Marked>,
+) -> Result<Rows<'a>, AllocError> {
+    let mut rows = Rows::new(alloc, plan, part, fates_of(alloc, trace)?);
+    rows.is_trace = true;
+    rows.marked = marked;
+    let mut mail = Mail {
+        trace,
+        sent: 0,
+        flights: HashMap::new(alloc),
+    };
     for (index, entry) in trace.entries.iter().enumerate() {
-        draw_entry(plan, index, entry, marked, &mut mail, &mut rows)?;
+        let delivered = mail.delivered(&entry.event);
+        let before = mail.sent;
+        mail.send(index)?;
+        let step = Step {
+            index: index as u64,
+            entry,
+            delivered,
+            sent: find_all(alloc, trace, before, mail.sent)?,
+        };
+        rows.draw(trace, &step)?;
     }
     rows.end()?;
     Ok(rows)
 }
 
-fn draw_entry(
-    plan: &Plan,
-    index: usize,
-    entry: &Entry,
-    marked: &Option<Marked>,
-    mail: &mut Mail<'_>,
-    rows: &mut Rows,
-) -> Result<(), AllocError> {
-    let is_near = mail.is_near(index, &entry.event, &rows.part);
-    if !is_shown(&rows.part, index as u64, &entry.event, is_near) {
-        rows.omit(index as u64, entry)?;
-        mail.deliver(plan, &entry.event, false, rows)?;
-        return mail.draw_sent(plan, index, false, rows);
+/// Returns what becomes of the messages.
+fn fates_of(alloc: Global, trace: &Trace) -> Result<Fates, AllocError> {
+    let mut fates = Fates::new(alloc);
+    for entry in &trace.entries {
+        fates.expect(&entry.event)?;
     }
-    rows.begin(index as u64)?;
-    draw_written(plan, index, entry, mail, rows)?;
-    if let Some(marked) = marked {
-        draw_mark(index as u64, &entry.event, marked, rows)?;
-    }
-    mail.draw_sent(plan, index, true, rows)?;
-    rows.sheet.next_row()
+    Ok(fates)
 }
 
-/// Returns whether an event is shown: it has an index of the part, and is one of its node, or near:
-/// it sends or delivers a message from or to that node.
-fn is_shown(part: &Part, index: u64, event: &Event, is_near: bool) -> bool
-    ensures { result ≡ is_shown part.now index event.now is_near }
-{
-    part.has_index(index) && (is_near || shows_event(part, event))
+/// The messages of a trace, and which of them were sent so far.
+#[derive(Drop)]
+struct Mail<'a> {
+    trace: &'a Trace,
+    /// How many messages were sent so far.
+    sent: u64,
+    /// For each number of a message that was sent so far, its flight: the last, if several have it.
+    flights: HashMap<u64, u64>,
 }
 
-/// Returns whether an event is one of the node of the part, if it has one. A delivery is of no node
-/// that the trace names.
-fn shows_event(part: &Part, event: &Event) -> bool
-    ensures { result ≡ shows_event part.now.node (node_of event.now) }
-{
-    match event.node() {
-        Some(node) => part.has_node(node),
-        None => part.node.is_none(),
-    }
-}
-
-/// Replaces the label by an event and its outcome. A receipt in a trace has only its number.
-fn write_entry(plan: &Plan, entry: &Entry, rows: &mut Rows) -> Result<(), AllocError> {
-    match &entry.outcome {
-        Outcome::Left(receipt) => {
-            let done = EventText {
-                plan,
-                event: &entry.event,
-            };
-            rows.label.clear();
-            write!(rows.label, "{done}: left {}", receipt.number)
+impl Mail<'_> {
+    /// Returns the message that an event delivers, if it was sent before.
+    fn delivered(&self, event: &Event) -> Option<Sent> {
+        match event {
+            Event::Deliver(number) => self.trace.find(*self.flights.get(number)?),
+            _ => None,
         }
-        _ => rows.write_act(plan, entry),
     }
-}
 
-/// Draws the label of an entry at its node, and the arrow of a delivery. Without its message it is
-/// not known where a delivery is, so its label is left of all nodes.
-fn draw_written(
-    plan: &Plan,
-    index: usize,
-    entry: &Entry,
-    mail: &Mail<'_>,
-    rows: &mut Rows,
-) -> Result<(), AllocError> {
-    if mail.deliver(plan, &entry.event, true, rows)? {
-        return Ok(());
-    }
-    write_entry(plan, entry, rows)?;
-    match entry.event.node() {
-        Some(node) => rows.draw_act(node, mail.side_of_act(index, node), &entry.outcome),
-        None => rows.sheet.text_aside(rows.label.as_str()),
-    }
-}
-
-/// Marks the current event, of this index, if it is the one to mark.
-fn draw_mark(
-    index: u64,
-    event: &Event,
-    marked: &Marked,
-    rows: &mut Rows,
-) -> Result<(), AllocError> {
-    match (event.node(), marked.why_at(index)) {
-        (Some(node), Some(why)) => rows.sheet.mark(node, why),
-        _ => Ok(()),
+    /// Notes the messages that the event of this index sends.
+    fn send(&mut self, index: usize) -> Result<(), AllocError> {
+        for message in self.trace.sent_by(index) {
+            self.flights.insert(message.parcel, self.sent)?;
+            self.sent = self.sent.saturating_add(1);
+        }
+        Ok(())
     }
 }

@@ -1,11 +1,12 @@
 ghost use Rattle.std.specs.Prelude.{◌≡◌, ◌<◌, ◌≤◌, IfSome, length, option_map, slice_get};
+ghost use Rattle.std.specs.List.{range_with_len};
 ghost use Rattle.mx_plan.specs.Text.{AreNames};
 ghost use Rattle.mx_plan.specs.Fields.{node_of, register_of, IsShape};
 ghost use Rattle.mx_plan.specs.PlanParts.{plan_of};
 
 use crate::names::Names;
 use crate::shape::Shape;
-use mx_stamps::{MAX_NODES, MAX_REGISTERS, MAX_SECTIONS, NodeId};
+use mx_stamps::{MAX_NODES, MAX_REGISTERS, MAX_SECTIONS, NodeId, NodeIds};
 use std::marker::Model;
 
 /// A plan of a cluster. It has the names of the nodes, 1 to 21, and of the registers that they
@@ -82,6 +83,13 @@ impl Plan {
         ensures high { result ≤ MAX_NODES }
     {
         self.nodes.len() as u8
+    }
+
+    /// Returns the nodes, in order.
+    pub fn node_ids(&self) -> NodeIds
+        ensures { result ≡ range_with_len 0 (length self.now.nodes) }
+    {
+        NodeIds::below(self.nodes())
     }
 
     /// Returns the number of registers.

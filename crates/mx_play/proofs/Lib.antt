@@ -10,5 +10,4 @@ mod ReportLemmas
 pub mod PlayedLemmas
 mod CommandLemmas
 pub mod ExpectationLemmas
-mod RequestLemmas
 pub mod StoreLemmas

@@ -169,76 +169,21 @@ end_as first now new is_long is_empty count buffer read x end counts tests some 
     subst (λ (r : LineRead). ReadsNext (lines_in first) r buffer (lines_in new)) (sym is)
     (end_read first now new is_long buffer x end.0 end.1 (λ empty. none_counted buffer count counts (sym tests ∙ some) empty))
 
--- ---- bytes that were read ahead
+-- ---- a byte that is read
 
--- the first of them
-ahead_first : (ahead : List ℕ) (next end b d : ℕ) → next < end → next < length ahead → b ≡ get_or ahead next d
-    → take (end - next) (drop next ahead) ≡ b ∷ take (end - (next + 1)) (drop (next + 1) ahead)
-ahead_first ahead next end b d some there is =
-    let n : end - next ≡ suc (end - (next + 1)) = omega (arith, some) in
-    let split : drop next ahead ≡ b ∷ drop (next + 1) ahead =
-    drop-cons ahead next d there ∙ ap₂ (λ (x m : ℕ). x ∷ drop m ahead) (sym is) (sym (add-one next)) in
-    ap₂ (λ (m : ℕ) (l : List ℕ). take m l) n split
+first_taken : (bytes : List ℕ) (d : ℕ) → length bytes ≡ 1 → take 1 bytes ≡ get_or bytes 0 d ∷ []
+first_taken [] d one = cc
+first_taken (b ∷ bytes) d one = refl
 
-first_taken : (front all : List ℕ) (b : ℕ) (rest : Bytes) → all ≡ b ∷ front → Consumes (prepend_known all rest) (prepend_known front rest) (b ∷ [])
-first_taken front all b None is = tt
-first_taken front all b (Some left) is = ap (λ (l : List ℕ). l ++ left) is
+-- one byte was read
+pub one_read : (old new : Bytes) (bytes : List ℕ) (n b d : ℕ) → length bytes ≡ 1 → n ≤ 1 → (n ≡ 0 → ⊥) → b ≡ get_or bytes 0 d → Consumes old new (take n bytes) → Consumes old new (b ∷ [])
+one_read old new bytes n b d one few some is x =
+    let n_is : n ≡ 1 = omega (arith, few, some) in
+    let taken : take n bytes ≡ b ∷ [] = ap (λ (m : ℕ). take m bytes) n_is ∙ first_taken bytes d one ∙ ap (λ (c : ℕ). c ∷ []) (sym is) in
+    subst (λ (l : List ℕ). Consumes old new l) taken x
 
-pub ahead_taken : (ahead : List ℕ) (next end b d : ℕ) (rest : Bytes) → next < end → next < length ahead → b ≡ get_or ahead next d
-    → Consumes (prepend_known (take (end - next) (drop next ahead)) rest) (prepend_known (take (end - (next + 1)) (drop (next + 1) ahead)) rest) (b ∷ [])
-ahead_taken ahead next end b d rest some there is =
-    first_taken (take (end - (next + 1)) (drop (next + 1) ahead)) (take (end - next) (drop next ahead)) b rest (ahead_first ahead next end b d some there is)
-
--- none is left
-ahead_none : (ahead : List ℕ) (next end : ℕ) → end ≤ next → take (end - next) (drop next ahead) ≡ []
-ahead_none ahead next end le =
-    let n : end - next ≡ 0 = omega (arith, le) in
-    ap (λ (m : ℕ). take m (drop next ahead)) n
-
--- and then these bytes were read
-none_consumed : (bytes : List ℕ) (old new : Bytes) → Consumes old new bytes → Keeps (prepend_known [] old) (prepend_known bytes new)
-none_consumed bytes None new x = tt
-none_consumed bytes (Some all) None x = absurd x
-none_consumed bytes (Some all) (Some left) x = sym x
-
-pub ahead_read : (old_ahead ahead : List ℕ) (next end count : ℕ) (old new : Bytes) → end ≤ next → Consumes old new (take count ahead)
-    → Keeps (prepend_known (take (end - next) (drop next old_ahead)) old) (prepend_known (take (count - 0) (drop 0 ahead)) new)
-ahead_read old_ahead ahead next end count old new le x =
-    let n : count - 0 ≡ count = omega arith in
-    subst (λ (l : List ℕ). Keeps (prepend_known l old) (prepend_known (take (count - 0) (drop 0 ahead)) new)) (sym (ahead_none old_ahead next end le))
-    (subst (λ (m : ℕ). Keeps (prepend_known [] old) (prepend_known (take m (drop 0 ahead)) new)) (sym n) (none_consumed (take count ahead) old new x))
-
-kept_before : (old new : Bytes) → Keeps old new → Keeps (prepend_known [] old) (prepend_known [] new)
-kept_before None new x = tt
-kept_before (Some all) None x = absurd x
-kept_before (Some all) (Some left) x = x
-
--- a read that took none
-pub ahead_kept : (old_ahead ahead : List ℕ) (next end : ℕ) (old new : Bytes) → end ≤ next → Keeps old new
-    → Keeps (prepend_known (take (end - next) (drop next old_ahead)) old) (prepend_known (take (end - next) (drop next ahead)) new)
-ahead_kept old_ahead ahead next end old new le x =
-    subst (λ (l : List ℕ). Keeps (prepend_known l old) (prepend_known (take (end - next) (drop next ahead)) new)) (sym (ahead_none old_ahead next end le))
-    (subst (λ (l : List ℕ). Keeps (prepend_known [] old) (prepend_known l new)) (sym (ahead_none ahead next end le)) (kept_before old new x))
-
-pub at_end : (new : Bytes) → IsAtEnd new → IsAtEnd (prepend_known [] new)
-at_end None x = tt
-at_end (Some left) x = x
-
--- a byte was taken after what stays
-kept_then : (a b c : Bytes) (bs : List ℕ) → Keeps a b → Consumes b c bs → Consumes a c bs
-kept_then None b c bs x y = tt
-kept_then (Some all) None c bs x y = absurd x
-kept_then (Some all) (Some same) None bs x y = absurd y
-kept_then (Some all) (Some same) (Some left) bs x y = sym x ∙ y
-
-keeps_on : (a b c : Bytes) → Keeps a b → Keeps b c → Keeps a c
-keeps_on None b c x y = tt
-keeps_on (Some all) None c x y = absurd x
-keeps_on (Some all) (Some same) None x y = absurd y
-keeps_on (Some all) (Some same) (Some left) x y = y ∙ x
-
-pub takes_then : (read : ByteRead) (a b c : Bytes) → Keeps a b → TakesByte read b c → TakesByte read a c
-takes_then (byte_read.Byte byte) a b c x y = kept_then a b c (byte ∷ []) x y
-takes_then byte_read.End a b c x y = (keeps_on a b c x y.0, y.1)
-takes_then byte_read.Nothing a b c x y = keeps_on a b c x y
-takes_then byte_read.Failure a b c x y = tt
+-- none was
+pub none_taken : (old new : Bytes) → Consumes old new [] → Keeps old new
+none_taken None new x = tt
+none_taken (Some all) None x = absurd x
+none_taken (Some all) (Some left) x = sym x

@@ -13,9 +13,8 @@ use Rattle.mx_plan.specs.declared.shape.Shape.TheVariants.{Ricart, Maekawa, Raym
 use Rattle.mx_format.specs.LetterTexts.{ricart_text, maekawa_text, raymond_text}
 use Rattle.mx_cli.specs.Frames.{IsRunStatus}
 use Rattle.mx_cli.specs.Reading.{IsPlanOf, IsRead, is_dash}
-use Rattle.mx_cli.specs.Reports.{Declines, Seen}
-use Rattle.mx_cli.specs.Requests.{Request, play}
-use Rattle.mx_io.specs.Stored.{Stored, Stores}
+use Rattle.mx_cli.specs.Reports.{Seen}
+use Rattle.mx_io.specs.Stored.{Stored}
 use Rattle.mx_io.specs.Told.{Telling}
 use Rattle.mx_play.specs.Lines.{first_of, session_lines}
 use Rattle.mx_play.specs.Plays.{IsPlayed}
@@ -75,11 +74,3 @@ pub record Plays (told : Text → Option Telling) (lines : Option (List Text)) (
   pub played : status ≡ 0 → HasPlayed told lines plan first old new store store'
   pub passed : status ≡ 0 → new.kept_back ≡ false
   pub status_is : IsRunStatus status
-
--- what a request does: a session; for all others, nothing is written or stored, and the status is 2
-abbrev pub PlaysAs : (Text → Option Telling) → Option (List Text) → Request → Seen → Seen → Stored
-    → Stored → ℕ → Type 0
-PlaysAs told lines (play plan first) old new store store' status =
-    Plays told lines plan first old new store store' status
-PlaysAs told lines _ old new store store' status =
-    Declines old new status × Stores store store' []

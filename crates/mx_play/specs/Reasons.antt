@@ -2,7 +2,6 @@
 use Rattle.std.specs.Prelude.{ℕ, ◌≡◌, ◌≢◌, ◌≤◌, ⊤, Bool, true, false, List, Option, Some, None, Err, IsSomeAnd, length}
 use Rattle.mx_plan.specs.Text.{Text}
 use Rattle.mx_cli.specs.Reading.{Reads, is_dash}
-use Rattle.mx_cli.specs.Requests.{Request, play}
 use Rattle.mx_cli.specs.declared.stop.Stop.{Stop}
 use Rattle.mx_cli.specs.declared.stop.Stop.TheVariants as stop
 use Rattle.mx_io.specs.Told.{Telling}
@@ -36,10 +35,3 @@ pub record CanBeRead (told : Text → Option Telling) (lines : Option (List Text
   pub plan_stated : IsPlanStated (is_dash plan) (told plan) lines
   pub script_stated : IsStated (told_of_script told first)
   pub readable : AreReadable left
-
--- a session whose texts can be read, and whose outputs take all bytes, has not status 1
-abbrev pub HasReason : (Text → Option Telling) → Option (List Text) → Option ℕ → Request → Bool
-    → Bool → ℕ → Type 0
-HasReason told lines left (play plan first) takes_out takes_err status =
-    takes_out ≡ true → takes_err ≡ true → CanBeRead told lines left plan first → status ≢ 1
-HasReason told lines left _ takes_out takes_err status = ⊤

@@ -1,6 +1,7 @@
 -- Lines that are typed, or come through a pipe: how their bytes become lines.
-use Rattle.std.specs.Prelude.{ℕ, ◌≡◌, ◌≤◌, ◌<◌, ◌-◌, ◌==◌, ◌⊎◌, ⊤, Bool, true, false, List, [], ◌∷◌, ◌++◌, Option, Some, None, drop, length, option_map, take}
-use Rattle.std.specs.Io.KnownBytes.{Consumes, IsAtEnd, Keeps, prepend_known}
+use Rattle.std.specs.Prelude.{ℕ, ◌≡◌, ◌≤◌, ◌<◌, ◌==◌, ◌⊎◌, ⊤, Bool, true, false, List, [], ◌∷◌, ◌++◌, Option, Some, None, length, option_map}
+use Rattle.std.specs.Io.Buffered.{reader_remaining}
+use Rattle.std.specs.Io.KnownBytes.{Consumes, IsAtEnd, Keeps}
 use Rattle.mx_plan.specs.Text.{Text}
 use Rattle.mx_play.specs.Lines.{ReadsNext, lines_of}
 use Rattle.mx_play.specs.declared.line_sources.LineRead.{LineRead}
@@ -15,10 +16,9 @@ abbrev pub Bytes : Type 0
 Bytes = Option (List ℕ)
 
 module _ {R : Type 0} (remaining : R → Option (List ℕ)) where
-  -- the bytes still to come: those that were read ahead, and those that the reader still has, if it
-  -- states them
+  -- the bytes still to come, if the reader states them
   abbrev pub to_come : Typed R → Bytes
-  to_come t = prepend_known (take (t.end - t.next) (drop t.next t.ahead)) (remaining t.reader.inner)
+  to_come t = reader_remaining (λ counted. remaining counted.inner) t.reader
 
   -- the lines still to come, if their bytes are known
   abbrev pub lines_to_come : Typed R → Option (List Text)

@@ -1,13 +1,13 @@
 //! What is printed of links that are cut, or heal.
 
-ghost use Rattle.std.specs.Prelude.{◌≡◌, ◌<◌, ◌++◌, length, string_bytes, OnOk, Some};
-ghost use Rattle.mx_play.specs.Cuts.{change_line, cut_line, cut_lines, cut_lines_of, cut_text, is_shown, is_to};
+ghost use Rattle.std.specs.Prelude.{◌≡◌, ◌++◌, string_bytes, OnOk, Some};
+ghost use Rattle.mx_play.specs.Cuts.{change_line, cut_line, cut_lines, cut_lines_of, is_shown, is_to};
 
 use mx_format::name_of;
 use mx_lines::LinkChange;
 use mx_plan::Plan;
 use mx_scripts::InFlight;
-use mx_stamps::{MAX_NODES, NodeId};
+use mx_stamps::NodeId;
 use std::alloc::AllocError;
 use std::fmt;
 
@@ -68,8 +68,8 @@ pub(crate) fn add_cuts(
     ensures { OnOk result (string_bytes text.new ≡ string_bytes text.old
         ++ cut_lines plan.now to.now in_flight.now.links) }
 {
-    for i in 0..plan.nodes() {
-        add_cuts_of(plan, to, in_flight, i, text)?;
+    for node in plan.node_ids() {
+        add_cuts_of(plan, to, in_flight, node, text)?;
     }
     Ok(())
 }
@@ -78,51 +78,16 @@ fn add_cuts_of(
     plan: &Plan,
     to: &Option<NodeId>,
     in_flight: &InFlight,
-    i: u8,
-    text: &mut String,
-) -> Result<(), AllocError>
-    requires there { i < length plan.now.nodes }
-    requires few { i < MAX_NODES }
-    ensures { OnOk result (string_bytes text.new ≡ string_bytes text.old
-        ++ cut_lines_of plan.now to.now in_flight.now.links i) }
-{
-    for j in i..plan.nodes() {
-        add_cut(plan, to, in_flight, i, j, text)?;
-    }
-    Ok(())
-}
-
-fn add_cut(
-    plan: &Plan,
-    to: &Option<NodeId>,
-    in_flight: &InFlight,
-    i: u8,
-    j: u8,
-    text: &mut String,
-) -> Result<(), AllocError>
-    requires one { i < MAX_NODES }
-    requires other { j < MAX_NODES }
-    ensures { OnOk result (string_bytes text.new ≡ string_bytes text.old
-        ++ cut_text plan.now to.now in_flight.now.links i j) }
-{
-    let one = NodeId::of(i).unwrap();
-    let other = NodeId::of(j).unwrap();
-    add_if_shown(plan, to, in_flight, one, other, text)
-}
-
-fn add_if_shown(
-    plan: &Plan,
-    to: &Option<NodeId>,
-    in_flight: &InFlight,
     one: NodeId,
-    other: NodeId,
     text: &mut String,
 ) -> Result<(), AllocError>
     ensures { OnOk result (string_bytes text.new ≡ string_bytes text.old
-        ++ cut_text plan.now to.now in_flight.now.links one other) }
+        ++ cut_lines_of plan.now to.now in_flight.now.links one) }
 {
-    if is_shown(to, in_flight, one, other) {
-        return text.write(CutLine { plan, one, other });
+    for other in plan.node_ids() {
+        if is_shown(to, in_flight, one, other) {
+            text.write(CutLine { plan, one, other })?;
+        }
     }
     Ok(())
 }
@@ -130,7 +95,7 @@ fn add_if_shown(
 fn is_shown(to: &Option<NodeId>, in_flight: &InFlight, one: NodeId, other: NodeId) -> bool
     ensures { result ≡ is_shown to.now in_flight.now.links one other }
 {
-    in_flight.is_cut(one, other) && (is_to(to, one) || is_to(to, other))
+    one.get() <= other.get() && in_flight.is_cut(one, other) && (is_to(to, one) || is_to(to, other))
 }
 
 pub(crate) fn is_to(to: &Option<NodeId>, addressee: NodeId) -> bool

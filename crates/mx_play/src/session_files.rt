@@ -11,7 +11,7 @@ ghost use Rattle.mx_play.specs.Reasons.{CanBeRead, IsLineStated, IsPlanStated, I
 use crate::line_sources::{LineRead, Lines};
 use mx_cli::{Fault, Named, PlanAndText, Stop, fetch, fetch_plan, plan_in};
 use mx_io::Source;
-use mx_plan::Plan;
+use mx_plan::{Needs, Plan};
 use std::alloc::Global;
 
 pub(crate) fn fetch_start<S: Source, L: Lines>(
@@ -57,7 +57,7 @@ fn plan_of<S: Source, L: Lines>(
     if is_dash(name) {
         first_plan(alloc, lines)
     } else {
-        fetch_plan(alloc, source, name)
+        fetch_plan(alloc, source, name, Needs::All)
     }
 }
 
@@ -72,7 +72,7 @@ fn first_plan<L: Lines>(alloc: Global, lines: &mut L) -> Result<Plan, Stop>
 {
     let mut line = Vec::new(alloc);
     match lines.next(&mut line)? {
-        LineRead::Line | LineRead::End => plan_in(alloc, line.as_slice()),
+        LineRead::Line | LineRead::End => plan_in(alloc, line.as_slice(), Needs::All),
         LineRead::TooLong | LineRead::Unreadable => Err(Stop::Fault(Fault::CannotRead(
             Named::Plan,
         ))),

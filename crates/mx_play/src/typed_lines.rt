@@ -1,10 +1,11 @@
-ghost use Rattle.std.specs.Prelude.{◌≡◌, ◌<◌, IfOk};
+ghost use Rattle.std.specs.Prelude.{◌≡◌, IfOk};
 ghost use Rattle.mx_play.specs.TypedLines.{AddsByte, Bytes, IsTaking, TakesByte, TakesOn, lines_to_come, read_of, to_come};
 
 use crate::line_sources::{LineRead, Lines, MAX_LINE};
 use mx_io::{Counted, MAX_BYTES};
-use std::alloc::AllocError;
-use std::io::{ErrorKind, Read};
+use std::alloc::{AllocError, Global};
+use std::io;
+use std::io::{BufReader, ErrorKind, Read};
 
 /// The greatest number of bytes that one read takes.
 const MAX_AHEAD: usize = 4096;
@@ -17,14 +18,10 @@ const MAX_STEPS: u64 = 2 * MAX_BYTES;
 /// line beyond that can't be read.
 #[derive(Drop)]
 pub struct Typed<R: Read + Drop> {
-    reader: Counted<R>,
+    reader: BufReader<Counted<R>>,
     is_terminal: bool,
     /// How many more bytes may be taken.
     left: u64,
-    /// What the last read gave. Its bytes from `next` up to `end` are not taken yet.
-    ahead: [u8; MAX_AHEAD],
-    next: usize,
-    end: usize,
 }
 
 #[derive(Clone, Copy)]
@@ -38,55 +35,36 @@ pub(crate) enum ByteRead {
 
 impl<R: Read + Drop> Typed<R> {
     /// Creates the lines of a reader. `is_terminal` says whether they are typed at a terminal.
-    pub fn new(reader: R, is_terminal: bool) -> Self
-        ensures { to_come R.remaining result ≡ R.remaining reader }
+    ///
+    /// # Errors
+    ///
+    /// Returns an error of kind `OutOfMemory` if memory runs out.
+    pub fn new(alloc: Global, reader: R, is_terminal: bool) -> io::Result<Self>
+        ensures { IfOk result (λ lines. to_come R.remaining lines ≡ R.remaining reader) }
     {
-        Typed {
-            reader: Counted::new(reader),
+        Ok(Typed {
+            reader: BufReader::with_capacity(alloc, MAX_AHEAD, Counted::new(reader))?,
             is_terminal,
             left: MAX_BYTES,
-            ahead: [0; MAX_AHEAD],
-            next: 0,
-            end: 0,
-        }
+        })
     }
 
     fn byte(&mut self) -> ByteRead
         ensures { TakesByte result (to_come R.remaining self.old) (to_come R.remaining self.new) }
     {
-        if self.next < self.end {
-            return self.take();
-        }
-        match self.reader.read(&mut self.ahead) {
-            Ok(count) => {
-                self.next = 0;
-                self.end = count;
-                if count == 0 {
-                    return ByteRead::End;
-                }
-                self.take()
+        let mut byte = [0];
+        match self.reader.read(&mut byte) {
+            Ok(0) => ByteRead::End,
+            Ok(_) if self.left == 0 => ByteRead::Failure,
+            Ok(_) => {
+                self.left -= 1;
+                ByteRead::Byte(byte[0])
             }
             Err(e) => match e.kind() {
                 ErrorKind::Interrupted => ByteRead::Nothing,
                 _ => ByteRead::Failure,
             },
         }
-    }
-
-    fn take(&mut self) -> ByteRead
-        requires { self.old.next < self.old.end }
-        ensures { TakesByte result (to_come R.remaining self.old) (to_come R.remaining self.new) }
-    {
-        let place = self.next;
-        if place >= MAX_AHEAD {
-            return ByteRead::Failure;
-        }
-        if self.left == 0 {
-            return ByteRead::Failure;
-        }
-        self.next = place + 1;
-        self.left -= 1;
-        ByteRead::Byte(self.ahead[place])
     }
 
     /// Takes the next byte of a line, or finds where the line ends.

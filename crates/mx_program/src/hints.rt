@@ -1,8 +1,8 @@
-//! What follows the line of a fault: where the fault is, as `explain` says it first; or, for a
-//! reader at a terminal, the command that says so.
+//! What follows the end of a command: where a fault is, as `explain` says it first; or, for a reader
+//! at a terminal, the command that says so; that a trace is empty; that a number has no sign.
 
 use crate::watched::Watched;
-use mx_cli::{Request, fetch_files, parse, write_line};
+use mx_cli::{LiveOptions, Request, Task, fetch_files, parse, write_line};
 use mx_explain::explain;
 use mx_io::{Output, Streams};
 use std::alloc::Global;
@@ -66,78 +66,64 @@ impl fmt::Display for Wanted {
     }
 }
 
-/// Writes what follows the line of a fault of the command line `words`: where the fault is, or else
-/// a hint. Writes nothing if a file is standard input (`-`), which cannot be read twice.
-pub(crate) fn tell_place<R: Files + Input, E: Output>(
+/// A number with a sign, after an option that takes a number.
+#[derive(Clone, Copy)]
+struct Signed<'a> {
+    option: &'a str,
+    number: &'a str,
+}
+
+impl fmt::Display for Signed<'_> {
+    fn fmt<W: fmt::Write>(&self, f: &mut fmt::Formatter<W>) -> fmt::Result {
+        let Signed { option, number } = *self;
+        writeln!(f, "mx: {option} takes a number from 0 on, and not {number}")
+    }
+}
+
+/// Writes what helps with the end of a command line, if something does.
+pub(crate) fn tell_more<R: Files + Input + AllocGlobal, E: Output>(
     rt: &R,
-    alloc: Global,
     words: &[&str],
+    status: u8,
+    source: &Watched<'_, R>,
     is_terminal: bool,
     err: &mut E,
 ) {
-    match words.first() {
-        Some(word) if has_place(word, is_terminal) => {}
-        _ => return,
-    }
-    let Ok(Some(request)) = parse(alloc, words) else {
-        return;
-    };
-    let Some(files) = files_of(&request) else {
-        return;
-    };
-    if files.plan == "-" || files.second == Some("-") {
-        return;
-    }
-    match place_in(rt, alloc, &files) {
-        Place::Line(line) => {
-            let _ = err.put(line.as_bytes());
+    let alloc = rt.alloc();
+    match status {
+        0 if reads_trace(words) && source.lacks_objects() => {
+            let _ = err.put("mx: the trace is empty\n".as_bytes());
         }
-        Place::Nowhere => {
-            if let Some(wanted) = too_few_sections(rt, alloc, &request) {
-                let _ = write_line(alloc, err, wanted);
+        1 => tell_place(rt, alloc, words, is_terminal, err),
+        2 => {
+            if let Some(signed) = signed_number(words) {
+                let _ = write_line(alloc, err, signed);
             }
         }
-        Place::Unknown if is_terminal && has_hint(&request) => {
-            let _ = write_line(alloc, err, files);
-        }
-        Place::Unknown => {}
+        _ => {}
     }
 }
 
-/// Returns how many sections a live run wants, if those are more than its plan allows.
-fn too_few_sections<R: Files + Input>(
-    rt: &R,
-    alloc: Global,
-    request: &Request<'_>,
-) -> Option<Wanted> {
-    let Request::Live(run) = request else {
-        return None;
-    };
-    let files = mx_cli::Files::alone(run.plan);
-    let plan = fetch_files(alloc, &mut Streams { rt }, &files).ok()?.plan;
-    let wanted = Wanted {
-        nodes: plan.nodes(),
-        each: run.sections,
-        most: plan.sections(),
-    };
-    let is_too_few = u64::from(wanted.nodes).saturating_mul(wanted.each) > wanted.most;
-    is_too_few.then_some(wanted)
-}
-
-/// Writes that the trace of the command line `words` is empty, if that text has no object.
-pub(crate) fn tell_empty<R: Files + Input, E: Output>(
-    words: &[&str],
-    source: &Watched<'_, R>,
-    err: &mut E,
-) {
-    let reads_trace = match words.first() {
+fn reads_trace(words: &[&str]) -> bool {
+    match words.first() {
         Some(&"judge") => true,
         Some(&"picture") => words.contains(&"--trace"),
         _ => false,
-    };
-    if reads_trace && source.lacks_objects() {
-        let _ = err.put("mx: the trace is empty\n".as_bytes());
     }
+}
+
+/// Returns the first option that a number with a sign follows.
+fn signed_number<'a>(words: &[&'a str]) -> Option<Signed<'a>> {
+    let mut option = "";
+    for number in words {
+        let digits = number.strip_prefix('-').unwrap_or("");
+        let is_number = !digits.is_empty() && digits.bytes().all(|b| b.is_ascii_digit());
+        if option.starts_with("--") && is_number {
+            return Some(Signed { option, number });
+        }
+        option = number;
+    }
+    None
 }
 
 /// Whether the place of a fault follows its line: of most commands, only at a terminal. The faults of
@@ -150,37 +136,85 @@ fn has_place(command: &str, is_terminal: bool) -> bool {
     }
 }
 
-fn has_hint(request: &Request<'_>) -> bool {
-    !matches!(request, Request::Draw { .. } | Request::Play { .. })
+/// Writes where the fault of the files of a command line is, or else a hint. Writes nothing if a file
+/// is standard input (`-`), which cannot be read twice, or a trace, which `explain` does not read.
+fn tell_place<R: Files + Input, E: Output>(
+    rt: &R,
+    alloc: Global,
+    words: &[&str],
+    is_terminal: bool,
+    err: &mut E,
+) {
+    match words.first() {
+        Some(word) if has_place(word, is_terminal) => {}
+        _ => return,
+    }
+    let Ok(Some(Request::Task(files, task))) = parse(alloc, words) else {
+        return;
+    };
+    let faulty = faulty_files(&files, &task);
+    let is_trace = matches!(task, Task::PictureTrace(_));
+    if is_trace || faulty.plan == "-" || faulty.second == Some("-") {
+        return;
+    }
+    match place_in(rt, alloc, &faulty) {
+        Place::Line(line) => {
+            let _ = err.put(line.as_bytes());
+        }
+        Place::Nowhere => {
+            if let Task::Live(options) = &task {
+                tell_sections(rt, alloc, &files, options, err);
+            }
+        }
+        Place::Unknown if is_terminal && has_hint(&task) => {
+            let _ = write_line(alloc, err, faulty);
+        }
+        Place::Unknown => {}
+    }
 }
 
-/// Returns the files that a request names, unless one is a trace, which `explain` does not read. The
-/// script of `play` is none of them, since `play` goes on after a faulty line.
-fn files_of<'a>(request: &Request<'a>) -> Option<FaultyFiles<'a>> {
-    let (plan, second) = match request {
-        Request::Check { plan, .. }
-        | Request::Explore { plan, .. }
-        | Request::Draw { plan, .. }
-        | Request::Play { plan, .. } => (*plan, None),
-        Request::Live(run) => (run.plan, None),
-        Request::Replay { names, .. }
-        | Request::Script(names)
-        | Request::Picture { names, .. }
-        | Request::Count { names, .. } => (names.plan, Some(names.events)),
-        _ => return None,
+/// Writes how many sections a live run wants, if those are more than its plan allows.
+fn tell_sections<R: Files + Input, E: Output>(
+    rt: &R,
+    alloc: Global,
+    files: &mx_cli::Files<'_>,
+    options: &LiveOptions,
+    err: &mut E,
+) {
+    let Ok(read) = fetch_files(alloc, &mut Streams { rt }, files) else {
+        return;
     };
-    let is_script = match request {
-        Request::Script(_) => true,
-        Request::Replay { is_script, .. }
-        | Request::Picture { is_script, .. }
-        | Request::Count { is_script, .. } => *is_script,
-        _ => false,
+    let wanted = Wanted {
+        nodes: read.plan.nodes(),
+        each: options.sections,
+        most: read.plan.sections(),
     };
-    Some(FaultyFiles {
-        plan,
-        second,
-        is_script,
-    })
+    if u64::from(wanted.nodes).saturating_mul(wanted.each) > wanted.most {
+        let _ = write_line(alloc, err, wanted);
+    }
+}
+
+fn has_hint(task: &Task<'_>) -> bool {
+    !matches!(task, Task::Draw(_) | Task::Play)
+}
+
+/// Returns the files of a task, as `explain` takes them. The script of `play` is none of them, since
+/// `play` goes on after a faulty line.
+fn faulty_files<'a>(files: &mx_cli::Files<'a>, task: &Task<'_>) -> FaultyFiles<'a> {
+    FaultyFiles {
+        plan: files.plan,
+        second: match task {
+            Task::Play => None,
+            _ => files.text,
+        },
+        is_script: matches!(
+            task,
+            Task::Script
+                | Task::ReplayScript(_)
+                | Task::PictureScript { .. }
+                | Task::CountScript { .. }
+        ),
+    }
 }
 
 /// Returns the place of the fault of these files.

@@ -1,60 +1,36 @@
-//! `mx`, the program. It passes the arguments, files and streams of the process to the functions that
-//! run commands: `live`, which starts threads, `play`, which reads lines as they are typed, and
-//! `command` for all others.
+//! `mx`, the program. It passes the arguments, files, streams and threads of the process to `run`.
 #![tactic(auto)]
 
 mod hints;
 mod patient;
 mod watched;
 
-use crate::hints::{tell_empty, tell_place};
+use crate::hints::tell_more;
 use crate::patient::Patient;
 use crate::watched::Watched;
-use mx_dispatch::command;
-use mx_io::{Output, Stream, Streams, as_slices, given_words, status_of};
+use mx_dispatch::run;
+use mx_io::{Stream, Streams, as_slices, given_words, status_of};
 use mx_jobs::Host;
-use mx_live::live;
-use mx_play::{Typed, play};
+use mx_play::Typed;
 use std::alloc::AllocError;
 use std::io::{BufWriter, IsTerminal, Write};
 use std::process::ExitCode;
 use std::rt::{Env, Files};
 use std::{env, io};
 
-fn carry_out<R: Files + Env + Input + AllocGlobal + Host, O: Output, E: Output>(
-    rt: &R,
-    words: &[&str],
-    source: &mut Watched<'_, R>,
-    out: &mut O,
-    err: &mut E,
-) -> u8
-where
-    R::Reader: IsTerminal,
-{
-    let alloc = rt.alloc();
-    match words.first() {
-        Some(&"live") => live(rt, alloc, words, source, out, err),
-        Some(&"play") => {
-            let (mut lines, mut store) = (typed_lines(rt), Streams { rt });
-            play(alloc, words, source, &mut lines, &mut store, out, err)
-        }
-        _ => command(alloc, words, source, out, err),
-    }
-}
-
-/// Returns the lines of standard input. They are typed if they come from a terminal, or through a
-/// pipe of `./mx`, which sets `MX_TYPED`.
-fn typed_lines<R: Env + Input + AllocGlobal>(rt: &R) -> Typed<R::Reader>
+/// Returns the lines of standard input. Those of a session are typed if they come from a terminal, or
+/// through a pipe of `./mx`, which sets `MX_TYPED`.
+fn typed_lines<R: Env + Input + AllocGlobal>(rt: &R, words: &[&str]) -> io::Result<Typed<R::Reader>>
 where
     R::Reader: IsTerminal,
 {
     let reader = rt.reader();
-    let are_typed = reader.is_terminal() || env::var(rt, "MX_TYPED").is_ok();
-    Typed::new(reader, are_typed)
+    let is_session = matches!(words.first(), Some(&"play"));
+    let are_typed = is_session && (reader.is_terminal() || env::var(rt, "MX_TYPED").is_ok());
+    Typed::new(rt.alloc(), reader, are_typed)
 }
 
-/// Runs the command line of the process. If its files have a fault, the place of the fault, or a
-/// hint, may follow on standard error; so does that a trace is empty.
+/// Runs the command line of the process. What helps with its end may follow on standard error.
 fn run_words<
     R: Files + Env + Input + AllocGlobal + Host,
     O: Write + Drop,
@@ -71,12 +47,18 @@ where
     // Without room, the buffer passes each line on at once.
     let mut err = Stream::new(BufWriter::with_capacity(alloc, 0, Patient::new(rt, err))?);
     let mut source = Watched::new(rt);
-    let status = carry_out(rt, words.as_slice(), &mut source, &mut out, &mut err);
-    match status {
-        0 => tell_empty(words.as_slice(), &source, &mut err),
-        1 => tell_place(rt, alloc, words.as_slice(), is_terminal, &mut err),
-        _ => {}
-    }
+    let (mut lines, mut store) = (typed_lines(rt, words.as_slice())?, Streams { rt });
+    let status = run(
+        rt,
+        alloc,
+        words.as_slice(),
+        &mut source,
+        &mut lines,
+        &mut store,
+        &mut out,
+        &mut err,
+    );
+    tell_more(rt, words.as_slice(), status, &source, is_terminal, &mut err);
     Ok(status)
 }
 

@@ -1,23 +1,20 @@
 -- What the lines of a script do, one thing after another, and what is shown of it.
-use Rattle.std.proofs.Common.{◌≡◌, ◌∙◌, ◌++◌, ◌+◌, ℕ, zero, suc, List, [], ◌∷◌, Option, Some, None, Bool, true, false, ap, ap₂, append_assoc, refl, subst, sym}
-use Rattle.std.specs.Prelude.{is_some, map}
-use Rattle.std.proofs.lemmas.List.{map-append}
+use Rattle.std.proofs.Common.{◌≡◌, ◌∙◌, ◌++◌, ℕ, List, [], ◌∷◌, Option, Some, None, true, false, ap, ap₂, append_assoc, refl, sym}
+use Rattle.std.specs.Prelude.{is_some}
 use Rattle.mx_stamps.proofs.Lists.{append_nil}
 use Rattle.mx_knowledge.specs.Facts.{Known}
 use Rattle.mx_nodelaws.specs.Core.{Core}
 use Rattle.mx_plan.specs.Text.{Text}
 use Rattle.mx_plan.specs.Fields.{Fields}
 use Rattle.mx_format.specs.Parts.{Parts}
-use Rattle.mx_lines.specs.declared.line.ScriptLine.{ScriptLine}
-use Rattle.mx_lines.specs.declared.line.ScriptLine.TheVariants as script_line
-use Rattle.mx_lines.specs.declared.orders.Order.{Order}
 use Rattle.mx_driver.specs.declared.view.View.{View}
 use Rattle.mx_scripts.specs.Happenings.{AddsOne, Does, Reaches}
-use Rattle.mx_scripts.specs.Lines.{DoesAll, DoesRead, DoesText, IsNotDone, IsStill, Performs, Repeats, number_after, of_line}
+use Rattle.mx_scripts.specs.Lines.{DoesText, IsNotDone, of_line}
 use Rattle.mx_scripts.specs.Scripts.{IsRefused}
-use Rattle.mx_scripts.specs.ShownScripts.{CanShow, ShowsAll, happening_text}
+use Rattle.mx_scripts.specs.ShownScripts.{ShowsAll, happening_text}
 use Rattle.mx_scripts.specs.States.{RunState}
 use Rattle.mx_scripts.specs.Told.{IsTold}
+use Rattle.mx_scripts.proofs.LineLemmas.{Chain, all_chain}
 use Rattle.mx_scripts.specs.declared.happenings.Happening.{Happening}
 use Rattle.mx_scripts.specs.declared.happenings.LineRecorder.{LineRecorder}
 use Rattle.mx_scripts.specs.declared.line_failure.LineFailure.{LineFailure}
@@ -64,53 +61,13 @@ module _ {H S M : Type 0} (core : Core H S M) (parts : M → Parts) (p : Fields)
   abbrev Shows : RunState S M → List Happening → RunState S M → Type 0
   Shows old hs new = (texts : List Text) × ShowsAll core parts p view knows old hs new texts
 
-  nothing_shown : (hs : List Happening) (old new : RunState S M) → new ≡ old → hs ≡ [] → Shows old hs new
-  nothing_shown hs old new same none = ([], subst (λ (l : List Happening). ShowsAll core parts p view knows old l new []) (sym none) (same, refl))
-
-  more_shown : (hs more : List Happening) (old mid new : RunState S M) (texts others : List Text) → ShowsAll core parts p view knows old hs mid texts
-      → ShowsAll core parts p view knows mid more new others → ShowsAll core parts p view knows old (hs ++ more) new (texts ++ others)
-  more_shown [] more old mid new texts others x y =
-      subst (λ (l : List Text). ShowsAll core parts p view knows old more new (l ++ others)) (sym x.1) (subst (λ (s : RunState S M). ShowsAll core parts p view knows s more new others) x.0 y)
-  more_shown (h ∷ hs) more old mid new texts others x y =
-      (x.0, x.1 ++ others, x.2, x.3, ap (λ (l : List Text). l ++ others) x.4, more_shown hs more x.0 mid new x.1 others x.5 y)
-
-  both_shown : (hs more : List Happening) (old mid new : RunState S M) → Shows old hs mid → Shows mid more new → Shows old (hs ++ more) new
-  both_shown hs more old mid new x y = (x.0 ++ y.0, more_shown hs more old mid new x.0 y.0 x.1 y.1)
-
-  performs_shown : (number : ℕ) (o : Order) (done : ℕ) (es : List SessionEvent) (old new : RunState S M) → Performs core o done old es new → Shows old (of_line number es) new
-  performs_shown number o done [] old new x = nothing_shown [] old new x.0 refl
-  performs_shown number o done (e ∷ es) old new x =
-      let rest = performs_shown number o (suc done) es x.0 new x.4 in
-      let h : Happening = record { line = number; event = e } in
+  chain_shown : (nodes registers : ℕ) (hs : List Happening) (old new : RunState S M) → Chain core nodes registers old hs new → Shows old hs new
+  chain_shown nodes registers [] old new x = ([], (x, refl))
+  chain_shown nodes registers (h ∷ hs) old new x =
+      let rest = chain_shown nodes registers hs x.0 new x.4 in
       (happening_text core parts p view knows h old x.0 ∷ rest.0, (x.0, rest.0, x.2, x.3, refl, rest.1))
-
-  repeats_shown : (number : ℕ) (o : Order) (times : ℕ) (es : List SessionEvent) (old new : RunState S M) → Repeats core o times old es new → Shows old (of_line number es) new
-  repeats_shown number o zero es old new x = nothing_shown (of_line number es) old new x.0 (ap (of_line number) x.1)
-  repeats_shown number o (suc times) es old new x =
-      let first : List SessionEvent = x.1 in
-      let rest : List SessionEvent = x.2 in
-      let is : of_line number es ≡ of_line number first ++ of_line number rest =
-      ap (of_line number) x.4 ∙ map-append (λ (e : SessionEvent). let h : Happening = record { line = number; event = e } in h) first rest in
-      subst (λ (l : List Happening). Shows old l new) (sym is)
-      (both_shown (of_line number first) (of_line number rest) old x.0 new (performs_shown number o 0 first old x.0 x.3) (repeats_shown number o times rest x.0 new x.5))
-
-  still_shown : (number : ℕ) (es : List SessionEvent) (old new : RunState S M) → IsStill core old es new → Shows old (of_line number es) new
-  still_shown number es old new x = nothing_shown (of_line number es) old new x.0 (ap (of_line number) x.1)
-
-  read_shown : (number : ℕ) (text : Text) (read : ScriptLine) (es : List SessionEvent) (old new : RunState S M) → DoesRead core text read old es new → Shows old (of_line number es) new
-  read_shown number text (script_line.Does line) es old new x = repeats_shown number line.order line.times es old new x
-  read_shown number text script_line.Expects es old new x = still_shown number es old new x.0
-  read_shown number text script_line.Nothing es old new x = still_shown number es old new x
-
-  all_shown : (done : ℕ) (texts : List Text) (hs : List Happening) (old new : RunState S M) → DoesAll core p done texts old hs new → Shows old hs new
-  all_shown done [] hs old new x = nothing_shown hs old new x.0 x.1
-  all_shown done (text ∷ texts) hs old new x =
-      let line = x.3 in
-      let first = read_shown (number_after done) text line.0 x.1 old x.0 line.2 in
-      subst (λ (l : List Happening). Shows old l new) (sym x.4)
-      (both_shown (of_line (number_after done) x.1) x.2 old x.0 new first (all_shown (suc done) texts x.2 x.0 new x.5))
 
   -- what the lines of a script did can be shown
   pub reached_shown : (texts : List Text) (hs : List Happening) (o : Option RefusedLine) (old last : RunState S M) → Reaches core p texts old hs o last → Shows old hs last
-  reached_shown texts hs None old last x = all_shown 0 texts hs old last x
-  reached_shown texts hs (Some refused) old last x = all_shown 0 _ hs old last x.2.does
+  reached_shown texts hs None old last x = chain_shown _ _ hs old last (all_chain core p 0 texts hs old last x)
+  reached_shown texts hs (Some refused) old last x = chain_shown _ _ hs old last (all_chain core p 0 _ hs old last x.2.does)

@@ -1,7 +1,7 @@
 -- The text of an event in a file: its tokens, as a reader of JSON finds them.
-use Rattle.std.proofs.Common.{◌≡◌, ◌≢◌, ◌∙◌, ◌⊎◌, ◌&&◌, ◌==◌, ◌<◌, ◌≤◌, ◌^◌, ℕ, Bool, true, false, List, [], ◌∷◌, ◌++◌, Option, refl, sym, ap, ap₂, subst, arith, append_assoc, decimal, inl, inr, IsUtf8, map, nat_le}
+use Rattle.std.proofs.Common.{◌≡◌, ◌≢◌, ◌∙◌, ◌⊎◌, ◌<◌, ◌≤◌, ◌^◌, ℕ, Bool, true, false, List, [], ◌∷◌, ◌++◌, Option, refl, sym, ap, ap₂, subst, arith, append_assoc, decimal, inl, inr, IsUtf8, map}
 use Rattle.std.specs.List.{list_all}
-use Rattle.std.proofs.lemmas.Bool.{and_parts, lt-ltb, or_cases}
+use Rattle.std.proofs.lemmas.Bool.{and_parts, lt-ltb}
 use Rattle.std.proofs.lemmas.Bool.Decides.{nat_tests}
 use Rattle.std.proofs.lemmas.Fmt.{IsAscii-decimal}
 use Rattle.std.proofs.lemmas.Str.{IsUtf8-append, IsUtf8-from_ascii, IsUtf8-nil}
@@ -35,30 +35,9 @@ use Rattle.mx_format.specs.EventArrays.{item_text, quoted, value_text}
 abbrev IsPlainByte : ℕ → Type 0
 IsPlainByte x = (x ≢ 34) × (x ≢ 92) × (32 ≤ x) × (x < 128)
 
-between_plain : (a b x : ℕ) → 93 ≤ a ⊎ b < 92 → 35 ≤ a → b < 128 → nat_le a x && nat_le x b ≡ true → IsPlainByte x
-between_plain a b x apart low high h =
-    let both = and_parts (nat_le a x) (nat_le x b) h in
-    let l : a ≤ x = grind (arith, nat_tests, both.0) in
-    let u : x ≤ b = grind (arith, nat_tests, both.1) in
-    (λ e. omega arith, λ e. elim apart [ inl g ↦ omega arith | inr g ↦ omega arith ], omega arith, omega arith)
-
-one_plain : (a x : ℕ) → (a ≡ 95) ⊎ (a ≡ 45) → (x == a) ≡ true → IsPlainByte x
-one_plain a x which h =
-    let is : x ≡ a = grind (arith, nat_tests, h) in
-    elim which [ inl e ↦ (λ f. omega arith, λ f. omega arith, omega arith, omega arith) | inr e ↦ (λ f. omega arith, λ f. omega arith, omega arith, omega arith) ]
-
 plain_byte : (x : ℕ) → is_name_byte x ≡ true → IsPlainByte x
 unfolding is_name_byte
-plain_byte x h = elim (or_cases _ _ h) [
-  | inl digit ↦ between_plain 48 57 x (inr (omega arith)) (omega arith) (omega arith) digit
-  | inr rest ↦ elim (or_cases _ _ rest) [
-    | inl upper ↦ between_plain 65 90 x (inr (omega arith)) (omega arith) (omega arith) upper
-    | inr more ↦ elim (or_cases _ _ more) [
-      | inl lower ↦ between_plain 97 122 x (inl (omega arith)) (omega arith) (omega arith) lower
-      | inr last ↦ elim (or_cases _ _ last) [ inl e ↦ one_plain 95 x (inl refl) e | inr e ↦ one_plain 45 x (inr refl) e ]
-    ]
-  ]
-]
+plain_byte x h = (λ e. grind (arith, nat_tests), λ e. grind (arith, nat_tests), grind (arith, nat_tests), grind (arith, nat_tests))
 
 -- each byte of a word is one of a name
 abbrev pub IsWord : Text → Type 0

@@ -12,17 +12,15 @@ use Rattle.mx_network.specs.Step.{ClusterState, IsFaultOf, step_of}
 use Rattle.mx_network.specs.declared.faults.StepFault.{StepFault}
 use Rattle.mx_trace.specs.declared.outcome.Entry.{Entry}
 use Rattle.mx_events.specs.declared.event.Event.{Event}
-use Rattle.mx_events.specs.declared.event.Event.TheVariants.{Deliver}
 use Rattle.mx_plan.specs.Text.{Text}
 use Rattle.mx_plan.specs.Fields.{Fields}
 use Rattle.mx_lines.specs.Names.{known_of, texts_of}
-use Rattle.mx_lines.specs.declared.line.Line.{Line}
 use Rattle.mx_lines.specs.declared.line.ScriptLine.{ScriptLine}
 use Rattle.mx_lines.specs.declared.line.ScriptLine.TheVariants as script_line
 use Rattle.mx_lines.specs.declared.orders.Order.{Order}
 use Rattle.mx_lines.specs.declared.orders.Order.TheVariants as order
 use Rattle.mx_lines.specs.declared.orders.Scope.TheVariants.{Link}
-use Rattle.mx_scripts.specs.Expectations.{IsMet, IsNotMet}
+use Rattle.mx_scripts.specs.Expectations.{IsNotMet}
 use Rattle.mx_scripts.specs.Fates.{Fates, is_under_way}
 use Rattle.mx_scripts.specs.Lines.{DoesAll, DoesRead, DoesText, IsNext, Once, Performs, IsNotDone, Misreads, Reads, Repeats, StopsAfter, StopsAt, StopsBy, StopsWithin, number_after, of_line}
 use Rattle.mx_scripts.specs.Files.{file_text}
@@ -48,55 +46,35 @@ if_some : {A : Type 0} (b : Bool) (x e : A) → ◌≡◌ {A = Option A} (Some e
 if_some true x e is = (refl, cc)
 if_some false x e is = absurd (not_none e is)
 
--- ---- an event that is next is over the names of its order
+-- ---- an event that is next is over the names of its order, and may happen where it is no delivery over a cut link
 
 module _ {P : Type 0} (d : Fates) (sent : List (ℕ × ℕ × P)) (nodes registers : ℕ) where
   abbrev Drawn : SessionEvent → Type 0
   Drawn e = IsDrawnOf nodes registers e
 
   pub next_drawn : (o : Order) (done : ℕ) (e : SessionEvent) → IsOver nodes registers o → IsNext d sent o done (Some e) → IsDrawnOf nodes registers e
-  next_drawn (order.Happens event) zero e over is = subst Drawn (sym is) over
-  next_drawn (order.Happens event) (suc done) e over is = absurd (not_none e is)
-  next_drawn (order.Arrives from to) zero e over is = subst Drawn (sym is.2) tt
-  next_drawn (order.Arrives from to) (suc done) e over is = absurd (not_none e is)
-  next_drawn (order.AllArrive scope) done e over is = subst Drawn (sym is.2) tt
-  next_drawn (order.IsLost from to) zero e over is = subst Drawn (sym is.2) tt
-  next_drawn (order.IsLost from to) (suc done) e over is = absurd (not_none e is)
-  next_drawn (order.ParcelIsLost k) done e over is = subst Drawn (sym (if_some (is_under_way d k) (IsLost k) e is.1).1) tt
-  next_drawn (order.AllAreLost scope) done e over is = subst Drawn (sym is.2) tt
-  next_drawn (order.ArrivesAgain from to) zero e over is = subst Drawn (sym is.2) tt
-  next_drawn (order.ArrivesAgain from to) (suc done) e over is = absurd (not_none e is)
-  next_drawn (order.LinksChange change) zero e over is = subst Drawn (sym is) tt
-  next_drawn (order.LinksChange change) (suc done) e over is = absurd (not_none e is)
-  next_drawn (order.Parts sides) done e over is = subst Drawn (sym is.2) tt
-
--- ---- an event that is next may happen, where it is no delivery over a link that is cut
+  next_drawn o done (IsLost k) over is = tt
+  next_drawn o done (LinksChange change) over is = tt
+  next_drawn (order.Happens event) zero (Happens e) over is = subst Drawn (sym is) over
+  next_drawn (order.Arrives from to) zero (Happens e) over is = subst Drawn (sym is.2) tt
+  next_drawn (order.AllArrive scope) done (Happens e) over is = subst Drawn (sym is.2) tt
+  next_drawn (order.ArrivesAgain from to) zero (Happens e) over is = subst Drawn (sym is.2) tt
+  next_drawn (order.ParcelIsLost k) done (Happens e) over is = subst Drawn (sym (if_some (is_under_way d k) (IsLost k) (Happens e) is.1).1) tt
+  next_drawn _ zero (Happens e) over is = absurd (cc)
+  next_drawn _ (suc done) (Happens e) over is = absurd (cc)
 
 module _ {S M : Type 0} (s : RunState S M) where
-  abbrev Allowed : SessionEvent → Type 0
-  Allowed e = IsAllowed s e
-
-  lost_allowed : (e : SessionEvent) (k : ℕ) → IsTrue (is_under_way s.fates k) → e ≡ IsLost k → IsAllowed s e
-  lost_allowed e k way is = subst Allowed (sym is) way
-
-  admitted : (e : SessionEvent) (event : Event) → Admits s (Some e) → e ≡ Happens event → IsAllowed s e
-  admitted e event admits is = subst Allowed (sym is) (subst (λ (x : SessionEvent). Admits s (Some x)) is admits)
+  lost_allowed : (j k : ℕ) → IsTrue (is_under_way s.fates j) → ◌≡◌ {A = SessionEvent} (IsLost k) (IsLost j) → IsTrue (is_under_way s.fates k)
+  lost_allowed j k way is = let same : k ≡ j = cc in subst (λ (n : ℕ). IsTrue (is_under_way s.fates n)) (sym same) way
 
   next_some : (o : Order) (done : ℕ) (e : SessionEvent) → IsNext s.fates s.cluster.sent o done (Some e) → Admits s (Some e) → IsAllowed s e
-  next_some (order.Happens event) zero e is admits = admitted e event admits is
-  next_some (order.Happens event) (suc done) e is admits = absurd (not_none e is)
-  next_some (order.Arrives from to) zero e is admits = admitted e (Deliver is.0) admits is.2
-  next_some (order.Arrives from to) (suc done) e is admits = absurd (not_none e is)
-  next_some (order.AllArrive scope) done e is admits = admitted e (Deliver is.0) admits is.2
-  next_some (order.IsLost from to) zero e is admits = lost_allowed e is.0 (waiting_under_way s.fates s.cluster.sent (Link from to) is.0 is.1.0) is.2
-  next_some (order.IsLost from to) (suc done) e is admits = absurd (not_none e is)
-  next_some (order.ParcelIsLost k) done e is admits = let lost = if_some (is_under_way s.fates k) (IsLost k) e is.1 in lost_allowed e k lost.0 lost.1
-  next_some (order.AllAreLost scope) done e is admits = lost_allowed e is.0 (waiting_under_way s.fates s.cluster.sent scope is.0 is.1.0) is.2
-  next_some (order.ArrivesAgain from to) zero e is admits = admitted e (Deliver is.0) admits is.2
-  next_some (order.ArrivesAgain from to) (suc done) e is admits = absurd (not_none e is)
-  next_some (order.LinksChange change) zero e is admits = subst Allowed (sym is) tt
-  next_some (order.LinksChange change) (suc done) e is admits = absurd (not_none e is)
-  next_some (order.Parts sides) done e is admits = subst Allowed (sym is.2) tt
+  next_some o done (Happens event) is admits = admits
+  next_some o done (LinksChange change) is admits = tt
+  next_some (order.IsLost from to) zero (IsLost k) is admits = lost_allowed is.0 k (waiting_under_way s.fates s.cluster.sent (Link from to) is.0 is.1.0) is.2
+  next_some (order.AllAreLost scope) done (IsLost k) is admits = lost_allowed is.0 k (waiting_under_way s.fates s.cluster.sent scope is.0 is.1.0) is.2
+  next_some (order.ParcelIsLost j) done (IsLost k) is admits = let lost = if_some (is_under_way s.fates j) (IsLost j) (IsLost k) is.1 in lost_allowed j k lost.0 lost.1
+  next_some _ zero (IsLost k) is admits = absurd (cc)
+  next_some _ (suc done) (IsLost k) is admits = absurd (cc)
 
   pub next_allowed : (o : Order) (done : ℕ) (next : Option SessionEvent) → IsNext s.fates s.cluster.sent o done next → Admits s next → IfSome next (IsAllowed s)
   next_allowed o done None is admits = tt
@@ -160,10 +138,14 @@ pub err_of : {T E : Type 0} (P : E → Type 0) (r : Result T E) (why : E) → Is
 err_of P (Ok t) why h p = tt
 err_of P (Err w) why h p = subst P (sym h) p
 
--- an error that is one, and so the other
-pub err_then : {T E : Type 0} {P Q : E → Type 0} (r : Result T E) → ((why : E) → P why → Q why) → IfErr r P → IfErr r Q
-err_then (Ok t) f p = tt
-err_then (Err why) f p = f why p
+-- what follows from what is known of an error, and of a result without one
+pub err_then : {T E : Type 0} {P Q : E → Type 0} (r : Result T E) → IfErr r P → ((why : E) → P why → Q why) → IfErr r Q
+err_then (Ok t) p f = tt
+err_then (Err why) p f = f why p
+
+pub ok_then : {T E P Q : Type 0} (r : Result T E) → OnOk r P → (P → Q) → OnOk r Q
+ok_then (Ok t) p f = f p
+ok_then (Err why) p f = tt
 
 module _ {H S M : Type 0} (core : Core H S M) (fates : Fates) where
   abbrev with_cluster : ClusterState S M → RunState S M
@@ -180,45 +162,58 @@ module _ {H S M : Type 0} (core : Core H S M) (fates : Fates) where
   not_applied (Err why) old new e fault h is same =
       subst (λ (w : LineFailure). IsNotApplied core (with_cluster old) (Happens e) (with_cluster new) w) (sym h) (refused_by old new e fault is same)
 
--- ---- the events of the lines lead from one cluster to another
-
-module _ {H S M : Type 0} (core : Core H S M) (nodes registers : ℕ) where
-  abbrev From : ClusterState S M → ClusterState S M → Type 0
-  From old new = Plays core nodes registers old new
-
-  plays_same : (old new : ClusterState S M) → new ≡ old → From old new
-  plays_same old new is = subst (λ (g : ClusterState S M). From old g) (sym is) (λ start played. played)
-
-  plays_brought : (old new : RunState S M) (e : SessionEvent) → Brings core old e new → IsDrawnOf nodes registers e → From old.cluster new.cluster
-  plays_brought old new (Happens event) brings drawn = plays_step core nodes registers old.cluster new.cluster event brings.0 drawn
-  plays_brought old new (IsLost k) brings drawn = plays_same old.cluster new.cluster brings.0
-  plays_brought old new (LinksChange change) brings drawn = plays_same old.cluster new.cluster brings.0
-
-  performs_plays : (o : Order) (done : ℕ) (es : List SessionEvent) (old new : RunState S M) → IsOver nodes registers o → Performs core o done old es new → From old.cluster new.cluster
-  performs_plays o done [] old new over x = plays_same old.cluster new.cluster (ap (λ (s : RunState S M). s.cluster) x.0)
-  performs_plays o done (e ∷ es) old new over x =
-      let mid : RunState S M = x.0 in
-      let first = plays_brought old mid e x.3 (next_drawn old.fates old.cluster.sent nodes registers o done e over x.1) in
-      let rest = performs_plays o (suc done) es mid new over x.4 in
-      λ start played. rest start (first start played)
-
-  repeats_plays : (o : Order) (times : ℕ) (es : List SessionEvent) (old new : RunState S M) → IsOver nodes registers o → Repeats core o times old es new → From old.cluster new.cluster
-  repeats_plays o zero es old new over x = plays_same old.cluster new.cluster (ap (λ (s : RunState S M). s.cluster) x.0)
-  repeats_plays o (suc times) es old new over x =
-      let mid : RunState S M = x.0 in
-      let first = performs_plays o 0 x.1 old mid over x.3 in
-      let rest = repeats_plays o times x.2 mid new over x.5 in
-      λ start played. rest start (first start played)
-
--- ---- no more events happen than may
-
-same_few : {S M : Type 0} (old new : RunState S M) → new ≡ old → length old.cluster.trace ≤ MAX_EVENTS → length new.cluster.trace ≤ MAX_EVENTS
-same_few {S} {M} old new is few = subst (λ (s : RunState S M). length s.cluster.trace ≤ MAX_EVENTS) (sym is) few
+-- ---- what lines do, as a chain of events that lead from one state to another
 
 same_trace_few : {S M : Type 0} (old new : ClusterState S M) → new ≡ old → length old.trace ≤ MAX_EVENTS → length new.trace ≤ MAX_EVENTS
 same_trace_few {S} {M} old new is few = subst (λ (g : ClusterState S M). length g.trace ≤ MAX_EVENTS) (sym is) few
 
-module _ {H S M : Type 0} (core : Core H S M) where
+module _ {H S M : Type 0} (core : Core H S M) (nodes registers : ℕ) where
+  -- all this happens in turn, each in a state that allows it, and names only these nodes and registers
+  abbrev pub Chain : RunState S M → List Happening → RunState S M → Type 0
+  Chain old [] new = new ≡ old
+  Chain old (h ∷ hs) new = (mid : RunState S M) × IsDrawnOf nodes registers h.event × IsAllowed old h.event × Brings core old h.event mid × Chain mid hs new
+
+  chain_append : (hs more : List Happening) (old mid new : RunState S M) → Chain old hs mid → Chain mid more new → Chain old (hs ++ more) new
+  chain_append [] more old mid new x y = subst (λ (s : RunState S M). Chain s more new) x y
+  chain_append (h ∷ hs) more old mid new x y = (x.0, x.1, x.2, x.3, chain_append hs more x.0 mid new x.4 y)
+
+  still_chain : (number : ℕ) (es : List SessionEvent) (old new : RunState S M) → new ≡ old → es ≡ [] → Chain old (of_line number es) new
+  still_chain number es old new same none = subst (λ (l : List SessionEvent). Chain old (of_line number l) new) (sym none) same
+
+  module _ (number : ℕ) (o : Order) (over : IsOver nodes registers o) where
+    performs_chain : (done : ℕ) (es : List SessionEvent) (old new : RunState S M) → Performs core o done old es new → Chain old (of_line number es) new
+    performs_chain done [] old new x = x.0
+    performs_chain done (e ∷ es) old new x = (x.0, next_drawn old.fates old.cluster.sent nodes registers o done e over x.1, x.2, x.3, performs_chain (suc done) es x.0 new x.4)
+
+    repeats_chain : (times : ℕ) (es : List SessionEvent) (old new : RunState S M) → Repeats core o times old es new → Chain old (of_line number es) new
+    repeats_chain zero es old new x = still_chain number es old new x.0 x.1
+    repeats_chain (suc times) es old new x =
+        subst (λ (l : List Happening). Chain old l new)
+        (sym (ap (of_line number) x.4 ∙ map-append (λ (e : SessionEvent). let h : Happening = record { line = number; event = e } in h) x.1 x.2))
+        (chain_append (of_line number x.1) (of_line number x.2) old x.0 new (performs_chain 0 x.1 old x.0 x.3) (repeats_chain times x.2 x.0 new x.5))
+
+  read_chain : (number : ℕ) (text : Text) (read : ScriptLine) (es : List SessionEvent) (old new : RunState S M) → IsLineOver nodes registers read → DoesRead core text read old es new
+      → Chain old (of_line number es) new
+  read_chain number text (script_line.Does line) es old new over x = repeats_chain number line.order over line.times es old new x
+  read_chain number text script_line.Expects es old new over x = still_chain number es old new x.0.0 x.0.1
+  read_chain number text script_line.Nothing es old new over x = still_chain number es old new x.0 x.1
+
+  -- ---- it leads from one cluster to another
+
+  plays_same : (old new : ClusterState S M) → new ≡ old → Plays core nodes registers old new
+  plays_same old new is = subst (λ (g : ClusterState S M). Plays core nodes registers old g) (sym is) (λ start played. played)
+
+  plays_brought : (e : SessionEvent) (old new : RunState S M) → Brings core old e new → IsDrawnOf nodes registers e → Plays core nodes registers old.cluster new.cluster
+  plays_brought (Happens event) old new brings drawn = plays_step core nodes registers old.cluster new.cluster event brings.0 drawn
+  plays_brought (IsLost k) old new brings drawn = plays_same old.cluster new.cluster brings.0
+  plays_brought (LinksChange change) old new brings drawn = plays_same old.cluster new.cluster brings.0
+
+  chain_plays : (hs : List Happening) (old new : RunState S M) → Chain old hs new → Plays core nodes registers old.cluster new.cluster
+  chain_plays [] old new x = plays_same old.cluster new.cluster (ap (λ (s : RunState S M). s.cluster) x)
+  chain_plays (h ∷ hs) old new x = λ start played. chain_plays hs x.0 new x.4 start (plays_brought h.event old x.0 x.3 x.1 start played)
+
+  -- ---- and has no more events than may happen
+
   longer : (old new : ClusterState S M) (e : Event) → step_of core old e ≡ Ok new → length new.trace ≡ length old.trace + 1
   longer old new e step =
       let more : length (events_of new.trace) ≡ length (events_of old.trace ++ e ∷ []) = ap (λ (es : List Event). length es) (noted core old new e step) in
@@ -235,75 +230,34 @@ module _ {H S M : Type 0} (core : Core H S M) where
   brought_few (IsLost k) old new allowed brings few = same_trace_few old.cluster new.cluster brings.0 few
   brought_few (LinksChange change) old new allowed brings few = same_trace_few old.cluster new.cluster brings.0 few
 
-  performs_few : (o : Order) (done : ℕ) (es : List SessionEvent) (old new : RunState S M) → Performs core o done old es new → length old.cluster.trace ≤ MAX_EVENTS
-      → length new.cluster.trace ≤ MAX_EVENTS
-  performs_few o done [] old new x few = same_few old new x.0 few
-  performs_few o done (e ∷ es) old new x few =
-      let mid : RunState S M = x.0 in
-      performs_few o (suc done) es mid new x.4 (brought_few e old mid x.2 x.3 few)
-
-  repeats_few : (o : Order) (times : ℕ) (es : List SessionEvent) (old new : RunState S M) → Repeats core o times old es new → length old.cluster.trace ≤ MAX_EVENTS
-      → length new.cluster.trace ≤ MAX_EVENTS
-  repeats_few o zero es old new x few = same_few old new x.0 few
-  repeats_few o (suc times) es old new x few =
-      let mid : RunState S M = x.0 in
-      repeats_few o times x.2 mid new x.5 (performs_few o 0 x.1 old mid x.3 few)
-
-  does_few : (text : Text) (read : ScriptLine) (es : List SessionEvent) (old new : RunState S M) → DoesRead core text read old es new → length old.cluster.trace ≤ MAX_EVENTS
-      → length new.cluster.trace ≤ MAX_EVENTS
-  does_few text (script_line.Does line) es old new x few = repeats_few line.order line.times es old new x few
-  does_few text script_line.Expects es old new x few = same_few old new x.0.0 few
-  does_few text script_line.Nothing es old new x few = same_few old new x.0 few
+  chain_few : (hs : List Happening) (old new : RunState S M) → Chain old hs new → length old.cluster.trace ≤ MAX_EVENTS → length new.cluster.trace ≤ MAX_EVENTS
+  chain_few [] old new x few = same_trace_few old.cluster new.cluster (ap (λ (s : RunState S M). s.cluster) x) few
+  chain_few (h ∷ hs) old new x few = chain_few hs x.0 new x.4 (brought_few h.event old x.0 x.2 x.3 few)
 
 module _ {H S M : Type 0} (core : Core H S M) (p : Fields) where
-  plays_still : (old new : RunState S M) → new ≡ old → Plays core (length p.nodes) (length p.registers) old.cluster new.cluster
-  plays_still old new is = plays_same core (length p.nodes) (length p.registers) old.cluster new.cluster (ap (λ (s : RunState S M). s.cluster) is)
-
-  does_plays : (text : Text) (read : ScriptLine) (es : List SessionEvent) (old new : RunState S M) → IsLineOver (length p.nodes) (length p.registers) read → DoesRead core text read old es new
-      → Plays core (length p.nodes) (length p.registers) old.cluster new.cluster
-  does_plays text (script_line.Does line) es old new over x = repeats_plays core (length p.nodes) (length p.registers) line.order line.times es old new over x
-  does_plays text script_line.Expects es old new over x = plays_still old new x.0.0
-  does_plays text script_line.Nothing es old new over x = plays_still old new x.0
-
-  text_plays : (text : Text) (es : List SessionEvent) (old new : RunState S M) → DoesText core p text old es new → Plays core (length p.nodes) (length p.registers) old.cluster new.cluster
-  text_plays text es old new x =
-      let reads = x.1 in
-      does_plays text x.0 es old new (read_over (known_of p) (texts_of reads.0) x.0 (sym reads.2)) x.2
-
-  -- the events of all lines lead from one cluster to another
-  pub all_plays : (done : ℕ) (texts : List Text) (hs : List Happening) (old new : RunState S M) → DoesAll core p done texts old hs new
-      → Plays core (length p.nodes) (length p.registers) old.cluster new.cluster
-  all_plays done [] hs old new x = plays_same core (length p.nodes) (length p.registers) old.cluster new.cluster (ap (λ (s : RunState S M). s.cluster) x.0)
-  all_plays done (text ∷ texts) hs old new x =
-      let mid : RunState S M = x.0 in
-      let first = text_plays text x.1 old mid x.3 in
-      let rest = all_plays (suc done) texts x.2 mid new x.5 in
-      λ start played. rest start (first start played)
-
-  -- ---- there are no more events than may be
-
-  text_few : (text : Text) (es : List SessionEvent) (old new : RunState S M) → DoesText core p text old es new → length old.cluster.trace ≤ MAX_EVENTS → length new.cluster.trace ≤ MAX_EVENTS
-  text_few text es old new x few = does_few core text x.0 es old new x.2 few
-
-  pub all_few : (done : ℕ) (texts : List Text) (hs : List Happening) (old new : RunState S M) → DoesAll core p done texts old hs new → length old.cluster.trace ≤ MAX_EVENTS
-      → length new.cluster.trace ≤ MAX_EVENTS
-  all_few done [] hs old new x few = same_few old new x.0 few
-  all_few done (text ∷ texts) hs old new x few =
-      let mid : RunState S M = x.0 in
-      all_few (suc done) texts x.2 mid new x.5 (text_few text x.1 old mid x.3 few)
+  pub all_chain : (done : ℕ) (texts : List Text) (hs : List Happening) (old new : RunState S M) → DoesAll core p done texts old hs new → Chain core (length p.nodes) (length p.registers) old hs new
+  all_chain done [] hs old new x = subst (λ (l : List Happening). Chain core (length p.nodes) (length p.registers) old l new) (sym x.1) x.0
+  all_chain done (text ∷ texts) hs old new x =
+      let line = x.3 in
+      let reads = line.1 in
+      let over = read_over (known_of p) (texts_of reads.0) line.0 reads.2 in
+      subst (λ (l : List Happening). Chain core (length p.nodes) (length p.registers) old l new) (sym x.4)
+      (chain_append core (length p.nodes) (length p.registers) (of_line (number_after done) x.1) x.2 old x.0 new
+      (read_chain core (length p.nodes) (length p.registers) (number_after done) text line.0 x.1 old x.0 over line.2) (all_chain (suc done) texts x.2 x.0 new x.5))
 
   -- the file of what lines did, from before any parcel was sent
   pub file_from : (script : Text) (start : ClusterState S M) (hs : List Happening) (old last : RunState S M) (text : Text) → old ≡ before_any start → start.trace ≡ []
       → DoesAll core p 0 (lines script) old hs last → text ≡ file_text p (events_of last.cluster.trace) → IsFileOfScript core p start script text
   file_from script start hs old last text fresh empty done is =
       let does : DoesAll core p 0 (lines script) (before_any start) hs last = subst (λ (s : RunState S M). DoesAll core p 0 (lines script) s hs last) fresh done in
+      let chain = all_chain 0 (lines script) hs (before_any start) last does in
       record {
         happened = hs;
         last = last;
         does = does;
         is = is;
-        few = all_few 0 (lines script) hs (before_any start) last does (subst (λ (t : List Entry). length t ≤ MAX_EVENTS) (sym empty) (omega arith));
-        file = file_of_played core p start last.cluster last.cluster.trace text empty (all_plays 0 (lines script) hs (before_any start) last does) refl is;
+        few = chain_few core (length p.nodes) (length p.registers) hs (before_any start) last chain (subst (λ (t : List Entry). length t ≤ MAX_EVENTS) (sym empty) (omega arith));
+        file = file_of_played core p start last.cluster last.cluster.trace text empty (chain_plays core (length p.nodes) (length p.registers) hs (before_any start) last chain) refl is;
       }
 
   -- lines that give no file, from before any parcel was sent
@@ -345,42 +299,16 @@ module _ {H S M : Type 0} (core : Core H S M) (p : Fields) where
       (subst (λ (n : ℕ). DoesAll core p 0 (texts_of lines ++ line.now ∷ []) old (hs ++ of_line (number_after n) es) new) count
       (all_more 0 (texts_of lines) line.now hs es old mid new x y))
 
-  module _ (X : List SessionEvent → Type 0) where
-    -- the events that do a line satisfy X
-    abbrev pub DoesSo : Text → RunState S M → RunState S M → Type 0
-    DoesSo text old new = (es : List SessionEvent) × DoesText core p text old es new × X es
-
-    pub line_does : {T E : Type 0} (r : Result T E) (text : Text) (line : Line) (old new : RunState S M) → Reads p text (script_line.Does line)
-        → OnOk r ((es : List SessionEvent) × Repeats core line.order line.times old es new × X es) → OnOk r (DoesSo text old new)
-    line_does (Ok t) text line old new reads x = (x.0, (script_line.Does line, reads, x.1), x.2)
-    line_does (Err e) text line old new reads x = tt
-
-    -- the newest item has the outcome that the line expects
-    pub expected_done : {T E : Type 0} (r : Result T E) (text : Text) (old : RunState S M) → Reads p text script_line.Expects → X [] → OnOk r (IsMet text old.cluster.trace)
-        → OnOk r (DoesSo text old old)
-    expected_done (Ok t) text old reads told x = ([], (script_line.Expects, reads, ((refl, refl), x)), told)
-    expected_done (Err e) text old reads told x = tt
-
   -- ---- a line that is not done
 
   pub misread : (text : Text) (old : RunState S M) (why : LineFailure) → (why ≡ failure.Memory) ⊎ Misreads p text why → IsNotDone core p text old why
   misread text old why (inl x) = inl x
   misread text old why (inr x) = inr (inl x)
 
-  pub not_repeated : {T : Type 0} (r : Result T LineFailure) (text : Text) (line : Line) (old : RunState S M) → Reads p text (script_line.Does line)
-      → IfErr r (StopsWithin core line.order line.times old) → IfErr r (IsNotDone core p text old)
-  not_repeated (Ok t) text line old reads x = tt
-  not_repeated (Err why) text line old reads x = inr (inr (inl (line, reads, x)))
-
-  not_met : (text : Text) (old : RunState S M) (why : LineFailure) → Reads p text script_line.Expects → (why ≡ failure.Memory) ⊎ IsNotMet text old.cluster.trace why → IsNotDone core p text old why
+  -- the newest item has not the outcome that the line expects
+  pub not_met : (text : Text) (old : RunState S M) (why : LineFailure) → Reads p text script_line.Expects → (why ≡ failure.Memory) ⊎ IsNotMet text old.cluster.trace why → IsNotDone core p text old why
   not_met text old why reads (inl x) = inl x
   not_met text old why reads (inr x) = inr (inr (inr (reads, x)))
-
-  -- the newest item has not the outcome that the line expects
-  pub not_expected : {T : Type 0} (r : Result T LineFailure) (text : Text) (old : RunState S M) → Reads p text script_line.Expects
-      → IfErr r (λ why. (why ≡ failure.Memory) ⊎ IsNotMet text old.cluster.trace why) → IfErr r (IsNotDone core p text old)
-  not_expected (Ok t) text old reads x = tt
-  not_expected (Err why) text old reads x = not_met text old why reads x
 
   -- the line after those that were yielded is not done
   pub stops_here : (texts : List Text) (yielded : List (Bor Text)) (text : Text) (hs : List Happening) (old mid : RunState S M) (why : LineFailure) → DoesAll core p 0 (texts_of yielded) old hs mid

@@ -13,21 +13,9 @@ use Rattle.mx_scripts.specs.Links.{link_of}
 use Rattle.mx_scripts.specs.States.{Brings, RunState}
 use Rattle.mx_scripts.specs.declared.state.SessionEvent.TheVariants.{Happens}
 use Rattle.mx_scripts.specs.declared.under_way.ListedParcel.{ListedParcel}
-use Rattle.mx_scripts.proofs.UnderWayLemmas.{length-without}
+use Rattle.mx_scripts.proofs.UnderWayLemmas.{at_more, at_without, length-without}
 
 -- ---- a parcel more is listed
-
-link_more : {P : Type 0} (sent : Option (ℕ × ℕ × P)) (ps : List ListedParcel) (q : ListedParcel) (k : ℕ) → HasLink sent (slice_get ps k) → (k ≡ length ps → HasLink sent (Some q)) → HasLink sent (slice_get (ps ++ q ∷ []) k)
-link_more sent [] q zero h new = new refl
-link_more sent [] q (suc k) h new = h
-link_more sent (p ∷ ps) q zero h new = h
-link_more sent (p ∷ ps) q (suc k) h new = link_more sent ps q k h (λ e. new (ap suc e))
-
-gone_more : (IsSo : Type 0) (ps : List ListedParcel) (q : ListedParcel) (k : ℕ) → IsGone IsSo (slice_get ps k) → (IsTrue q.is_gone → ⊥) → IsGone IsSo (slice_get (ps ++ q ∷ []) k)
-gone_more IsSo [] q zero h not_gone = λ gone. absurd (not_gone gone)
-gone_more IsSo [] q (suc k) h not_gone = h
-gone_more IsSo (p ∷ ps) q zero h not_gone = h
-gone_more IsSo (p ∷ ps) q (suc k) h not_gone = gone_more IsSo ps q k h not_gone
 
 not_gone : IsTrue false → ⊥
 not_gone e = cc
@@ -41,8 +29,8 @@ module _ {P : Type 0} (sent : List (ℕ × ℕ × P)) (gone : List Bool) (ps : L
   listed_more from to parcel at =
       let q : ListedParcel = record { link = link_of from to; is_gone = false } in
       record {
-        links = λ k. link_more (slice_get sent k) ps q k (old.links k) (new_link k from to parcel at);
-        lost = λ k. gone_more _ ps q k (old.lost k) not_gone;
+        links = λ k. at_more (HasLink (slice_get sent k)) ps q k (old.links k) (λ is none. new_link k from to parcel at is);
+        lost = λ k. at_more (IsGone (IsTrue (get_or gone k false))) ps q k (old.lost k) (λ is none gone. absurd (not_gone gone));
         all = let one = length-append ps (q ∷ []) in let all = old.all in omega (arith, one, all);
       }
 
@@ -89,20 +77,6 @@ link_same : {P : Type 0} (sent : Option (ℕ × ℕ × P)) (p : ListedParcel) (i
 link_same None p is_gone h = h
 link_same (Some s) p is_gone h = h
 
-link_without : {P : Type 0} (sent : Option (ℕ × ℕ × P)) (number : ℕ) (ps : List ListedParcel) (k : ℕ) → HasLink sent (slice_get ps k) → HasLink sent (slice_get (without number ps) k)
-link_without sent number [] k h = h
-link_without sent zero (p ∷ ps) zero h = link_same sent p true h
-link_without sent zero (p ∷ ps) (suc k) h = h
-link_without sent (suc number) (p ∷ ps) zero h = h
-link_without sent (suc number) (p ∷ ps) (suc k) h = link_without sent number ps k h
-
-gone_without : (IsSo : Type 0) (number : ℕ) (ps : List ListedParcel) (k : ℕ) → IsGone IsSo (slice_get ps k) → (k ≡ number → k < length ps → IsSo) → IsGone IsSo (slice_get (without number ps) k)
-gone_without IsSo number [] k h new = h
-gone_without IsSo zero (p ∷ ps) zero h new = λ gone. new refl (omega arith)
-gone_without IsSo zero (p ∷ ps) (suc k) h new = h
-gone_without IsSo (suc number) (p ∷ ps) zero h new = h
-gone_without IsSo (suc number) (p ∷ ps) (suc k) h new = gone_without IsSo number ps k h (λ e lt. new (ap suc e) (omega (arith, lt)))
-
 gone_set : (gone : List Bool) (number k : ℕ) → IsTrue (get_or gone k false) → IsTrue (get_or (slice_set gone number true) k false)
 gone_set [] number k h = h
 gone_set (g ∷ gone) zero zero h = refl
@@ -117,9 +91,9 @@ gone_here gone number k is lt =
 pub listed_without : {P : Type 0} (sent : List (ℕ × ℕ × P)) (gone : List Bool) (ps : List ListedParcel) (number : ℕ) → IsListed sent gone ps → (number < length ps → number < length gone)
     → IsListed sent (slice_set gone number true) (without number ps)
 listed_without sent gone ps number old within = record {
-  links = λ k. link_without (slice_get sent k) number ps k (old.links k);
-  lost = λ k. gone_without _ number ps k (gone_on _ _ (slice_get ps k) (old.lost k) (gone_set gone number k))
-      (λ is lt. gone_here gone number k is (subst (λ (n : ℕ). n < length gone) (sym is) (within (subst (λ (n : ℕ). n < length ps) is lt))));
+  links = λ k. at_without (HasLink (slice_get sent k)) number ps k (old.links k) (λ p is lt h. link_same (slice_get sent k) p true h);
+  lost = λ k. at_without (IsGone (IsTrue (get_or (slice_set gone number true) k false))) number ps k (gone_on _ _ (slice_get ps k) (old.lost k) (gone_set gone number k))
+      (λ p is lt h so. gone_here gone number k is (subst (λ (n : ℕ). n < length gone) (sym is) (within (subst (λ (n : ℕ). n < length ps) is lt))));
   all =
       let all = old.all in
       let set = length-set gone number true in

@@ -17,7 +17,7 @@ use Rattle.serde_json.specs.Read.{read, of_json, of_items, max_depth}
 use Rattle.serde_json.proofs.Numbers.{number_of-decimal}
 use Rattle.mx_stamps.specs.Lists.{IsIn}
 use Rattle.mx_events.specs.declared.event.Event.{Event}
-use Rattle.mx_events.specs.declared.event.Event.TheVariants.{Ask, Enter, Read, Write, Leave, Cancel, Tick, Want, Settle, Restart, Deliver}
+use Rattle.mx_events.specs.declared.event.Event.TheVariants.{Read, Write, Want, Settle, Deliver}
 use Rattle.mx_plan.specs.Text.{Text, is_name, is_name_byte, has_double}
 use Rattle.mx_plan.specs.Fields.{Fields, IsPlan}
 use Rattle.mx_plan.specs.Values.{each_from, list_of, value_of}
@@ -190,31 +190,20 @@ module _ (p : Fields) (valid : IsPlan p) where
   IsNamed e = IsDrawn (length p.nodes) (length p.registers) e
 
   parts_are : (e : Event) → IsNamed e → IsNumbered e → AreParts (parts_of p e)
-  parts_are (Ask node) h n = (node_word node h, tt)
-  parts_are (Enter node) h n = (node_word node h, tt)
   parts_are (Read node register) h n = (node_word node h.0, (register_word register h.1, tt))
   parts_are (Write node register value) h n = (node_word node h.0, (register_word register h.1, (n, tt)))
-  parts_are (Leave node) h n = (node_word node h, tt)
-  parts_are (Cancel node) h n = (node_word node h, tt)
-  parts_are (Tick node) h n = (node_word node h, tt)
   parts_are (Want node other) h n = (node_word node h.0, (node_word other h.1, tt))
   parts_are (Settle node upto) h n = (node_word node h, (n, tt))
-  parts_are (Restart node) h n = (node_word node h, tt)
   parts_are (Deliver k) h n = (n, tt)
+  parts_are _ h n = (node_word _ h, tt)
 
   event_is : (k : ℕ) (e : Event) → IsNamed e → event_of p k (event_data p e) ≡ Ok e
   unfolding event_of is_name_value
-  event_is k (Ask node) h = rw (node_is node h, node_found node h) refl
-  event_is k (Enter node) h = rw (node_is node h, node_found node h) refl
   event_is k (Read node register) h = rw (node_is node h.0, register_is register h.1, node_found node h.0, register_found register h.1) refl
   event_is k (Write node register value) h = rw (node_is node h.0, register_is register h.1, node_found node h.0, register_found register h.1) refl
-  event_is k (Leave node) h = rw (node_is node h, node_found node h) refl
-  event_is k (Cancel node) h = rw (node_is node h, node_found node h) refl
-  event_is k (Tick node) h = rw (node_is node h, node_found node h) refl
   event_is k (Want node other) h = rw (node_is node h.0, node_is other h.1, node_found node h.0, node_found other h.1) refl
-  event_is k (Settle node upto) h = rw (node_is node h, node_found node h) refl
-  event_is k (Restart node) h = rw (node_is node h, node_found node h) refl
   event_is k (Deliver n) h = refl
+  event_is k _ h = rw (node_is _ h, node_found _ h) refl
 
   events_are : (k : ℕ) (es : List Event) → ((e : Event) → IsIn e es → IsNamed e) → each_from (event_of p) k (list_of (events_data p es)) ≡ Ok es
   unfolding each_from

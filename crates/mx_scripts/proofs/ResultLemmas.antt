@@ -1,5 +1,5 @@
 -- Results.
-use Rattle.std.proofs.Common.{◌≡◌, Result, Ok, Err, OnOk, IfOk, ap, false, true, refl}
+use Rattle.std.proofs.Common.{◌≡◌, Result, Ok, Err, OnOk, IfOk, ap, false, true}
 use Rattle.std.specs.Result.{is_err}
 
 not_false : true ≡ false → ⊥

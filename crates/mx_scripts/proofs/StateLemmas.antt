@@ -1,5 +1,5 @@
 -- What an event does to a state.
-use Rattle.std.proofs.Common.{◌≡◌, ◌∙◌, ◌<◌, ◌≤◌, ◌∷◌, ◌++◌, ℕ, List, [], Option, Result, Ok, OnOk, ap, length, refl, subst, sym}
+use Rattle.std.proofs.Common.{◌≡◌, ◌∙◌, ◌<◌, ◌≤◌, ◌∷◌, ◌++◌, ℕ, [], Option, Result, Ok, OnOk, ap, length, refl, subst, sym}
 use Rattle.std.specs.Prelude.{slice_get}
 use Rattle.mx_nodelaws.specs.Core.{Core}
 use Rattle.mx_network.specs.Step.{ClusterState}

@@ -6,54 +6,49 @@ use Rattle.std.specs.Prelude.{IsTrue, slice_set}
 use Rattle.mx_scripts.specs.UnderWay.{IsListedOver, IsOff, IsOrdered, IsPassed, IsSkipped, without}
 use Rattle.mx_scripts.specs.declared.under_way.ListedParcel.{ListedParcel}
 
--- ---- a parcel more
+-- ---- a parcel more, or one that is under way no more
+
+-- what holds of a parcel of the list, or of none, after a parcel was added
+pub at_more : (P : Option ListedParcel → Type 0) (ps : List ListedParcel) (q : ListedParcel) (k : ℕ) → P (slice_get ps k) → (k ≡ length ps → P None → P (Some q)) → P (slice_get (ps ++ q ∷ []) k)
+at_more P [] q zero h new = new refl h
+at_more P [] q (suc k) h new = h
+at_more P (p ∷ ps) q zero h new = h
+at_more P (p ∷ ps) q (suc k) h new = at_more P ps q k h (λ e. new (ap suc e))
+
+-- and after one was taken out
+pub at_without : (P : Option ListedParcel → Type 0) (number : ℕ) (ps : List ListedParcel) (k : ℕ) → P (slice_get ps k)
+    → ((p : ListedParcel) → k ≡ number → k < length ps → P (Some p) → P (Some (record { link = p.link; is_gone = true }))) → P (slice_get (without number ps) k)
+at_without P number [] k h gone = h
+at_without P zero (p ∷ ps) zero h gone = gone p refl (omega arith) h
+at_without P zero (p ∷ ps) (suc k) h gone = h
+at_without P (suc number) (p ∷ ps) zero h gone = h
+at_without P (suc number) (p ∷ ps) (suc k) h gone = at_without P number ps k h (λ q e lt. gone q (ap suc e) (omega (arith, lt)))
 
 pub passed_more : (link : ℕ) (ps : List ListedParcel) (q : ListedParcel) (k : ℕ) → IsPassed link (slice_get ps k) → IsPassed link (slice_get (ps ++ q ∷ []) k)
-passed_more link [] q k h = absurd h
-passed_more link (p ∷ ps) q zero h = h
-passed_more link (p ∷ ps) q (suc k) h = passed_more link ps q k h
+passed_more link ps q k h = at_more (IsPassed link) ps q k h (λ e none. absurd none)
 
 skip_to_more : (first : Option ListedParcel) (ps : List ListedParcel) (q : ListedParcel) (j : ℕ) → IsSkipped first (slice_get ps j) → IsSkipped first (slice_get (ps ++ q ∷ []) j)
 skip_to_more None ps q j h = absurd h
 skip_to_more (Some p) ps q j h = passed_more p.link ps q j h
 
 skip_from_more : (ps : List ListedParcel) (q : ListedParcel) (k : ℕ) (other : Option ListedParcel) → IsSkipped (slice_get ps k) other → IsSkipped (slice_get (ps ++ q ∷ []) k) other
-skip_from_more [] q k other h = absurd h
-skip_from_more (p ∷ ps) q zero other h = h
-skip_from_more (p ∷ ps) q (suc k) other h = skip_from_more ps q k other h
+skip_from_more ps q k other h = at_more (λ (o : Option ListedParcel). IsSkipped o other) ps q k h (λ e none. absurd none)
 
 off_more : (link : ℕ) (ps : List ListedParcel) (q : ListedParcel) (k : ℕ) → IsOff link (slice_get ps k) → (k ≡ length ps → q.link ≡ link → IsTrue q.is_gone) → IsOff link (slice_get (ps ++ q ∷ []) k)
-off_more link [] q zero h new = new refl
-off_more link [] q (suc k) h new = tt
-off_more link (p ∷ ps) q zero h new = h
-off_more link (p ∷ ps) q (suc k) h new = off_more link ps q k h (λ e. new (ap suc e))
-
--- ---- a parcel that is under way no more
+off_more link ps q k h new = at_more (IsOff link) ps q k h (λ e none. new e)
 
 passed_without : (link number : ℕ) (ps : List ListedParcel) (k : ℕ) → IsPassed link (slice_get ps k) → IsPassed link (slice_get (without number ps) k)
-passed_without link number [] k h = absurd h
-passed_without link zero (p ∷ ps) zero h = λ e. refl
-passed_without link zero (p ∷ ps) (suc k) h = h
-passed_without link (suc number) (p ∷ ps) zero h = h
-passed_without link (suc number) (p ∷ ps) (suc k) h = passed_without link number ps k h
+passed_without link number ps k h = at_without (IsPassed link) number ps k h (λ p e lt x same. refl)
 
 skip_to_without : (first : Option ListedParcel) (number : ℕ) (ps : List ListedParcel) (j : ℕ) → IsSkipped first (slice_get ps j) → IsSkipped first (slice_get (without number ps) j)
 skip_to_without None number ps j h = absurd h
 skip_to_without (Some p) number ps j h = passed_without p.link number ps j h
 
 skip_from_without : (number : ℕ) (ps : List ListedParcel) (k : ℕ) (other : Option ListedParcel) → IsSkipped (slice_get ps k) other → IsSkipped (slice_get (without number ps) k) other
-skip_from_without number [] k other h = absurd h
-skip_from_without zero (p ∷ ps) zero other h = h
-skip_from_without zero (p ∷ ps) (suc k) other h = h
-skip_from_without (suc number) (p ∷ ps) zero other h = h
-skip_from_without (suc number) (p ∷ ps) (suc k) other h = skip_from_without number ps k other h
+skip_from_without number ps k other h = at_without (λ (o : Option ListedParcel). IsSkipped o other) number ps k h (λ p e lt x. x)
 
 off_without : (link number : ℕ) (ps : List ListedParcel) (k : ℕ) → IsOff link (slice_get ps k) → IsOff link (slice_get (without number ps) k)
-off_without link number [] k h = tt
-off_without link zero (p ∷ ps) zero h = λ e. refl
-off_without link zero (p ∷ ps) (suc k) h = h
-off_without link (suc number) (p ∷ ps) zero h = h
-off_without link (suc number) (p ∷ ps) (suc k) h = off_without link number ps k h
+off_without link number ps k h = at_without (IsOff link) number ps k h (λ p e lt x same. refl)
 
 pub length-without : (number : ℕ) (ps : List ListedParcel) → length (without number ps) ≡ length ps
 length-without number [] = refl

@@ -1,5 +1,5 @@
 -- What `replay` prints of a script, with its options.
-use Rattle.std.specs.Prelude.{◌||◌, Bool, Option, Some, None, if◌then◌else◌, option_map}
+use Rattle.std.specs.Prelude.{◌||◌, Option, Some, None, if◌then◌else◌, option_map}
 use Rattle.mx_plan.specs.Text.{Text}
 use Rattle.mx_plan.specs.Fields.{Fields}
 use Rattle.mx_cli.specs.Printing.{Report}

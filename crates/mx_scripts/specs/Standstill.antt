@@ -1,5 +1,5 @@
 -- Whether a session stands still, and which nodes wait then.
-use Rattle.std.specs.Prelude.{ℕ, Bool, List, [], if◌then◌else◌, length}
+use Rattle.std.specs.Prelude.{Bool, List, [], if◌then◌else◌, length}
 use Rattle.std.specs.List.{list_any}
 use Rattle.mx_stamps.specs.Lists.{each_below}
 use Rattle.mx_knowledge.specs.Facts.{Known}

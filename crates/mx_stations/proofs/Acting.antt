@@ -19,10 +19,9 @@ use Rattle.mx_member.specs.Member.{MemberState}
 use Rattle.mx_member.specs.Running.{IsNode, IsRunning, Owned, owned_after}
 use Rattle.mx_member.proofs.CorePart.{map_set}
 use Rattle.mx_member.proofs.Running.{members_count, running_kept}
-use Rattle.mx_member.proofs.RunningTells.{node_can_take}
 use Rattle.mx_stations.specs.Entries.{Node, owned_of}
-use Rattle.mx_stations.specs.Running.{DidAct, GoToNodes, HandFits, Holds, Keeps, MayDo, Shown, acted, acted_view, sent_of, word_of}
-use Rattle.mx_stations.proofs.Places.{again, as_slice_at, grows, in_one, moves, only_one, sent_in_world, within}
+use Rattle.mx_stations.specs.Running.{DidAct, GoToNodes, Holds, Keeps, MayDo, Shown, acted, acted_view, sent_of, word_of}
+use Rattle.mx_stations.proofs.Places.{as_slice_at, grows, in_one, moves, only_one, sent_in_world, within}
 use Rattle.mx_stations.proofs.Pairs as Pairs
 use Rattle.mx_stations.proofs.Pairs.{links_still}
 
@@ -127,18 +126,3 @@ module _ {H S M : Type 0} (core : Core H S M) (IsShape : H → Type 0) (Good : W
       let step3 = subst (λ (k : ℕ). Allows (Holds core Good n) slots id (e ∷ [], []) k (λ _. new) (λ _ m. (m ≡ (after, [])) × GoToNodes n m.0)) where_is step2 in
       let step4 = subst (λ (z : Me (Option (Parcel M)) (List (Node S M))). Allows (Holds core Good n) slots id z word (λ _. new) (λ _ m. (m ≡ (after, z.1)) × GoToNodes n m.0)) (sym is) step3 in
       subst (λ (z : ℕ × ℕ). Allows (Holds core Good z.0) slots id me word (λ _. new) (λ _ m. (m ≡ (after, me.1)) × GoToNodes z.1 m.0)) (λ i. (sym is_key i, sym is_count i)) step4
-
-module _ {H S M : Type 0} (core : Core H S M) (Good : World S M → Type 0) where
-  -- a look at a word: what is in hand can be taken
-  pub looks : (n slots id i : ℕ) (me : Me (Option (Parcel M)) (List (Node S M))) → Allows (Holds core Good n) slots id me i (λ k. k) (λ _ m. (m ≡ me) × HandFits m.0)
-  looks n slots id i me s h homes at small = (
-    me.0,
-    keeps,
-    tt,
-    again (Holds core Good n) s i id me.0 at h,
-    (
-      refl,
-      λ e x in_view held. let here = (h.stands.known id me.0 e at in_view).0 in
-          node_can_take core Good (map owned_of h.world) (sent_of h.world) h.shown.runs e.node x.0 x.1 (owned_of e) (node_at core Good h.world e.node e here) (h.shown.held e.node e x here held),
-    ),
-  )

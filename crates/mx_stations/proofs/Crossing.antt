@@ -1,5 +1,5 @@
 -- What a station knows of its node before and after a move of a parcel.
-use Rattle.std.proofs.Common.{◌≡◌, ◌≢◌, ◌⊎◌, inl, inr, ℕ, ◌<◌, List, [], ◌∷◌, ◌++◌, Bool, true, false, IfSome, MatchBool, MatchOption, Option, Some, None, is_some, refl, sym, ap, ◌∙◌, subst}
+use Rattle.std.proofs.Common.{◌≡◌, ◌≢◌, ◌⊎◌, inl, inr, ℕ, ◌<◌, List, [], ◌∷◌, ◌++◌, Bool, true, false, MatchBool, Option, Some, None, refl, sym, ap, ◌∙◌, subst}
 use Rattle.atomic_table.specs.Table.{Me}
 use Rattle.atomic_table.specs.Seated.{TableId}
 use Rattle.mx_stamps.specs.Lists.{IsIn}
@@ -153,11 +153,6 @@ module _ {H S M : Type 0} (core : Core H S M) where
 
   pub none_there : (from : ℕ) (s s1 t : P) → (s.me.hand ≡ None) × (s1 ≡ s) → FindsNone from s1 t → FindsNone from s t
   none_there from s s1 t still found = subst (λ (z : P). FindsNone from z t) still.1 found
-
--- of what was taken the fate is known
-pub got_some : {T P : Type 0} (from : ℕ) (r : Option Fate) (s t : Post T P) → MatchOption r (FindsNone from s t) (λ fate. IsFated from fate s t) → IfSome r (λ fate. fate ≡ Pass) → MatchBool (is_some r) (Fetches from s t) (FindsNone from s t)
-got_some from None s t found is = found
-got_some from (Some fate) s t found is = subst (λ (z : Fate). IsFated from z s t) is found
 
 -- the parcel in hand is the one that the member can take
 pub held_takes : {S M : Type 0} (x : MemberState S) (hand : Option (ℕ × Parcel M)) (s : Post (MemberState S) (Parcel M)) (held : ℕ × Parcel M) → s.me.member ≡ x → s.me.hand ≡ hand → hand ≡ Some held

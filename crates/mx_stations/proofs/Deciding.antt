@@ -43,27 +43,28 @@ module _ {H S M : Type 0} (core : Core H S M) (posts : List (Post (MemberState S
   inside_not_quiet i a quiet = let h = a.1 in quiet i a.0 h.0 h.1 h.2 h.3 h.4
 
   -- the answer to stations that are gathered
-  pub not_missing : IsReady core posts → (i : ℕ) → ⊥ ↔ IsLeastMissing posts i
-  not_missing ready i = ((λ h. absurd h), (λ a. missing_not_whole posts i a ready.0))
-
-  pub not_inside : IsReady core posts → (i : ℕ) → ⊥ ↔ (IsWhole posts × IsLeastInside core posts i)
-  not_inside ready i = ((λ h. absurd h), (λ a. inside_not_quiet i a.1 ready.1))
-
-  pub gathered_ready : IsReady core posts → ((true ≡ true) ⊎ ⊥) ↔ IsReady core posts
-  gathered_ready ready = ((λ _. ready), (λ _. inl refl))
+  pub gathers : IsReady core posts → ((i : ℕ) → ⊥ ↔ IsLeastMissing posts i) × ((i : ℕ) → ⊥ ↔ (IsWhole posts × IsLeastInside core posts i)) × (((true ≡ true) ⊎ ⊥) ↔ IsReady core posts)
+  gathers ready = (
+    λ i. ((λ h. absurd h), (λ a. missing_not_whole posts i a ready.0)),
+    λ i. ((λ h. absurd h), (λ a. inside_not_quiet i a.1 ready.1)),
+    ((λ _. ready), (λ _. inl refl)),
+  )
 
   -- and to stations that are refused
-  pub refused_missing : (fault : GatherFault) → Refuses core posts fault → (i : ℕ) → (fault ≡ NotAll i) ↔ IsLeastMissing posts i
+  refused_missing : (fault : GatherFault) → Refuses core posts fault → (i : ℕ) → (fault ≡ NotAll i) ↔ IsLeastMissing posts i
   refused_missing (NotAll j) a i = ((λ e. subst (IsLeastMissing posts) (same_missing j i e) a), (λ b. ap NotAll (one_missing posts j i a b)))
   refused_missing (StillInside j) a i = ((λ e. cc), (λ b. absurd (missing_not_whole posts i b a.0)))
   refused_missing Memory a i = ((λ e. cc), (λ b. absurd (missing_not_whole posts i b a.0)))
 
-  pub refused_inside : (fault : GatherFault) → Refuses core posts fault → (i : ℕ) → (fault ≡ StillInside i) ↔ (IsWhole posts × IsLeastInside core posts i)
+  refused_inside : (fault : GatherFault) → Refuses core posts fault → (i : ℕ) → (fault ≡ StillInside i) ↔ (IsWhole posts × IsLeastInside core posts i)
   refused_inside (NotAll j) a i = ((λ e. cc), (λ b. absurd (missing_not_whole posts j a b.0)))
   refused_inside (StillInside j) a i = ((λ e. (a.0, subst (IsLeastInside core posts) (same_inside j i e) a.1)), (λ b. ap StillInside (one_inside j i a.1 b.1)))
   refused_inside Memory a i = ((λ e. cc), (λ b. absurd (inside_not_quiet i b.1 a.1)))
 
-  pub refused_ready : (fault : GatherFault) → Refuses core posts fault → ((false ≡ true) ⊎ (fault ≡ Memory)) ↔ IsReady core posts
+  refused_ready : (fault : GatherFault) → Refuses core posts fault → ((false ≡ true) ⊎ (fault ≡ Memory)) ↔ IsReady core posts
   refused_ready (NotAll j) a = ((λ e. elim e [ inl h ↦ cc | inr h ↦ cc ]), (λ b. absurd (missing_not_whole posts j a b.0)))
   refused_ready (StillInside j) a = ((λ e. elim e [ inl h ↦ cc | inr h ↦ cc ]), (λ b. absurd (inside_not_quiet j a.1 b.1)))
   refused_ready Memory a = ((λ e. a), (λ b. inr refl))
+
+  pub refused : (fault : GatherFault) → Refuses core posts fault → ((i : ℕ) → (fault ≡ NotAll i) ↔ IsLeastMissing posts i) × ((i : ℕ) → (fault ≡ StillInside i) ↔ (IsWhole posts × IsLeastInside core posts i)) × (((false ≡ true) ⊎ (fault ≡ Memory)) ↔ IsReady core posts)
+  refused fault a = (refused_missing fault a, refused_inside fault a, refused_ready fault a)

@@ -1,41 +1,25 @@
--- What a look at the rule tells a seat, and loops over stations.
-use Rattle.std.proofs.Common.{◌≡◌, ◌⊎◌, inl, inr, ℕ, zero, suc, ◌+◌, ◌<◌, ◌≤◌, List, [], ◌∷◌, ◌++◌, map, length, take, Option, Result, Ok, Err, IsOk, IsErrAnd, refl, sym, ap, ◌∙◌, subst, arith, append_assoc, append-nil}
+-- Loops over stations.
+use Rattle.std.proofs.Common.{◌≡◌, ◌⊎◌, inl, inr, ℕ, zero, suc, ◌+◌, ◌<◌, ◌≤◌, List, [], ◌∷◌, ◌++◌, map, length, take, Result, Ok, Err, IsOk, IsErrAnd, refl, sym, ap, ◌∙◌, subst, arith, append_assoc, append-nil}
 use Rattle.std.proofs.lemmas.List.{length-map, take_all}
 use mathlib.Core.Option.{some, some-injective, some-ne-none}
 use lib.ListN.{get_elem?}
 use native.Mathlib.Decide.{ℕ_discrete}
 use mathlib.Core.Logic.{dite}
-use Rattle.atomic_table.specs.Table.{Me, Allows}
 use Rattle.atomic_table.proofs.Lists.{at_longer, at_last}
 use Rattle.mx_journal.specs.declared.receipts.Receipt.{Receipt}
 use Rattle.mx_journal.specs.Settled.{JournalState, joined}
 use Rattle.mx_merge.specs.declared.join.MergeFault.{MergeFault}
 use Rattle.mx_merge.specs.declared.join.MergeFault.TheVariants.{Conflict, Memory}
 use Rattle.mx_merge.specs.Join.{IsLeastJournal}
-use Rattle.mx_nodelaws.specs.World.{World}
-use Rattle.mx_nodelaws.specs.Core.{Core}
 use Rattle.mx_member.specs.declared.parcel.Parcel.{Parcel}
 use Rattle.mx_member.specs.Member.{MemberState}
 use Rattle.mx_member.specs.Running.{IsJoinOfNodes, IsNode}
 use Rattle.mx_member.proofs.CorePart.{get_map}
 use Rattle.mx_member.proofs.Joining.{join_next}
-use Rattle.mx_stations.specs.Entries.{Node, owned_of}
-use Rattle.mx_stations.specs.Running.{Holds}
+use Rattle.mx_stations.specs.Entries.{owned_of}
 use Rattle.mx_stations.specs.Posts.{Post}
-use Rattle.mx_stations.specs.Gathered.{Knows, nodes_in, owned_in, receipts_of}
-use Rattle.mx_stations.proofs.Acting.{looks}
+use Rattle.mx_stations.specs.Gathered.{nodes_in, owned_in, receipts_of}
 use Rattle.mx_stations.proofs.Places.{as_slice_at, one_at, within}
-
-module _ {H S M : Type 0} (core : Core H S M) (Good : World S M → Type 0) where
-  learns_at : (n slots id i : ℕ) (me : Me (Option (Parcel M)) (List (Node S M))) → Allows (Holds core Good n) slots id me i (λ k. k) (λ _ m. (m ≡ me) × Knows core Good n m.0)
-  learns_at n slots id i me s h homes at small =
-      let look = looks core Good n slots id i me s h homes at small in
-      let known : Knows core Good n me.0 = record { world = h.world; long = h.stands.long; runs = h.shown.runs; numbered = h.stands.numbered; stands = (λ e in_view. (h.stands.known id me.0 e at in_view).0); once = h.stands.once id me.0 at } in
-      (look.0, look.1, look.2, look.3, (look.4.0, subst (λ (m : Me (Option (Parcel M)) (List (Node S M))). Knows core Good n m.0) (sym look.4.0) known))
-
-  pub learns : (n key count slots id i : ℕ) (me : Me (Option (Parcel M)) (List (Node S M))) → key ≡ n → count ≡ n → Allows (Holds core Good key) slots id me i (λ k. k) (λ _ m. (m ≡ me) × Knows core Good count m.0)
-  learns n key count slots id i me is_key is_count =
-      subst (λ (z : ℕ × ℕ). Allows (Holds core Good z.0) slots id me i (λ k. k) (λ _ m. (m ≡ me) × Knows core Good z.1 m.0)) (λ j. (sym is_key j, sym is_count j)) (learns_at n slots id i me)
 
 module _ {A B : Type 0} (f : A → B) where
   map_both : (xs ys : List A) → map f (xs ++ ys) ≡ map f xs ++ map f ys

@@ -19,7 +19,6 @@ pub mod Toils
 pub mod Leaving
 pub mod Within
 pub mod Rounding
-pub mod Endings
 pub mod SameTable
 pub mod Returning
 pub mod Turning

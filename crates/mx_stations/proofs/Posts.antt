@@ -10,9 +10,8 @@ use Rattle.mx_member.specs.declared.parcel.Parcel.{Parcel}
 use Rattle.mx_member.specs.Acts.{act_of}
 use Rattle.mx_member.specs.Member.{MemberState}
 use Rattle.mx_member.specs.Receipts.{closed_by}
-use Rattle.mx_member.specs.Steps.{IsTakeable}
 use Rattle.mx_stations.specs.Entries.{Entry, Node}
-use Rattle.mx_stations.specs.Running.{DidAct, GoToNodes, HandFits, IsIdle, Keeps, MayDo, acted, acted_view, fresh}
+use Rattle.mx_stations.specs.Running.{DidAct, GoToNodes, IsIdle, Keeps, MayDo, acted, acted_view, fresh}
 use Rattle.mx_stations.specs.Posts.{Post, Waits, after_act, does, left_in, post, sent_in, shown, waiting_after}
 use Rattle.mx_stations.proofs.Waits.{waits_after}
 
@@ -118,8 +117,3 @@ module _ {H S M : Type 0} (core : Core H S M) (i : ℕ) (x : MemberState S) (hel
       → post table' n (shown i y held r' m'.0) w' ≡ does core a s
   acts_so a m' y out r' table table' n w w' s same same_table view wait state letters closes =
       happens a m' y out held r' table table' n w w' (post table n (shown i x held r m.0) w) refl same_table view wait state letters closes ∙ ap (does core a) same
-
-  -- the parcel in hand can be taken
-  pub takeable : (m1 : Me (Option (Parcel M)) (List (Node S M))) (from : ℕ) (p : Parcel M) → m1 ≡ m → HandFits m1.0 → held ≡ Some (from, p) → IsTakeable from p x
-  takeable m1 from p same fits held_is =
-      fits (shown i x held r m.0) (from, p) (subst (λ (z : Me (Option (Parcel M)) (List (Node S M))). IsIn (shown i x held r m.0) z.0) (sym (same ∙ is)) (inl refl)) held_is

@@ -14,9 +14,10 @@ use Rattle.mx_member.specs.Steps.{settle_of}
 use Rattle.mx_stations.specs.Gathered.{KeepsTable}
 use Rattle.mx_stations.specs.Posts.{does}
 use Rattle.mx_stations.specs.Turns.{Station}
-use Rattle.mx_stations.specs.Works.{IsDue, Rounds, SettlesIfDue, TakesTurn, Works, WorksAtMost, WorksFor, WorksSettling}
+use Rattle.mx_stations.specs.Works.{IsDue, Round, SettlesIfDue, TakesTurn, Toils, Works, WorksAtMost, WorksFor, WorksSettling}
+use Rattle.mx_stations.proofs.Going.{home_of, leads_keep, leads_none, path_on}
 use Rattle.mx_stations.proofs.Leaving.{turn_works}
-use Rattle.mx_stations.proofs.Toils.{home_of, rests, works_home, works_on}
+use Rattle.mx_stations.proofs.Toils.{works_home, works_on}
 
 -- settling up to the first gap is not refused
 accepted : {S : Type 0} (k : ℕ) (m : MemberState S) → k + 1 ≡ first_gap m.journal → (settle_of k m).answer ≡ Ok tt
@@ -47,15 +48,11 @@ module _ {H S M : Type 0} (core : Core H S M) (register every : ℕ) where
   pub rounds_rest : (s t : Station core) → t ≡ s → WorksFor core register every 0 s t
   rounds_rest s t same = ([], refl, same)
 
-  longer : (ms : List (Station core)) (s t n u : Station core) → Rounds core register every ms s t → TakesTurn core register t n → SettlesIfDue core every (length t.me.receipts) n u → Rounds core register every (ms ++ u ∷ []) s u
-  longer [] s t n u same did due =
-      ((n, subst (λ (z : Station core). TakesTurn core register z n) same did, subst (λ (z : Station core). SettlesIfDue core every (length z.me.receipts) n u) same due), refl)
-  longer (m ∷ ms) s t n u rest did due = (rest.0, longer ms m t n u rest.1 did due)
-
   -- one round more, where these receipts were there before it
   pub rounds_on : (made : ℕ) (had : List Receipt) (s t n u : Station core) → WorksFor core register every made s t → had ≡ t.me.receipts → TakesTurn core register t n → SettlesIfDue core every (length had) n u → WorksFor core register every (made + 1) s u
   rounds_on made had s t n u done same did due =
-      (done.0 ++ u ∷ [], length-append done.0 (u ∷ []) ∙ ap (λ (k : ℕ). k + 1) done.1, longer done.0 s t n u done.2 did (subst (λ (rs : List Receipt). SettlesIfDue core every (length rs) n u) same due))
+      let round : Round core register every t u = (n, did, subst (λ (rs : List Receipt). SettlesIfDue core every (length rs) n u) same due) in
+      (done.0 ++ u ∷ [], length-append done.0 (u ∷ []) ∙ ap (λ (k : ℕ). k + 1) done.1, path_on (Round core register every) done.0 (u ∷ []) s t u done.2 (round, refl))
 
   -- what was counted is what was asked for
   pub rounds_made : (made turns : ℕ) (s t : Station core) → made ≡ turns → WorksFor core register every made s t → WorksFor core register every turns s t
@@ -65,26 +62,25 @@ module _ {H S M : Type 0} (core : Core H S M) (register every : ℕ) where
   pub rounds_some : (turns : ℕ) (s t : Station core) → WorksAtMost core register every turns s t → WorksSettling core register every s t
   rounds_some turns s t did = (did.2.0, did.2.2)
 
-  rounds_home : (ms : List (Station core)) (s t : Station core) → Rounds core register every ms s t → home_of t ≡ home_of s
-  rounds_home [] s t same = ap home_of same
-  rounds_home (m ∷ ms) s t did = rounds_home ms m t did.1 ∙ settled_home core every _ did.0.0 m did.0.2 ∙ works_home core register s did.0.0 (turn_works core register s did.0.0 did.0.1)
+  rounds_home : (s t : Station core) → WorksSettling core register every s t → home_of t ≡ home_of s
+  rounds_home = leads_keep (Round core register every) (λ s t. home_of t ≡ home_of s) (λ s t same. ap home_of same) (λ s t u a b. b ∙ a)
+      (λ s t did. settled_home core every _ did.0 t did.2 ∙ works_home core register s did.0 (turn_works core register s did.0 did.1))
 
   -- its station stays at its table
   pub rounds_kept : (s t : Station core) → WorksSettling core register every s t → KeepsTable s t
-  rounds_kept s t did = let same = rounds_home did.0 s t did.1 in (ap (λ (h : TableId × ℕ × ℕ). h.0) same, ap (λ (h : TableId × ℕ × ℕ). h.1) same)
+  rounds_kept s t did = let same = rounds_home s t did in (ap (λ (h : TableId × ℕ × ℕ). h.0) same, ap (λ (h : TableId × ℕ × ℕ). h.1) same)
 
   -- and stays that of its node
   pub rounds_node : (s t : Station core) → WorksSettling core register every s t → t.me.node ≡ s.me.node
-  rounds_node s t did = ap (λ (h : TableId × ℕ × ℕ). h.2) (rounds_home did.0 s t did.1)
-
-  never_settled : every ≡ 0 → (ms : List (Station core)) (s t : Station core) → Rounds core register every ms s t → Works core register s t
-  never_settled none [] s t same = rests core register s t same
-  never_settled none (m ∷ ms) s t did = works_on core register s m t (round_works did.0.2) (never_settled none ms m t did.1)
-    where
-      round_works : SettlesIfDue core every (length s.me.receipts) did.0.0 m → Works core register s m
-      round_works (inl due) = absurd (due.0.0 none)
-      round_works (inr same) = subst (λ (z : Station core). Works core register s z) (sym same.1) (turn_works core register s did.0.0 did.0.1)
+  rounds_node s t did = ap (λ (h : TableId × ℕ × ℕ). h.2) (rounds_home s t did)
 
   -- where it never settles
   pub rounds_never : (s t : Station core) → WorksSettling core register every s t → every ≡ 0 → Works core register s t
-  rounds_never s t did zero = never_settled zero did.0 s t did.1
+  rounds_never s t did zero = leads_keep (Round core register every) (Works core register) (leads_none (Toils core register)) (works_on core register) round_works s t did
+    where
+      settles_not : (before : ℕ) (s n t : Station core) → SettlesIfDue core every before n t → Works core register s n → Works core register s t
+      settles_not before s n t (inl due) works = absurd (due.0.0 zero)
+      settles_not before s n t (inr same) works = subst (λ (z : Station core). Works core register s z) (sym same.1) works
+
+      round_works : (s t : Station core) → Round core register every s t → Works core register s t
+      round_works s t did = settles_not _ s did.0 t did.2 (turn_works core register s did.0 did.1)

@@ -2,6 +2,7 @@
 use Rattle.std.proofs.Common.{◌≡◌, inl, inr, ℕ, zero, suc, List, [], ◌∷◌, ◌++◌, Result, Ok, Err, IfOk, OnErr, OnOk, refl, sym, ap, subst, ◌∙◌}
 use mathlib.Core.Option.{some, some-injective, some-ne-none}
 use lib.ListN.{get_elem?}
+use Rattle.atomic_table.specs.Seated.{TableId}
 use Rattle.mx_nodelaws.specs.Core.{Core}
 use Rattle.mx_member.specs.declared.acts.Act.{Act}
 use Rattle.mx_stations.specs.declared.answers.PutOut.{PutOut}
@@ -12,8 +13,9 @@ use Rattle.mx_stations.specs.declared.answers.Taken.TheVariants.{Got, Empty}
 use Rattle.mx_stations.specs.Gathered.{KeepsTable, OfOneTable}
 use Rattle.mx_stations.specs.Opened.{AreFresh}
 use Rattle.mx_stations.specs.Posts.{KeepsInHand, Post, PutsOut, TakesIn, does}
-use Rattle.mx_stations.specs.Turns.{Chain, Goes, Moves, Station}
+use Rattle.mx_stations.specs.Turns.{Goes, Station}
 use Rattle.mx_stations.proofs.Gathers.{left_of}
+use Rattle.mx_stations.proofs.Going.{goes_home}
 
 module _ {T P : Type 0} where
   same_post : (s t u : Post T P) → t ≡ u → KeepsTable s u → KeepsTable s t
@@ -95,18 +97,6 @@ module _ {H S M : Type 0} (core : Core H S M) where
   take_kept from (Err e) s t did (inl fault) = stays_kept s t fault.1
   take_kept from (Err e) s t did (inr fault) = same_post s t _ fault.1.3 (refl, refl)
 
-  move_kept : (s t : Station core) → Moves core s t → KeepsTable s t
-  move_kept s t (inl did) = same_post s t _ did.3 (refl, refl)
-  move_kept s t (inr (inl did)) = same_post s t _ did.3 (refl, refl)
-  move_kept s t (inr (inr (inl did))) = same_post s t _ did.1.1.3 (refl, refl)
-  move_kept s t (inr (inr (inr (inl did)))) = same_post s t _ did.1.1.3 (refl, refl)
-  move_kept s t (inr (inr (inr (inr (inl did))))) = put_kept s t did.0 did.1
-  move_kept s t (inr (inr (inr (inr (inr did))))) = same_post s t _ did (refl, refl)
-
-  chain_kept : (ms : List (Station core)) (s t : Station core) → Chain core ms s t → KeepsTable s t
-  chain_kept [] s t same = stays_kept s t same
-  chain_kept (m ∷ ms) s t did = kept_on s m t (move_kept s m did.0) (chain_kept ms m t did.1)
-
   -- a turn
   pub goes_kept : (s t : Station core) → Goes core s t → KeepsTable s t
-  goes_kept s t did = chain_kept did.0 s t did.1
+  goes_kept s t did = let same = goes_home core s t did in (ap (λ (h : TableId × ℕ × ℕ). h.0) same, ap (λ (h : TableId × ℕ × ℕ). h.1) same)

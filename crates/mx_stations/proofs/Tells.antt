@@ -1,5 +1,5 @@
 -- What a look at the word of a node tells of the nodes in view.
-use Rattle.std.proofs.Common.{◌≡◌, ◌≢◌, inl, inr, ℕ, ◌%◌, ◌<◌, List, [], ◌∷◌, ◌++◌, map, length, Option, refl, sym, ap, ◌∙◌, subst, arith}
+use Rattle.std.proofs.Common.{◌≡◌, ◌≢◌, inl, inr, ℕ, ◌%◌, ◌<◌, List, [], ◌∷◌, ◌++◌, map, length, Option, Some, refl, sym, ap, ◌∙◌, subst, arith}
 use mathlib.Core.Option.{some}
 use lib.ListN.{get_elem?}
 use Rattle.atomic_table.specs.Table.{Me, keeps, Allows}
@@ -13,7 +13,8 @@ use Rattle.mx_member.specs.declared.parcel.Parcel.{Parcel}
 use Rattle.mx_member.specs.Member.{MemberState}
 use Rattle.mx_stamps.specs.Lists.{IsIn}
 use Rattle.mx_member.specs.Running.{IsNode}
-use Rattle.mx_member.proofs.RunningTells.{nodes_agree, one_node_inside}
+use Rattle.mx_member.specs.Steps.{IsTakeable}
+use Rattle.mx_member.proofs.RunningTells.{node_can_take, nodes_agree, one_node_inside}
 use Rattle.mx_stations.specs.Entries.{Entry, Node, owned_of}
 use Rattle.mx_stations.specs.Running.{Holds, Shown, all_but_first, only_first, sent_of, status, word_of}
 use Rattle.mx_stations.specs.Together.{AtMostOneOdd, HoldsSent, RunTogether, ShowsNode}
@@ -117,6 +118,11 @@ module _ {H S M : Type 0} (core : Core H S M) (Good : World S M → Type 0) wher
   -- a node of those that run together, and where it stands
   runs_at : (n : ℕ) (these : List (Node S M)) (e : Node S M) (t : RunTogether core Good n these) → IsIn e these → IsNode (map owned_of t.world) e.node (owned_of e)
   runs_at n these e t in_these = node_at core Good t.world e.node e (t.stands e in_these)
+
+  -- the parcel in hand of one of them can be taken
+  pub can_take : (n : ℕ) (these : List (Node S M)) (e : Node S M) (x : ℕ × Parcel M) → RunTogether core Good n these → IsIn e these → e.hand ≡ Some x → IsTakeable x.0 x.1 e.member
+  can_take n these e x t in_these held =
+      node_can_take core Good (map owned_of t.world) (sent_of t.world) t.shown.runs e.node x.0 x.1 (owned_of e) (runs_at n these e t in_these) (t.shown.held e.node e x (t.stands e in_these) held)
 
   -- what one of them holds from another
   pub holds_sent : (n : ℕ) (these : List (Node S M)) (e f : Node S M) → RunTogether core Good n these → IsIn e these → IsIn f these → HoldsSent e f

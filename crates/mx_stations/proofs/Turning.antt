@@ -1,57 +1,40 @@
 -- The tries of a turn, one after another, and what its report tells of them.
-use Rattle.std.proofs.Common.{◌≡◌, ◌≢◌, ℕ, suc, ◌+◌, ◌<◌, ◌≤◌, List, [], ◌∷◌, ◌++◌, length, Bool, true, false, MatchBool, Option, Some, None, refl, sym, ap, ◌∙◌, subst, arith, length-append}
+use Rattle.std.proofs.Common.{◌≡◌, ◌≢◌, ℕ, suc, ◌+◌, ◌≤◌, List, [], ◌∷◌, ◌++◌, length, Bool, true, false, MatchBool, Option, Some, None, refl, sym, ap, ◌∙◌, subst, arith, length-append}
 use Rattle.mx_letters.specs.declared.fates.Fate.{Fate}
 use Rattle.mx_letters.specs.declared.fates.Fate.TheVariants.{Pass, Drop, Twice}
+use Rattle.mx_member.specs.declared.parcel.Parcel.{Parcel}
 use Rattle.mx_nodelaws.specs.Core.{Core}
 use Rattle.mx_stations.specs.declared.answers.PutOut.{PutOut}
 use Rattle.mx_stations.specs.declared.answers.PutOut.TheVariants.{Sent, Full, Nothing}
 use Rattle.mx_stations.specs.declared.answers.TurnReport.{TurnReport}
-use Rattle.mx_stations.specs.Posts.{Delivers, Fetches, PutsOut}
-use Rattle.mx_stations.specs.Turns.{Deals, DeliversFirst, DeliversMore, IsFated, PutsEach, Station, TakesEach, TakesFated, Throws, Turns, begun, noted, noted_all, noted_put, noted_puts}
+use Rattle.mx_stations.specs.Posts.{DeliversAs, Fetches, PutsOut}
+use Rattle.mx_stations.specs.Turns.{Deals, IsFated, PutsEach, Station, TakesEach, TakesFated, Throws, Turns, begun, noted, noted_all, noted_put, noted_puts}
 use Rattle.mx_stations.proofs.Posts.{no_none}
 
--- a report after n notes of tries to take: no count grew by more
-abbrev TookFew : ℕ → TurnReport → TurnReport → Type 0
-TookFew n r q = (q.taken ≤ r.taken + n) × (q.dropped ≤ r.dropped + n) × (q.twice ≤ r.twice + n) × (q.put ≡ r.put) × (q.full ≡ r.full)
+-- a report after at most j tries to take a parcel
+abbrev pub Few : ℕ → TurnReport → Type 0
+Few j r = (r.taken ≤ j + 1) × (r.dropped ≤ j + 1) × (r.twice ≤ j + 1) × (r.put ≡ 0) × (r.full ≡ 0)
 
-one_few : (x : Option Fate) (r : TurnReport) → TookFew 1 r (noted x r)
-one_few None r = (omega arith, omega arith, omega arith, refl, refl)
-one_few (Some Pass) r = (omega arith, omega arith, omega arith, refl, refl)
-one_few (Some Drop) r = (omega arith, omega arith, omega arith, refl, refl)
-one_few (Some Twice) r = (omega arith, omega arith, omega arith, refl, refl)
+pub begun_few : (had : Bool) (r : TurnReport) → r ≡ begun had → Few 0 r
+begun_few true r is = subst (Few 0) (sym is) (omega arith, omega arith, omega arith, refl, refl)
+begun_few false r is = subst (Few 0) (sym is) (omega arith, omega arith, omega arith, refl, refl)
 
-pub took_few : (xs : List (Option Fate)) (r : TurnReport) → TookFew (length xs) r (noted_all xs r)
-took_few [] r = (omega arith, omega arith, omega arith, refl, refl)
-took_few (x ∷ xs) r =
-    let a = one_few x r in let b = took_few xs (noted x r) in
-    (let p = a.0 in let q = b.0 in omega arith, let p = a.1 in let q = b.1 in omega arith, let p = a.2 in let q = b.2 in omega arith, b.3 ∙ a.3, b.4 ∙ a.4)
+few_noted : (j : ℕ) (x : Option Fate) (r : TurnReport) → Few j r → Few (j + 1) (noted x r)
+few_noted j None r (a, b, t, p, f) = (omega arith, omega arith, omega arith, p, f)
+few_noted j (Some Pass) r (a, b, t, p, f) = (omega arith, omega arith, omega arith, p, f)
+few_noted j (Some Drop) r (a, b, t, p, f) = (omega arith, omega arith, omega arith, p, f)
+few_noted j (Some Twice) r (a, b, t, p, f) = (omega arith, omega arith, omega arith, p, f)
 
-abbrev PutFew : ℕ → TurnReport → TurnReport → Type 0
-PutFew n r q = (q.put ≤ r.put + n) × (q.full ≤ r.full + n)
+pub few_more : (j : ℕ) (x : Option Fate) (r q : TurnReport) → Few j r → q ≡ noted x r → Few (j + 1) q
+few_more j x r q few is = subst (Few (j + 1)) (sym is) (few_noted j x r few)
 
-one_put_few : (x : PutOut) (r : TurnReport) → PutFew 1 r (noted_put x r)
-one_put_few Sent r = (omega arith, omega arith)
-one_put_few Full r = (omega arith, omega arith)
-one_put_few Nothing r = (omega arith, omega arith)
+put_noted : (j : ℕ) (x : PutOut) (r : TurnReport) → r.put ≤ j → r.full ≤ j → ((noted_put x r).put ≤ j + 1) × ((noted_put x r).full ≤ j + 1)
+put_noted j Sent r a b = (omega arith, omega arith)
+put_noted j Full r a b = (omega arith, omega arith)
+put_noted j Nothing r a b = (omega arith, omega arith)
 
-pub put_few : (xs : List PutOut) (r : TurnReport) → PutFew (length xs) r (noted_puts xs r)
-put_few [] r = (omega arith, omega arith)
-put_few (x ∷ xs) r =
-    let a = one_put_few x r in let b = put_few xs (noted_put x r) in
-    (let p = a.0 in let q = b.0 in omega arith, let p = a.1 in let q = b.1 in omega arith)
-
-pub begun_few : (had : Bool) (r : TurnReport) → r ≡ begun had → (r.taken ≤ 1) × (r.dropped ≤ 1) × (r.twice ≤ 1)
-begun_few true r is = subst (λ (z : TurnReport). (z.taken ≤ 1) × (z.dropped ≤ 1) × (z.twice ≤ 1)) (sym is) (omega arith, omega arith, omega arith)
-begun_few false r is = subst (λ (z : TurnReport). (z.taken ≤ 1) × (z.dropped ≤ 1) × (z.twice ≤ 1)) (sym is) (omega arith, omega arith, omega arith)
-
-begun_none : (had : Bool) → ((begun had).put ≡ 0) × ((begun had).full ≡ 0)
-begun_none true = (refl, refl)
-begun_none false = (refl, refl)
-
-pub none_put : (had : Bool) (xs : List (Option Fate)) (r q : TurnReport) → r ≡ begun had → q ≡ noted_all xs r → (q.put ≡ 0) × (q.full ≡ 0)
-none_put had xs r q is all =
-    let f = took_few xs r in let b = begun_none had in
-    (ap (λ (z : TurnReport). z.put) all ∙ f.3 ∙ ap (λ (z : TurnReport). z.put) is ∙ b.0, ap (λ (z : TurnReport). z.full) all ∙ f.4 ∙ ap (λ (z : TurnReport). z.full) is ∙ b.1)
+pub put_more : (j : ℕ) (x : PutOut) (r q : TurnReport) → (r.put ≤ j) × (r.full ≤ j) → q ≡ noted_put x r → (q.put ≤ j + 1) × (q.full ≤ j + 1)
+put_more j x r q few is = subst (λ (z : TurnReport). (z.put ≤ j + 1) × (z.full ≤ j + 1)) (sym is) (put_noted j x r few.0 few.1)
 
 noted_more : (xs : List (Option Fate)) (x : Option Fate) (r : TurnReport) → noted_all (xs ++ x ∷ []) r ≡ noted x (noted_all xs r)
 noted_more [] x r = refl
@@ -97,46 +80,33 @@ module _ {H S M : Type 0} (core : Core H S M) where
     now ∙ ap (noted_put x) far.3 ∙ sym (noted_puts_more far.0 x r),
   )
 
-  pub few_so_far : (j : ℕ) (r q : TurnReport) (s t : Station core) → TookSoFar j r q s t → r.taken ≤ 1 → r.dropped ≤ 1 → r.twice ≤ 1 → j < 256 → (q.taken < 1000) × (q.dropped < 1000) × (q.twice < 1000)
-  few_so_far j r q s t far a b c small =
-      let f = took_few far.0 r in
-      subst (λ (z : TurnReport). (z.taken < 1000) × (z.dropped < 1000) × (z.twice < 1000)) (sym far.3)
-      (let p = f.0 in let l = far.2 in omega arith, let p = f.1 in let l = far.2 in omega arith, let p = f.2 in let l = far.2 in omega arith)
-
-  pub few_put_so_far : (j : ℕ) (r q : TurnReport) (s t : Station core) → PutSoFar j r q s t → r.put ≡ 0 → r.full ≡ 0 → j < 65 → (q.put < 1000) × (q.full < 1000)
-  few_put_so_far j r q s t far a b small =
-      let f = put_few far.0 r in
-      subst (λ (z : TurnReport). (z.put < 1000) × (z.full < 1000)) (sym far.3)
-      (let p = f.0 in let l = far.2 in omega arith, let p = f.1 in let l = far.2 in omega arith)
-
   fetched_hand : (from : ℕ) (s m : Station core) (got : Fetches from s m) → m.me.hand ≡ Some (from, got.1.0)
   fetched_hand from s m got = ap (λ (z : Station core). z.me.hand) got.1.3
 
+  -- what is in hand is delivered, and nothing where nothing is
+  gave : (again : Bool) (x : ℕ × Parcel M) (s t : Station core) (b : Bool) → s.me.hand ≡ Some x → MatchBool b (DeliversAs core again s t) ((s.me.hand ≡ None) × (t ≡ s)) → DeliversAs core again s t
+  gave again x s t true held did = did
+  gave again x s t false held did = absurd (no_none x held did.0)
+
+  had_none : (again : Bool) (s t : Station core) (b : Bool) → s.me.hand ≡ None → MatchBool b (DeliversAs core again s t) ((s.me.hand ≡ None) × (t ≡ s)) → t ≡ s
+  had_none again s t true none did = absurd (no_none (did.0, did.1) did.2 none)
+  had_none again s t false none did = did.1
+
+  emptied : (s t : Station core) → DeliversAs core false s t → t.me.hand ≡ None
+  emptied s t did = ap (λ (z : Station core). z.me.hand) did.3
+
   -- a parcel was taken, and delivered as often as its fate says
-  pub dealt : (from : ℕ) (fate : Fate) (s m n t : Station core) (b : Bool) → IsFated from fate s m → ((fate ≡ Twice → m.me.hand ≢ None) → DeliversMore core fate m n)
-      → MatchBool b (Delivers core n t) ((n.me.hand ≡ None) × (t ≡ n)) → Deals core from fate s t
-  dealt from Pass s m n t true got more did =
-      let same : n ≡ m = more (λ e h. absurd (cc)) in (m, got, subst (λ (z : Station core). Delivers core z t) same did)
-  dealt from Pass s m n t false got more did =
-      let same : n ≡ m = more (λ e h. absurd (cc)) in
-      absurd (no_none (from, got.1.0) (fetched_hand from s m got) (ap (λ (z : Station core). z.me.hand) (sym same) ∙ did.0))
-  dealt from Drop s m n t true got more did =
-      let same : n ≡ m = more (λ e h. absurd (cc)) in
-      absurd (no_none (did.0, did.1) did.2 (ap (λ (z : Station core). z.me.hand) same ∙ ap (λ (z : Station core). z.me.hand) got.1.3))
-  dealt from Drop s m n t false got more did =
-      let same : n ≡ m = more (λ e h. absurd (cc)) in subst (λ (z : Station core). Throws from s z) (sym (did.1 ∙ same)) got
-  dealt from Twice s m n t true got more did = (m, n, got, more (λ e. no_none (from, got.1.0) (fetched_hand from s m got)), did)
-  dealt from Twice s m n t false got more did =
-      let first : DeliversFirst core m n = more (λ e. no_none (from, got.1.0) (fetched_hand from s m got)) in
-      absurd (no_none (from, got.1.0) (ap (λ (z : Station core). z.me.hand) first.3 ∙ fetched_hand from s m got) did.0)
-
-  pub no_more : (fate : Fate) (s : Station core) → fate ≢ Twice → DeliversMore core fate s s
-  no_more Pass s not = refl
-  no_more Drop s not = refl
-  no_more Twice s not = absurd (not refl)
-
-  pub more_first : (fate : Fate) (s t : Station core) (b : Bool) → fate ≡ Twice → MatchBool b (DeliversFirst core s t) ((s.me.hand ≡ None) × (t ≡ s)) → (fate ≡ Twice → s.me.hand ≢ None) → DeliversMore core fate s t
-  more_first Pass s t b is did held = absurd (cc)
-  more_first Drop s t b is did held = absurd (cc)
-  more_first Twice s t true is did held = did
-  more_first Twice s t false is did held = absurd (held refl did.0)
+  pub dealt : (from : ℕ) (fate : Fate) (s m n t : Station core) (twice b d : Bool) → IsFated from fate s m → MatchBool twice (fate ≡ Twice) (fate ≢ Twice)
+      → MatchBool b (DeliversAs core twice m n) ((m.me.hand ≡ None) × (n ≡ m)) → MatchBool d (DeliversAs core false n t) ((n.me.hand ≡ None) × (t ≡ n)) → Deals core from fate s t
+  dealt from Pass s m n t false b d got is first last =
+      let did = gave false (from, got.1.0) m n b (fetched_hand from s m got) first in
+      (m, got, subst (λ (z : Station core). DeliversAs core false m z) (sym (had_none false n t d (emptied m n did) last)) did)
+  dealt from Twice s m n t true b d got is first last =
+      let did = gave true (from, got.1.0) m n b (fetched_hand from s m got) first in
+      (m, n, got, did, gave false (from, got.1.0) n t d (ap (λ (z : Station core). z.me.hand) did.3 ∙ fetched_hand from s m got) last)
+  dealt from Drop s m n t twice b d got is first last =
+      let none : m.me.hand ≡ None = ap (λ (z : Station core). z.me.hand) got.1.3 in
+      let same = had_none twice m n b none first in
+      subst (λ (z : Station core). Throws from s z) (sym (had_none false n t d (ap (λ (z : Station core). z.me.hand) same ∙ none) last ∙ same)) got
+  dealt from Pass s m n t true b d got is first last = absurd (cc)
+  dealt from Twice s m n t false b d got is first last = absurd (is refl)

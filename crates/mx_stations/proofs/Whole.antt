@@ -27,7 +27,8 @@ use Rattle.mx_member.proofs.RunningTells.{join_account, section_of}
 use Rattle.mx_stations.specs.Entries.{Node, owned_of}
 use Rattle.mx_stations.specs.Posts.{Post}
 use Rattle.mx_stations.specs.Running.{sent_of}
-use Rattle.mx_stations.specs.Gathered.{Disagree, IsGathered, IsTogether, IsWhole, Knows, me_of, nodes_in, owned_in, receipts_of}
+use Rattle.mx_stations.specs.Gathered.{Disagree, IsGathered, IsTogether, IsWhole, me_of, nodes_in, owned_in, receipts_of}
+use Rattle.mx_stations.specs.Together.{RunTogether}
 use Rattle.mx_stations.proofs.Acting.{node_at}
 use Rattle.mx_stations.proofs.Numbers.{HasEach, in_first_order, in_map, in_other_order, of_map, records_ascend, sorted_in_turn}
 use Rattle.mx_stations.proofs.Places.{as_slice_at, one_at, within}
@@ -64,7 +65,7 @@ entry_of [] i o at = absurd (none_is_no_some o at)
 entry_of (e ∷ world) zero o at = (e, refl, same_Some (owned_of e) o at)
 entry_of (e ∷ world) (suc i) o at = entry_of world i o at
 
-module _ {H S M : Type 0} (core : Core H S M) (Good : World S M → Type 0) (posts : List (Post (MemberState S) (Parcel M))) (known : Knows core Good (nodes_in posts) (map me_of posts)) where
+module _ {H S M : Type 0} (core : Core H S M) (Good : World S M → Type 0) (posts : List (Post (MemberState S) (Parcel M))) (known : RunTogether core Good (nodes_in posts) (map me_of posts)) where
   abbrev nodes : List (Owned S)
   nodes = map owned_of known.world
 
@@ -85,7 +86,7 @@ module _ {H S M : Type 0} (core : Core H S M) (Good : World S M → Type 0) (pos
   pub no_disagreement : Disagree (owned_in posts) → ⊥
   no_disagreement (k, o, all, at, join, differ) =
       let seat = seat_of o (in_get (owned_in posts) k o at) in
-      differ (joins_agree core Good nodes (sent_of known.world) known.runs (take k (owned_in posts)) seat.0 o all
+      differ (joins_agree core Good nodes (sent_of known.world) known.shown.runs (take k (owned_in posts)) seat.0 o all
       (λ i p here. seat_of p (in_first k (owned_in posts) p (in_get (take k (owned_in posts)) i p here))) join seat.1)
 
   module _ (whole : IsWhole posts) where
@@ -120,10 +121,10 @@ module _ {H S M : Type 0} (core : Core H S M) (Good : World S M → Type 0) (pos
 
       -- the records of all receipts that the nodes hold
       abbrev sections : List Record
-      sections = records_of (receipts_in known.runs.sections)
+      sections = records_of (receipts_in known.shown.runs.sections)
 
       account : IsAccount nodes sections journal
-      account = join_account core Good nodes (sent_of known.world) known.runs journal joined together.ordered
+      account = join_account core Good nodes (sent_of known.world) known.shown.runs journal joined together.ordered
 
       -- as many receipts as all nodes hold
       size : length receipts ≡ receipt_count nodes
@@ -161,7 +162,7 @@ module _ {H S M : Type 0} (core : Core H S M) (Good : World S M → Type 0) (pos
       records =
           same_members 1 1 sections (map record_of receipts) account.ordered (records_ascend receipts numbered)
           (λ x h.
-          let r = section_of core Good nodes (sent_of known.world) known.runs x h in
+          let r = section_of core Good nodes (sent_of known.world) known.shown.runs x h in
           subst (λ (z : Record). IsIn z (map record_of receipts)) (sym r.4) (in_map record_of receipts r.2 (has r.0 r.1 r.2 r.3)))
           (λ x h.
           let r = of_map record_of receipts x h in

@@ -1,6 +1,6 @@
 -- A worker leaves no more sections than it was asked for: it asks only where some are lacking, and no other act but to
 -- ask makes an idle node busy.
-use Rattle.std.proofs.Common.{◌≡◌, ◌⊎◌, ◌<◌, ◌+◌, ◌-◌, ◌++◌, inl, inr, ℕ, List, [], ◌∷◌, length, length-append, Option, None, Result, Ok, Err, OnOk, OnErr, nat_le, nat_lt, if◌then◌else◌, refl, sym, ap, ◌∙◌, subst, arith}
+use Rattle.std.proofs.Common.{◌≡◌, ◌⊎◌, ◌<◌, ◌+◌, ◌-◌, ◌++◌, inl, inr, ℕ, List, [], ◌∷◌, length, length-append, Option, Result, Ok, Err, OnOk, OnErr, nat_le, nat_lt, if◌then◌else◌, refl, sym, ap, ◌∙◌, subst, arith}
 use Rattle.std.proofs.lemmas.List.{append-nil}
 use Rattle.mx_stamps.proofs.Choices.{compared, cond_case}
 use Rattle.mx_journal.specs.Settled.{settled}
@@ -22,38 +22,23 @@ use Rattle.mx_member.specs.Acts.{act_of}
 use Rattle.mx_member.specs.Member.{MemberState, first_gap, with_core, with_journal}
 use Rattle.mx_member.specs.Receipts.{closed_by}
 use Rattle.mx_member.specs.Steps.{entered, leave_at, read_at, refusing, settle_of, take_of, write_at}
-use Rattle.mx_stations.specs.declared.answers.PutOut.{PutOut}
-use Rattle.mx_stations.specs.declared.answers.PutOut.TheVariants.{Sent, Full, Nothing}
-use Rattle.mx_stations.specs.Posts.{PutsOut, after_act, does}
-use Rattle.mx_stations.specs.Turns.{Chain, Goes, Moves, Station}
-use Rattle.mx_stations.specs.Works.{IsWithin, MayLeave, SettlesIfDue}
-
-idle_waiting : Idle ≡ Waiting → ⊥
-idle_waiting e = cc
-
-idle_inside : (n : ℕ) → Idle ≡ Inside n → ⊥
-idle_inside n e = cc
+use Rattle.mx_stations.specs.Posts.{after_act, does}
+use Rattle.mx_stations.specs.Turns.{Goes, Station}
+use Rattle.mx_stations.specs.Works.{IsWithin, IsWorkers, MayLeave, Serves, SettlesIfDue}
+use Rattle.mx_stations.proofs.Going.{goes_keep}
+use Rattle.mx_stations.proofs.Leaving.{none_on, none_resting, none_trying}
 
 -- each act but to ask
 abbrev pub AsksNot : {M : Type 0} → Act M → Type 0
 AsksNot act.Ask = ⊥
-AsksNot act.Enter = Unit {0}
-AsksNot (act.Read register) = Unit {0}
-AsksNot (act.Write register value) = Unit {0}
-AsksNot act.Leave = Unit {0}
-AsksNot act.Cancel = Unit {0}
-AsksNot (act.Settle k) = Unit {0}
-AsksNot act.Tick = Unit {0}
-AsksNot (act.Want to) = Unit {0}
-AsksNot (act.Deliver from p) = Unit {0}
-AsksNot act.Restart = Unit {0}
+AsksNot _ = Unit {0}
 
 module _ {H S M : Type 0} (core : Core H S M) (phases : KeepsPhases core) where
   abbrev IsIdle : MemberState S → Type 0
   IsIdle m = core.phase m.core ≡ Idle
 
   entered_idle : (m : MemberState S) (r : Result ℕ EnterFault) → (core.enter m.core).answer ≡ r → IsIdle m → IsIdle (entered r (with_core (core.enter m.core).state m))
-  entered_idle m (Ok n) is idle = absurd (idle_waiting (sym idle ∙ phases.can_enter_waiting m.core (phases.enter_ok m.core n is).0))
+  entered_idle m (Ok n) is idle = let wrong : Idle ≡ Waiting = sym idle ∙ phases.can_enter_waiting m.core (phases.enter_ok m.core n is).0 in cc
   entered_idle m (Err e) is idle = ap core.phase (phases.enter_err m.core e is) ∙ idle
 
   cancelled_idle : (m : MemberState S) (r : Result (Unit {0}) CancelFault) → (core.cancel m.core).answer ≡ r → IsIdle m → core.phase (core.cancel m.core).state ≡ Idle
@@ -134,35 +119,30 @@ module _ {H S M : Type 0} (core : Core H S M) (phases : KeepsPhases core) (most 
   left_within rs m Waiting is within =
       subst (λ (l : List Receipt). (length l < most) ⊎ ((length l ≡ most) × (core.phase m.core ≡ Idle))) (sym (append-nil rs)) within
   left_within rs m (Inside n) is (inl low) = closed_within rs _ (core.phase (core.leave m.core).state) (phases.leave_ok m.core n ((phases.leave_inside m.core n).1 is)) low
-  left_within rs m (Inside n) is (inr full) = absurd (idle_inside n (sym full.1 ∙ is))
+  left_within rs m (Inside n) is (inr full) = let wrong : Idle ≡ Inside n = sym full.1 ∙ is in cc
 
   -- it may leave its section
   pub leaving_within : (s t : Station core) → MayLeave core s t → IsWithin core most s → IsWithin core most t
   leaving_within s t (inl same) is = same_within s t same is
   leaving_within s t (inr did) is = same_within (does core act.Leave s) t did (left_within s.me.receipts s.me.member (core.phase s.me.member.core) refl is)
 
-  put_within : (s t : Station core) (r : PutOut) → PutsOut s r t → IsWithin core most s → IsWithin core most t
-  put_within s t Sent did is = kept_within s t (ap (λ (z : Station core). z.me.receipts) did.6) (ap (λ (z : Station core). z.me.member) did.6) is
-  put_within s t Full did is = kept_within s t (ap (λ (z : Station core). z.me.receipts) did.4) (ap (λ (z : Station core). z.me.member) did.4) is
-  put_within s t Nothing did is = same_within s t did.1 is
-
-  moved_within : (s t : Station core) → Moves core s t → IsWithin core most s → IsWithin core most t
-  moved_within s t (inl did) is = same_within (does core (act.Deliver did.0 did.1) s) t did.3 (acted_within (act.Deliver did.0 did.1) tt s.me.hand s refl is)
-  moved_within s t (inr (inl did)) is = same_within (after_act core (act.Deliver did.0 did.1) None s) t did.3 (acted_within (act.Deliver did.0 did.1) tt None s refl is)
-  moved_within s t (inr (inr (inl did))) is = kept_within s t (ap (λ (z : Station core). z.me.receipts) did.1.1.3) (ap (λ (z : Station core). z.me.member) did.1.1.3) is
-  moved_within s t (inr (inr (inr (inl did)))) is = kept_within s t (ap (λ (z : Station core). z.me.receipts) did.1.1.3) (ap (λ (z : Station core). z.me.member) did.1.1.3) is
-  moved_within s t (inr (inr (inr (inr (inl did))))) is = put_within s t did.0 did.1 is
-  moved_within s t (inr (inr (inr (inr (inr did))))) is = doing_within act.Tick s t tt refl did is
-
-  chained_within : (ms : List (Station core)) (s t : Station core) → Chain core ms s t → IsWithin core most s → IsWithin core most t
-  chained_within [] s t same is = same_within s t same is
-  chained_within (m ∷ ms) s t did is = chained_within ms m t did.1 (moved_within s m did.0 is)
-
   -- a turn of its station
   pub turned_within : (s t : Station core) → Goes core s t → IsWithin core most s → IsWithin core most t
-  turned_within s t did is = chained_within did.0 s t did.1 is
+  turned_within = goes_keep core (λ s t. IsWithin core most s → IsWithin core most t) (λ s t u a b is. b (a is)) (λ s t home member receipts is. kept_within s t receipts member is)
+      (λ from p hand s is. acted_within (act.Deliver from p) tt hand s refl is) (λ s is. acted_within act.Tick tt s.me.hand s refl is)
 
   -- and its settling
   pub settling_within : (every before : ℕ) (s t : Station core) → SettlesIfDue core every before s t → IsWithin core most s → IsWithin core most t
   settling_within every before s t (inl did) is = doing_within (act.Settle (first_gap s.me.member.journal - 1)) s t tt refl did.1 is
   settling_within every before s t (inr did) is = same_within s t did.1 is
+
+module _ {H S M : Type 0} (core : Core H S M) (phases : KeepsPhases core) (register most : ℕ) where
+  pub serves_none : (s t : Station core) → t ≡ s → Serves core register most s t
+  serves_none s t same = (none_resting core register s t same, same_within core phases most s t same)
+
+  pub serves_on : (s t u : Station core) → Serves core register most s t → Serves core register most t u → Serves core register most s u
+  serves_on s t u a b = (none_on core register s t u a.0 b.0, λ is. b.1 (a.1 is))
+
+  -- an act of a worker but to ask or to leave, which may be refused
+  pub serves_trying : {A F : Type 0} (a : Act M) (r : Result A F) (s t : Station core) → IsWorkers register s.nodes a → AsksNot a → closed_by (act_of core a s.me.member).answer ≡ [] → OnOk r (t ≡ does core a s) → OnErr r (t ≡ s) → Serves core register most s t
+  serves_trying a r s t own other none did same = (none_trying core register a r s t own none did same, trying_within core phases most a r s t other none did same)

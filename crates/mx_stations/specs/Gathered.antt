@@ -12,17 +12,15 @@ use Rattle.mx_journal.specs.Records.{Ascending}
 use Rattle.mx_journal.specs.Settled.{Covers, DoAgree, JournalState, settled, unsettled}
 use Rattle.mx_registers.specs.Based.{registers_in}
 use Rattle.mx_registers.specs.Registers.{AreApplied, writes_to}
-use Rattle.mx_nodelaws.specs.World.{World}
 use Rattle.mx_nodelaws.specs.Core.{Core, IsInside}
 use Rattle.mx_member.specs.declared.parcel.Parcel.{Parcel}
 use Rattle.mx_member.specs.Member.{MemberState}
-use Rattle.mx_member.specs.Running.{IsJoinOfNodes, IsNode, IsRunning, Owned}
+use Rattle.mx_member.specs.Running.{IsJoinOfNodes, IsNode, Owned}
 use Rattle.mx_trace.specs.Serial.{IsSerialRead}
 use Rattle.mx_stations.specs.declared.collection.GatherFault.{GatherFault}
 use Rattle.mx_stations.specs.declared.collection.GatherFault.TheVariants.{NotAll, StillInside, Memory}
-use Rattle.mx_stations.specs.Entries.{Entry, Node, owned_of}
+use Rattle.mx_stations.specs.Entries.{Entry, owned_of}
 use Rattle.mx_stations.specs.Posts.{Post}
-use Rattle.mx_stations.specs.Running.{Once, sent_of}
 
 module _ {T P : Type 0} where
   abbrev pub me_of : Post T P → Entry T P
@@ -89,15 +87,6 @@ module _ {H S M : Type 0} (core : Core H S M) where
   Refuses posts (NotAll i) = IsLeastMissing posts i
   Refuses posts (StillInside i) = IsWhole posts × IsLeastInside posts i
   Refuses posts Memory = IsReady posts
-
-  -- the nodes in view are different nodes of one running cluster of n nodes
-  pub record Knows (Good : World S M → Type 0) (n : ℕ) (v : List (Node S M)) : Type 0 where
-    pub world : List (Node S M)
-    pub long : length world ≡ n
-    pub runs : IsRunning core Good (map owned_of world) (sent_of world)
-    pub numbered : (i : ℕ) (e : Node S M) → get_elem? world i ≡ some e → e.node ≡ i
-    pub stands : (e : Node S M) → IsIn e v → get_elem? world e.node ≡ some e
-    pub once : Once v
 
 -- the nodes of the stations, each with its receipts
 abbrev pub owned_in : {S M : Type 0} → List (Post (MemberState S) (Parcel M)) → List (Owned S)

@@ -8,7 +8,7 @@ use Rattle.atomic_table.specs.Seated.{TableId}
 use Rattle.mx_stamps.specs.Lists.{IsIn}
 use Rattle.mx_stations.specs.declared.slots.Link.{Link}
 use Rattle.mx_stations.specs.declared.slots.TheConstants.{SLOTS, EMPTY, CLAIMED, FILLED, TAKEN}
-use Rattle.mx_stations.specs.Entries.{Entry, Stage, Idle, Writing, Reading}
+use Rattle.mx_stations.specs.Entries.{Entry, Stage, Writing, Reading}
 
 -- the state of a slot: it is empty, its sender is filling it, a parcel lies there, or its receiver
 -- is emptying it
@@ -39,14 +39,12 @@ of k (x ∷ xs) = cond (x.0 == k) (x.1 ∷ of k xs) (of k xs)
 
 -- the node has claimed slot k, and has not given it back yet
 abbrev pub Writes : ℕ → Stage → Type 0
-Writes k Idle = ⊥
 Writes k (Writing j) = j ≡ k
-Writes k (Reading j) = ⊥
+Writes k _ = ⊥
 
 abbrev pub Reads : ℕ → Stage → Type 0
-Reads k Idle = ⊥
-Reads k (Writing j) = ⊥
 Reads k (Reading j) = j ≡ k
+Reads k _ = ⊥
 
 module _ {P : Type 0} where
   abbrev pub word_for : SlotState P → ℕ
@@ -56,37 +54,28 @@ module _ {P : Type 0} where
   word_for taken = TAKEN
 
   abbrev pub lying : SlotState P → List P
-  lying empty = []
-  lying claimed = []
   lying (filled p) = p ∷ []
-  lying taken = []
+  lying _ = []
 
   abbrev pub IsClaimed : SlotState P → Type 0
-  IsClaimed empty = ⊥
   IsClaimed claimed = Unit {0}
-  IsClaimed (filled p) = ⊥
-  IsClaimed taken = ⊥
+  IsClaimed _ = ⊥
 
   abbrev pub IsTaken : SlotState P → Type 0
-  IsTaken empty = ⊥
-  IsTaken claimed = ⊥
-  IsTaken (filled p) = ⊥
   IsTaken taken = Unit {0}
+  IsTaken _ = ⊥
 
   -- slot k has the contents of this state; while a node fills or empties the slot, this says
   -- nothing
   abbrev pub Lies : List (maybe.Option (Option P)) → ℕ → SlotState P → Type 0
   Lies homes k empty = get_elem? homes k ≡ some (some None)
-  Lies homes k claimed = Unit {0}
   Lies homes k (filled p) = get_elem? homes k ≡ some (some (Some p))
-  Lies homes k taken = Unit {0}
+  Lies homes k _ = Unit {0}
 
   -- a parcel that lies in the slot was sent to node `to`
   abbrev pub WasSent : ℕ → List (ℕ × P) → SlotState P → Type 0
-  WasSent to sent empty = Unit {0}
-  WasSent to sent claimed = Unit {0}
   WasSent to sent (filled p) = IsIn (to, p) sent
-  WasSent to sent taken = Unit {0}
+  WasSent to sent _ = Unit {0}
 
 -- Slot k, through which e sends to f, is in this state. What f took from it is what e placed in it,
 -- in order, except a parcel that lies there.

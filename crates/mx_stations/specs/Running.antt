@@ -15,7 +15,6 @@ use Rattle.mx_member.specs.Acts.{act_of}
 use Rattle.mx_member.specs.Member.{MemberState}
 use Rattle.mx_member.specs.Receipts.{closed_by}
 use Rattle.mx_member.specs.Running.{IsRunning}
-use Rattle.mx_member.specs.Steps.{IsTakeable}
 use Rattle.mx_stations.specs.Entries.{Entry, Idle, Node, owned_of}
 use Rattle.mx_stations.specs.Links.{Links}
 
@@ -97,31 +96,16 @@ module _ {H S M : Type 0} (core : Core H S M) where
 -- a node with this in its hand may do this act: a delivered parcel is the one in hand, and a want
 -- goes to one of n nodes
 abbrev pub MayDo : {M : Type 0} → ℕ → Option (ℕ × Parcel M) → Act M → Type 0
-MayDo n hand act.Ask = Unit {0}
-MayDo n hand act.Enter = Unit {0}
-MayDo n hand (act.Read register) = Unit {0}
-MayDo n hand (act.Write register value) = Unit {0}
-MayDo n hand act.Leave = Unit {0}
-MayDo n hand act.Cancel = Unit {0}
-MayDo n hand (act.Settle k) = Unit {0}
-MayDo n hand act.Tick = Unit {0}
 MayDo n hand (act.Want to) = to < n
 MayDo n hand (act.Deliver from p) = hand ≡ Some (from, p)
-MayDo n hand act.Restart = Unit {0}
+MayDo n hand _ = Unit {0}
 
 -- the act takes no memory, delivers no parcel and leaves no section; a want goes to one of n nodes
 abbrev pub IsPlain : {M : Type 0} → ℕ → Act M → Type 0
-IsPlain n act.Ask = Unit {0}
-IsPlain n act.Enter = Unit {0}
-IsPlain n (act.Read register) = Unit {0}
-IsPlain n (act.Write register value) = Unit {0}
 IsPlain n act.Leave = ⊥
-IsPlain n act.Cancel = Unit {0}
-IsPlain n (act.Settle k) = Unit {0}
-IsPlain n act.Tick = Unit {0}
-IsPlain n (act.Want to) = to < n
 IsPlain n (act.Deliver from p) = ⊥
-IsPlain n act.Restart = Unit {0}
+IsPlain n (act.Want to) = to < n
+IsPlain n _ = Unit {0}
 
 -- the hand is unchanged, or empty
 abbrev pub Keeps : {P : Type 0} → Option (ℕ × P) → Option (ℕ × P) → Type 0
@@ -166,12 +150,6 @@ pub record DidAct {H S M : Type 0} (core : Core H S M) (n : ℕ) (v : List (Node
 -- each parcel that a node in view sent is for one of n nodes
 abbrev pub GoToNodes : {T P : Type 0} → ℕ → List (Entry T P) → Type 0
 GoToNodes {T} {P} n v = (e : Entry T P) → IsIn e v → (x : ℕ × P) → IsIn x e.sent → x.0 < n
-
--- each node in view can take the parcel in its hand: one of the cluster's nodes is the sender, and
--- the parcel does not conflict with the journal
-abbrev pub HandFits : {S M : Type 0} → List (Node S M) → Type 0
-HandFits {S} {M} v =
-    (e : Node S M) (x : ℕ × Parcel M) → IsIn e v → e.hand ≡ Some x → IsTakeable x.0 x.1 e.member
 
 -- the seat has this node alone and no slot, and the node is not moving a parcel
 abbrev pub IsIdle : {T P : Type 0} → Me (Option P) (List (Entry T P)) → ℕ → Type 0

@@ -12,11 +12,19 @@ use Rattle.mx_stations.specs.declared.slots.TheConstants.{SLOTS}
 use Rattle.mx_stations.specs.Posts.{Delivers, Fetches, FindsNone, Post, PutsOut, does, post, slot_from}
 use Rattle.mx_stations.specs.Slides.{releasing, taking}
 
+-- steps of this kind, one after another, lead from s to t; the list has what each of them leads to
+abbrev pub Path : {X : Type 0} → (X → X → Type 0) → List X → X → X → Type 0
+Path Step [] s t = t ≡ s
+Path Step (m ∷ ms) s t = Step s m × Path Step ms m t
+
+-- some steps of this kind, one after another, lead from s to t
+abbrev pub Leads : {X : Type 0} → (X → X → Type 0) → X → X → Type 0
+Leads {X} Step s t = (ms : List X) × Path Step ms s t
+
 -- the contents of the hand after a parcel with this fate was taken
 abbrev pub fated_hand : {P : Type 0} → Fate → ℕ × P → Option (ℕ × P)
-fated_hand Pass x = Some x
 fated_hand Drop x = None
-fated_hand Twice x = Some x
+fated_hand _ x = Some x
 
 module _ {T P : Type 0} where
   -- while the hand is empty, a parcel is taken from a slot of the link and thrown away
@@ -27,9 +35,8 @@ module _ {T P : Type 0} where
 
   -- a parcel with this fate is taken from the link: it goes into the hand, or is thrown away
   abbrev pub IsFated : ℕ → Fate → Post T P → Post T P → Type 0
-  IsFated from Pass s t = Fetches from s t
   IsFated from Drop s t = Throws from s t
-  IsFated from Twice s t = Fetches from s t
+  IsFated from _ s t = Fetches from s t
 
 module _ {H S M : Type 0} (core : Core H S M) where
   abbrev pub Station : Type 0
@@ -56,14 +63,9 @@ module _ {H S M : Type 0} (core : Core H S M) where
       ⊎ (((from : ℕ) × Throws from s t)
       ⊎ (((r : PutOut) × PutsOut s r t) ⊎ (t ≡ does core Tick s)))))
 
-  -- one act or move after another leads from s to t; the list has the station after each of them
-  abbrev pub Chain : List Station → Station → Station → Type 0
-  Chain [] s t = t ≡ s
-  Chain (m ∷ ms) s t = Moves s m × Chain ms m t
-
   -- some acts and moves, one after another, lead from s to t
   abbrev pub Goes : Station → Station → Type 0
-  Goes s t = (ms : List Station) × Chain ms s t
+  Goes s t = Leads Moves s t
 
 abbrev pub noted_fate : Fate → TurnReport → TurnReport
 noted_fate Pass r = record r { taken = r.taken + 1 }
@@ -98,12 +100,6 @@ abbrev pub ending : Bool → TurnReport → TurnReport
 ending ticked r = record r { ticked = ticked }
 
 module _ {H S M : Type 0} (core : Core H S M) where
-  -- if the fate is `Twice`, the parcel in hand is delivered a first time; otherwise nothing happens
-  abbrev pub DeliversMore : Fate → Station core → Station core → Type 0
-  DeliversMore Pass s t = t ≡ s
-  DeliversMore Drop s t = t ≡ s
-  DeliversMore Twice s t = DeliversFirst core s t
-
   -- a parcel is taken from the link, and delivered as often as its fate says
   abbrev pub Deals : ℕ → Fate → Station core → Station core → Type 0
   Deals from Pass s t = (m : Station core) × Fetches from s m × Delivers core m t

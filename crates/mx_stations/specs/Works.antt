@@ -1,4 +1,4 @@
-use Rattle.std.specs.Prelude.{◌≡◌, ◌≢◌, ◌⊎◌, ℕ, ◌-◌, ◌%◌, ◌<◌, ◌≤◌, List, [], ◌∷◌, length}
+use Rattle.std.specs.Prelude.{◌≡◌, ◌≢◌, ◌⊎◌, ℕ, ◌-◌, ◌%◌, ◌<◌, ◌≤◌, List, length}
 use Rattle.mx_nodelaws.specs.Core.{Core}
 use Rattle.mx_nodelaws.specs.declared.phase.Phase.TheVariants.{Idle}
 use Rattle.mx_member.specs.Member.{first_gap}
@@ -6,7 +6,7 @@ use Rattle.mx_member.specs.declared.acts.Act.{Act}
 use Rattle.mx_member.specs.declared.acts.Act.TheVariants as act
 use Rattle.mx_stations.specs.declared.answers.TurnReport.{TurnReport}
 use Rattle.mx_stations.specs.Posts.{does}
-use Rattle.mx_stations.specs.Turns.{Goes, HoldsUnknown, Moves, Station, Turns}
+use Rattle.mx_stations.specs.Turns.{Goes, HoldsUnknown, Leads, Moves, Path, Station, Turns}
 
 -- an act of a worker of n nodes: it asks, enters, leaves, reads or writes its register, or asks a
 -- node for records
@@ -16,38 +16,26 @@ IsWorkers register n act.Enter = Unit {0}
 IsWorkers register n (act.Read of) = of ≡ register
 IsWorkers register n (act.Write of value) = of ≡ register
 IsWorkers register n act.Leave = Unit {0}
-IsWorkers register n act.Cancel = ⊥
-IsWorkers register n (act.Settle k) = ⊥
-IsWorkers register n act.Tick = ⊥
 IsWorkers register n (act.Want to) = to < n
-IsWorkers register n (act.Deliver from p) = ⊥
-IsWorkers register n act.Restart = ⊥
+IsWorkers register n _ = ⊥
 
 module _ {H S M : Type 0} (core : Core H S M) (register : ℕ) where
   -- one act of a worker, or one act or move of a turn
   abbrev pub Toils : Station core → Station core → Type 0
   Toils s t = Moves core s t ⊎ ((a : Act M) × IsWorkers register s.nodes a × (t ≡ does core a s))
 
-  -- one of these acts and moves after another leads from s to t; the list has the station after
-  -- each of them
-  abbrev pub Row : List (Station core) → Station core → Station core → Type 0
-  Row [] s t = t ≡ s
-  Row (m ∷ ms) s t = Toils s m × Row ms m t
-
   -- some of these acts and moves, one after another, lead from s to t
   abbrev pub Works : Station core → Station core → Type 0
-  Works s t = (ms : List (Station core)) × Row ms s t
+  Works s t = Leads Toils s t
 
 module _ {H S M : Type 0} (core : Core H S M) (IsKind : ℕ → Act M → Type 0) where
-  -- these acts of a station, one after another, lead from s to t. Each is of this kind, which
-  -- depends on the number of nodes
-  abbrev pub ActsIn : List (Act M) → Station core → Station core → Type 0
-  ActsIn [] s t = t ≡ s
-  ActsIn (a ∷ more) s t = IsKind s.nodes a × ActsIn more (does core a s) t
+  -- one act of this kind, which depends on the number of nodes
+  abbrev pub ActsOnce : Station core → Station core → Type 0
+  ActsOnce s t = (a : Act M) × IsKind s.nodes a × (t ≡ does core a s)
 
   -- some acts of this kind, one after another, lead from s to t
   abbrev pub Acts : Station core → Station core → Type 0
-  Acts s t = (acts : List (Act M)) × ActsIn acts s t
+  Acts s t = Leads ActsOnce s t
 
 module _ {H S M : Type 0} (core : Core H S M) (register : ℕ) where
   -- some acts of a worker, one after another, lead from s to t, without a move of the station and
@@ -97,20 +85,15 @@ module _ {H S M : Type 0} (core : Core H S M) (register every : ℕ) where
       (n : Station core) × TakesTurn core register s n
       × SettlesIfDue core every (length s.me.receipts) n t
 
-  -- one round after another leads from s to t; the list has the station after each of them
-  abbrev pub Rounds : List (Station core) → Station core → Station core → Type 0
-  Rounds [] s t = t ≡ s
-  Rounds (m ∷ ms) s t = Round s m × Rounds ms m t
-
   -- some rounds, one after another, lead from s to t. So the station settles in each round in which
   -- the number of sections that it has left reaches a multiple of `every`, and at no other time; if
   -- `every` is 0, never
   abbrev pub WorksSettling : Station core → Station core → Type 0
-  WorksSettling s t = (ms : List (Station core)) × Rounds ms s t
+  WorksSettling s t = Leads Round s t
 
   -- exactly this number of rounds, one after another, lead from s to t
   abbrev pub WorksFor : ℕ → Station core → Station core → Type 0
-  WorksFor turns s t = (ms : List (Station core)) × (length ms ≡ turns) × Rounds ms s t
+  WorksFor turns s t = (ms : List (Station core)) × (length ms ≡ turns) × Path Round ms s t
 
   abbrev pub WorksAtMost : ℕ → Station core → Station core → Type 0
   WorksAtMost turns s t = (made : ℕ) × (made ≤ turns) × WorksFor made s t
@@ -122,3 +105,9 @@ module _ {H S M : Type 0} (core : Core H S M) (most : ℕ) where
   IsWithin s =
       (length s.me.receipts < most)
       ⊎ ((length s.me.receipts ≡ most) × (core.phase s.me.member.core ≡ Idle))
+
+module _ {H S M : Type 0} (core : Core H S M) (register most : ℕ) where
+  -- acts of a worker by which no section is left, and after which the station is within `most` if it
+  -- was before
+  abbrev pub Serves : Station core → Station core → Type 0
+  Serves s t = LeavesNone core register s t × (IsWithin core most s → IsWithin core most t)

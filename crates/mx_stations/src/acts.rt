@@ -5,10 +5,9 @@ ghost use Rattle.std.specs.Prelude.{◌≡◌, ◌<◌, ◌↔◌, ◌++◌, ℕ
 ghost use Rattle.std.specs.Vec.{vec_capacity, vec_len};
 ghost use Rattle.mx_nodelaws.specs.Core.{IsInside};
 ghost use Rattle.mx_member.specs.Steps.{IsTakeable, ask_of, cancel_of, enter_of, leave_of, read_of, settle_of, write_of};
-ghost use Rattle.mx_member.specs.declared.acts.Act.TheVariants.{Ask, Cancel, Deliver, Enter, Leave, Read, Restart, Settle, Tick, Want, Write};
+ghost use Rattle.mx_member.specs.declared.acts.Act.TheVariants.{Ask, Cancel, Enter, Leave, Read, Restart, Settle, Tick, Want, Write};
 ghost use Rattle.mx_member.specs.Acts.{IsRefusal, act_of};
 ghost use Rattle.mx_member.specs.declared.parcel.Parcel.{Parcel as OneParcel};
-ghost use Rattle.mx_member.specs.Member.{BringsUnknown};
 ghost use Rattle.mx_stations.specs.Posts.{DeliversAs, OnDone, OnRefusal, does, left_in};
 ghost use Rattle.mx_stations.specs.Running.{IsPlain};
 ghost use Rattle.mx_stations.specs.Turns.{HoldsUnknown};
@@ -218,31 +217,10 @@ impl<C: Exclusion> Station<C> {
             unreachable!();
         };
         self.out.clear();
-        receive(&mut self.member, held.0, &held.1, &mut self.out)?;
+        self.member.receive(held.0, &held.1, &mut self.out)?;
         let_go(&mut self.hand, again);
         tell!(self);
         Ok(())
-    }
-}
-
-fn receive<C: Exclusion>(
-    member: &mut Member<C>,
-    from: NodeId,
-    parcel: &Parcel<C::Msg>,
-    out: &mut Outbox<Parcel<C::Msg>>,
-) -> Result<(), TakeFault>
-    requires empty { out.old ≡ [] }
-    requires takeable { IsTakeable from parcel.now member.old }
-    ensures state { OnOk result (member.new
-        ≡ (act_of C.core (Deliver from parcel.now) member.old).state) }
-    ensures letters { OnOk result (out.new
-        ≡ (act_of C.core (Deliver from parcel.now) member.old).letters) }
-    ensures memory { OnErr result (BringsUnknown parcel.now member.old.journal) }
-    ensures err { OnErr result (member.new ≡ member.old) }
-{
-    match member.receive(from, parcel, out) {
-        Ok(()) => Ok(()),
-        Err(_) => Err(TakeFault::Memory),
     }
 }
 

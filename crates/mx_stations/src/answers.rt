@@ -4,7 +4,7 @@ ghost use Rattle.std.specs.Prelude.{◌≡◌, ◌<◌};
 ghost use Rattle.mx_stations.specs.Turns.{begun, noted, noted_put};
 
 use mx_letters::Fate;
-use std::alloc::AllocError;
+use mx_member::DeliverFault;
 use thiserror::Error;
 
 /// The result of trying to put a parcel out.
@@ -96,13 +96,13 @@ pub enum TakeFault {
     Memory,
 }
 
-impl From<AllocError> for TakeFault {
+impl From<DeliverFault> for TakeFault {
     ghost use Rattle.std.specs.Prelude.{◌≡◌};
     ghost use Rattle.mx_stations.specs.declared.answers.TakeFault.TheVariants.{Memory};
 
     ghost from_gives = { λ _ fault. fault ≡ Memory };
 
-    fn from(_fault: AllocError) -> TakeFault {
+    fn from(_fault: DeliverFault) -> TakeFault {
         TakeFault::Memory
     }
 }

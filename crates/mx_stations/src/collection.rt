@@ -10,8 +10,8 @@ ghost use Rattle.mx_nodelaws.specs.Core.{IsInside};
 ghost use Rattle.mx_member.specs.Running.{IsJoinOfNodes};
 ghost use Rattle.mx_stations.specs.Gathered.{Disagree, Has, HasInside, IsGathered, IsLeastInside, IsLeastMissing, IsQuiet, IsReady, IsTogether, IsWhole, Lacks, NotInside, OfOneTable, Refuses, nodes_in, owned_in, receipts_of};
 
-use crate::joined_seats::join_all;
 use crate::station::Station;
+use crate::together::join_all;
 use mx_journal::{Journal, Receipt};
 use mx_merge::{MergeFault, merge};
 use mx_nodelaws::{Exclusion, Phase};

@@ -5,9 +5,9 @@ ghost use Rattle.std.specs.Prelude.{◌≡◌, ◌+◌, ◌*◌, ◌<◌, ◌≤
 ghost use Rattle.mx_stamps.specs.declared.limits.TheConstants.{MAX_NODES};
 ghost use Rattle.mx_stations.specs.declared.slots.TheConstants.{SLOTS};
 ghost use Rattle.mx_stations.specs.Entries.{Node};
-ghost use Rattle.mx_stations.specs.Running.{DidAct, GoToNodes, HandFits, acted_view, word_of};
+ghost use Rattle.mx_stations.specs.Running.{DidAct, GoToNodes, acted_view, word_of};
 
-use crate::next::{Becomes, Looks, Next};
+use crate::next::{Becomes, Next};
 use crate::rule::{Knowledge, Law, Setup, Slot};
 use atomic_table::{Seat, Table};
 use mx_journal::Receipt;
@@ -99,14 +99,4 @@ pub(crate) fn act<C: Exclusion>(
     ensures sent { GoToNodes field.now.nodes seat.new.me.0 }
 {
     store_as::<C, Brand>(field, seat, node, member, out, hand, receipts);
-}
-
-/// Reads a word of the table, and does not use its value. The proof learns from this step that the
-/// node's member can take the parcel in hand.
-pub(crate) fn look<C: Exclusion>(field: &Field<C>, seat: &mut SeatOf<C>)
-    requires table { seat.old.table_id ≡ field.now.board.shared.table_id }
-    ensures same { (seat.new.table_id ≡ seat.old.table_id) × (seat.new.me ≡ seat.old.me) }
-    ensures fits { HandFits seat.new.me.0 }
-{
-    field.board.shared.load::<Looks<C>>(seat, 0);
 }

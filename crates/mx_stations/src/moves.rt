@@ -4,20 +4,22 @@
 
 ghost use Rattle.std.specs.Prelude.{◌≡◌, ◌≢◌, ◌<◌, ◌≤◌, ◌+◌, IfOk, MatchBool, None, OnErr, length};
 ghost use Rattle.mx_letters.specs.declared.fates.Fate.TheVariants.{Pass};
-ghost use Rattle.mx_stations.specs.Posts.{Delivers, DeliversAs, Fetches, FindsNone, KeepsInHand, PutsOut, TakesIn, turned};
+ghost use Rattle.mx_stations.specs.Posts.{DeliversAs, KeepsInHand, PutsOut, TakesIn, turned};
 ghost use Rattle.mx_stations.specs.Turns.{HoldsUnknown};
 
 use crate::answers::{PutOut, TakeFault, Taken};
-use crate::field::look;
 use crate::queue::{bring_forward, turn};
 use crate::slots::{Link, claim_empty, place};
 use crate::station::Station;
+use crate::together::see;
 use mx_letters::Fate;
 use mx_nodelaws::Exclusion;
 use mx_stamps::NodeId;
+use std::marker::Brand;
 
 impl<C: Exclusion> Station<C> {
-    pub(crate) fn deliver_as(&mut self, again: bool) -> Result<bool, TakeFault>
+    /// Delivers the parcel in hand, if there is one, which remains there to be delivered `again`.
+    pub(crate) fn deliver(&mut self, again: bool) -> Result<bool, TakeFault>
         ensures delivered { IfOk result (λ had.
             MatchBool had (DeliversAs C.core again self.old self.new)
             ((self.old.me.hand ≡ None) × (self.new ≡ self.old))) }
@@ -27,30 +29,9 @@ impl<C: Exclusion> Station<C> {
         let Some(_held) = &self.hand else {
             return Ok(false);
         };
-        look(&self.field, &mut self.seat);
+        see(&self.field, &mut self.seat, 0);
         self.hand_over(again)?;
         Ok(true)
-    }
-
-    pub(crate) fn deliver(&mut self) -> Result<bool, TakeFault>
-        ensures delivered { IfOk result (λ had. MatchBool had (Delivers C.core self.old self.new)
-            ((self.old.me.hand ≡ None) × (self.new ≡ self.old))) }
-        ensures held { OnErr result (HoldsUnknown C.core self.old) }
-        ensures memory { OnErr result (self.new ≡ self.old) }
-    {
-        self.deliver_as(false)
-    }
-
-    fn fetch(&mut self, from: NodeId) -> bool
-        requires within { from < self.old.nodes }
-        requires empty { self.old.me.hand ≡ None }
-        ensures { MatchBool result (Fetches from self.old self.new)
-            (FindsNone from self.old self.new) }
-    {
-        let pass = || -> Fate
-            ensures { result ≡ Pass }
-        { Fate::Pass };
-        self.fetch_fated(from, pass).is_some()
     }
 
     /// Delivers the parcel in hand. If the hand is empty, takes a parcel from the link from node
@@ -65,13 +46,16 @@ impl<C: Exclusion> Station<C> {
         ensures taken { IfOk result (λ taken. TakesIn C.core from self.old taken self.new) }
         ensures memory { OnErr result (KeepsInHand from self.old self.new) }
     {
-        if self.deliver()? {
+        if self.deliver(false)? {
             return Ok(Taken::Got);
         }
-        if !self.fetch(from) {
+        let pass = || -> Fate
+            ensures { result ≡ Pass }
+        { Fate::Pass };
+        let Some(_fate) = self.fetch_fated(from, pass) else {
             return Ok(Taken::Empty);
-        }
-        self.deliver()?;
+        };
+        self.deliver(false)?;
         Ok(Taken::Got)
     }
 
@@ -111,7 +95,7 @@ impl<C: Exclusion> Station<C> {
             *kept += 1;
             return PutOut::Full;
         };
-        place(field, &mut self.seat, &link, slot, next.1.copy());
+        place::<C, Brand>(field, &mut self.seat, &link, slot, next.1.copy());
         self.put_to.add(link.to);
         PutOut::Sent
     }

@@ -4,8 +4,7 @@
 
 ghost use Rattle.std.specs.Prelude.{◌≡◌, ℕ};
 ghost use Rattle.atomic_table.specs.Table.{rest};
-ghost use Rattle.mx_stations.specs.Gathered.{Knows};
-ghost use Rattle.mx_stations.specs.Running.{GoToNodes, HandFits};
+ghost use Rattle.mx_stations.specs.Running.{GoToNodes};
 ghost use Rattle.mx_stations.specs.Slides.{Sees, TriesClaim, TriesTake};
 
 use crate::rule::{Knowledge, Slot};
@@ -36,15 +35,6 @@ impl<C: Exclusion, N: Next<Knowledge<C>>> Play<Slot<C>, Knowledge<C>> for Become
         (now ≡ (N.after before.0, before.1)) × GoToNodes N.count now.0 };
 }
 
-/// A read of a word, which shows that the member can take the parcel in hand.
-pub struct Looks<C> {
-    of: PhantomData<C>,
-}
-
-impl<C: Exclusion> Play<Slot<C>, Knowledge<C>> for Looks<C> {
-    ghost then = { λ step before found now. (now ≡ before) × HandFits now.0 };
-}
-
 /// The number of nodes, which the call tells the proof.
 pub trait OfCount {
     ghost count: { ℕ };
@@ -52,15 +42,6 @@ pub trait OfCount {
 
 impl OfCount for Brand {
     ghost count = { 0 };
-}
-
-/// A read of a word, which shows that the nodes of the seat are nodes of one running cluster.
-pub struct Learns<C, N> {
-    of: PhantomData<(C, N)>,
-}
-
-impl<C: Exclusion, N: OfCount> Play<Slot<C>, Knowledge<C>> for Learns<C, N> {
-    ghost then = { λ step before found now. (now ≡ before) × Knows C.core C.Good N.count now.0 };
 }
 
 /// A slot, and the node that fills it.

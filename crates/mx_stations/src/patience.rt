@@ -9,7 +9,7 @@ use crate::gate::{Gate, News, Pause, Rest};
 use crate::slots::{Link, has_filled};
 use crate::station::Station;
 use mx_nodelaws::{Exclusion, Phase};
-use mx_stamps::NodeId;
+use mx_stamps::{NodeId, NodeIds};
 use std::thread::yield_now;
 
 /// At a gate without bells, a worker lets other threads run at most this number of times before its
@@ -83,10 +83,8 @@ impl Patience {
             Ok(report) => *report,
             Err(TakeFault::Memory) => TurnReport::default(),
         };
-        for index in 0..station.nodes() {
-            if let Some(node) = NodeId::of(index)
-                && index != station.node().get()
-            {
+        for node in NodeIds::below(station.nodes()) {
+            if node != station.node() {
                 ring(station, gate, node);
             }
         }
@@ -188,7 +186,7 @@ fn ring<C: Exclusion, G: Gate>(station: &Station<C>, gate: &G, node: NodeId) {
 fn has_put_any<C: Exclusion>(station: &Station<C>) -> bool {
     for index in 0..station.nodes() {
         if let Some(to) = NodeId::of(index)
-            && index != station.node().get()
+            && to != station.node()
             && station.has_put(to)
         {
             return true;
@@ -200,7 +198,7 @@ fn has_put_any<C: Exclusion>(station: &Station<C>) -> bool {
 fn has_mail_of_others<C: Exclusion>(station: &Station<C>) -> bool {
     for index in 0..station.nodes() {
         if let Some(from) = NodeId::of(index)
-            && index != station.node().get()
+            && from != station.node()
             && has_mail_from(station, from)
         {
             return true;

@@ -45,7 +45,7 @@ fn slot_of<C: Exclusion>(field: &Field<C>, link: &Link, index: u8) -> usize
     place * SLOTS as usize + index as usize
 }
 
-fn claim_as<C: Exclusion, N: OfSlot>(
+fn claim<C: Exclusion, N: OfSlot>(
     field: &Field<C>,
     seat: &mut SeatOf<C>,
     link: &Link,
@@ -67,18 +67,6 @@ fn claim_as<C: Exclusion, N: OfSlot>(
         .compare_exchange::<TriesToClaim<N>>(seat, field.nodes as usize + slot, EMPTY, CLAIMED)
 }
 
-fn claim<C: Exclusion>(field: &Field<C>, seat: &mut SeatOf<C>, link: &Link, index: u8) -> u64
-    requires link { IsLinkAt seat.old.table_id field.now.board.shared.table_id field.now.nodes
-        link.now }
-    requires index { index < SLOTS }
-    requires idle { IsIdle seat.old.me link.now.from }
-    ensures same { (seat.new.table_id ≡ seat.old.table_id) × (seat.new.id ≡ seat.old.id) }
-    ensures claimed { TriesClaim (slot_in field.now.nodes link.now index) seat.old.me result
-        seat.new.me }
-{
-    claim_as::<C, Brand>(field, seat, link, index)
-}
-
 pub(crate) fn claim_empty<C: Exclusion>(
     field: &Field<C>,
     seat: &mut SeatOf<C>,
@@ -94,14 +82,14 @@ pub(crate) fn claim_empty<C: Exclusion>(
         → HasUsed (slot_in field.now.nodes link.now index) seat.old.me)) }
 {
     for index in 0..SLOTS {
-        if claim(field, seat, link, index) == EMPTY {
+        if claim::<C, Brand>(field, seat, link, index) == EMPTY {
             return Some(index);
         }
     }
     None
 }
 
-fn place_as<C: Exclusion, N: Next<Knowledge<C>>>(
+pub(crate) fn place<C: Exclusion, N: Next<Knowledge<C>>>(
     field: &Field<C>,
     seat: &mut SeatOf<C>,
     link: &Link,
@@ -128,28 +116,9 @@ fn place_as<C: Exclusion, N: Next<Knowledge<C>>>(
     shared.store::<Gives<N>>(seat, field.nodes as usize + slot, FILLED);
 }
 
-pub(crate) fn place<C: Exclusion>(
-    field: &Field<C>,
-    seat: &mut SeatOf<C>,
-    link: &Link,
-    index: u8,
-    parcel: Parcel<C::Msg>,
-)
-    requires link { IsLinkAt seat.old.table_id field.now.board.shared.table_id field.now.nodes
-        link.now }
-    requires index { index < SLOTS }
-    requires filling { IsFilling seat.old.me (slot_in field.now.nodes link.now index)
-        link.now.from link.now.to parcel }
-    ensures same { (seat.new.table_id ≡ seat.old.table_id) × (seat.new.id ≡ seat.old.id) }
-    ensures view { seat.new.me
-        ≡ (placed_view (slot_in field.now.nodes link.now index) parcel seat.old.me.0, []) }
-{
-    place_as::<C, Brand>(field, seat, link, index, parcel);
-}
-
 /// Reads the word first, since a read of an empty slot, unlike an exchange, leaves the word in the
 /// caches of all readers.
-fn grab_as<C: Exclusion, N: OfSlot>(
+fn grab<C: Exclusion, N: OfSlot>(
     field: &Field<C>,
     seat: &mut SeatOf<C>,
     link: &Link,
@@ -173,18 +142,6 @@ fn grab_as<C: Exclusion, N: OfSlot>(
     shared.compare_exchange::<TriesToTake<N>>(seat, field.nodes as usize + slot, FILLED, TAKEN)
 }
 
-fn grab<C: Exclusion>(field: &Field<C>, seat: &mut SeatOf<C>, link: &Link, index: u8) -> u64
-    requires link { IsLinkAt seat.old.table_id field.now.board.shared.table_id field.now.nodes
-        link.now }
-    requires index { index < SLOTS }
-    requires idle { IsIdle seat.old.me link.now.to }
-    ensures same { (seat.new.table_id ≡ seat.old.table_id) × (seat.new.id ≡ seat.old.id) }
-    ensures taken { TriesTake (slot_in field.now.nodes link.now index) link.now.from seat.old.me
-        result seat.new.me }
-{
-    grab_as::<C, Brand>(field, seat, link, index)
-}
-
 pub(crate) fn grab_filled<C: Exclusion>(
     field: &Field<C>,
     seat: &mut SeatOf<C>,
@@ -200,7 +157,7 @@ pub(crate) fn grab_filled<C: Exclusion>(
         → HasEmptied (slot_in field.now.nodes link.now index) link.now.from seat.old.me)) }
 {
     for index in 0..SLOTS {
-        if grab(field, seat, link, index) == FILLED {
+        if grab::<C, Brand>(field, seat, link, index) == FILLED {
             return Some(index);
         }
     }
@@ -227,7 +184,9 @@ pub(crate) fn lift<C: Exclusion>(
     field.board.shared.exchange(seat, slot, None).unwrap()
 }
 
-fn release_as<C: Exclusion, N: Next<Knowledge<C>>>(
+/// Gives back the taken slot, which is empty now. Only the proof uses `hand`: the parcel of the
+/// slot with its sender, or `None` if the parcel was thrown away.
+pub(crate) fn release<C: Exclusion, N: Next<Knowledge<C>>>(
     field: &Field<C>,
     seat: &mut SeatOf<C>,
     link: &Link,
@@ -249,27 +208,6 @@ fn release_as<C: Exclusion, N: Next<Knowledge<C>>>(
         .board
         .shared
         .store::<Gives<N>>(seat, field.nodes as usize + slot, EMPTY);
-}
-
-/// Gives back the taken slot, which is empty now. Only the proof uses `hand`: the parcel of the
-/// slot with its sender, or `None` if the parcel was thrown away.
-pub(crate) fn release<C: Exclusion>(
-    field: &Field<C>,
-    seat: &mut SeatOf<C>,
-    link: &Link,
-    index: u8,
-    hand: &Option<(NodeId, Parcel<C::Msg>)>,
-)
-    requires link { IsLinkAt seat.old.table_id field.now.board.shared.table_id field.now.nodes
-        link.now }
-    requires index { index < SLOTS }
-    requires holding { IsHolding seat.old.me (slot_in field.now.nodes link.now index) link.now.to
-        None }
-    requires hand { KeepsHand seat.old.me.0 hand.now }
-    ensures same { (seat.new.table_id ≡ seat.old.table_id) × (seat.new.id ≡ seat.old.id) }
-    ensures view { seat.new.me ≡ (released_view hand.now seat.old.me.0, []) }
-{
-    release_as::<C, Brand>(field, seat, link, index, hand);
 }
 
 pub(crate) fn has_filled<C: Exclusion>(field: &Field<C>, link: &Link) -> bool

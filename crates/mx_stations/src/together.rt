@@ -1,10 +1,11 @@
 //! What the stations of one table show about its nodes. These calls read a word of the table and
 //! change nothing; the proof learns from the read what the rule of the table says about the nodes.
 
-ghost use Rattle.std.specs.Prelude.{◌≡◌, ◌≢◌, ◌%◌, ◌<◌, ◌++◌, [], ◌∷◌};
+ghost use Rattle.std.specs.Prelude.{◌≡◌, ◌≢◌, ◌%◌, ◌<◌, ◌++◌, [], ◌∷◌, length, map};
 ghost use Rattle.mx_journal.specs.Settled.{DoAgree};
 ghost use Rattle.mx_nodelaws.specs.Core.{IsInside};
 ghost use Rattle.mx_stations.specs.Entries.{Node};
+ghost use Rattle.mx_stations.specs.Gathered.{OfOneTable, me_of, nodes_in};
 ghost use Rattle.mx_stations.specs.Running.{word_of};
 ghost use Rattle.mx_stations.specs.Together.{HoldsSent, RunTogether, ShowsNode};
 
@@ -37,7 +38,9 @@ fn see_as<C: Exclusion, N: OfCount>(field: &Field<C>, seat: &mut SeatOf<C>, node
     field.board.shared.load::<Sees<C, N>>(seat, node as usize)
 }
 
-fn see<C: Exclusion>(field: &Field<C>, seat: &mut SeatOf<C>, node: u8) -> u64
+/// Reads a status word. The proof learns from this step that the nodes of the seat are nodes of one
+/// running cluster.
+pub(crate) fn see<C: Exclusion>(field: &Field<C>, seat: &mut SeatOf<C>, node: u8) -> u64
     requires table { seat.old.table_id ≡ field.now.board.shared.table_id }
     requires within { node < field.now.nodes }
     ensures same { (seat.new.table_id ≡ seat.old.table_id) × (seat.new.me ≡ seat.old.me) }
@@ -63,6 +66,27 @@ fn see_both<C: Exclusion>(field: &Field<C>, one: &mut SeatOf<C>, other: &mut Sea
     see(field, other, 0);
     let mine = shared.split_seat::<HandOn>(other);
     shared.join_seat::<TakeIn>(one, mine);
+}
+
+/// Joins all seats of a table into one, which knows all nodes of the cluster.
+pub(crate) fn join_all<C: Exclusion>(mut stations: Vec<Station<C>>)
+    requires one { OfOneTable stations.items }
+    requires some { 0 < length stations.items }
+    ensures { RunTogether C.core C.Good (nodes_in stations.items) (map me_of stations.items) }
+{
+    let Some(last) = stations.pop() else {
+        unreachable!();
+    };
+    let Station {
+        field,
+        mut seat,
+        ..
+    } = last;
+    while let Some(next) = stations.pop() {
+        let Station { seat: other, .. } = next;
+        field.board.shared.join_seat::<TakeIn>(&mut seat, other);
+    }
+    see(&field, &mut seat, 0);
 }
 
 impl<C: Exclusion> Station<C> {

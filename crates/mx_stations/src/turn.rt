@@ -11,7 +11,7 @@ ghost use Rattle.mx_stations.specs.Entries.{Node};
 ghost use Rattle.mx_stations.specs.Links.{IsLinkAt, slot_in};
 ghost use Rattle.mx_stations.specs.Posts.{FindsNone, does};
 ghost use Rattle.mx_stations.specs.Slides.{HasTaken, releasing, taking};
-ghost use Rattle.mx_stations.specs.Turns.{DeliversFirst, DeliversMore, Goes, HoldsUnknown, IsFated, PutsEach, TakesEach, TakesFated, Turns, fated_hand, noted_all, noted_puts};
+ghost use Rattle.mx_stations.specs.Turns.{Goes, HoldsUnknown, IsFated, PutsEach, TakesEach, TakesFated, Turns, fated_hand, noted_all, noted_puts};
 
 use crate::answers::{TakeFault, TurnReport};
 use crate::field::{Field, SeatOf};
@@ -22,6 +22,7 @@ use mx_letters::{Fate, Fates};
 use mx_member::Parcel;
 use mx_nodelaws::Exclusion;
 use mx_stamps::NodeId;
+use std::marker::Brand;
 
 fn hand_of<M: Copy + Default>(
     fate: Fate,
@@ -34,6 +35,12 @@ fn hand_of<M: Copy + Default>(
         Fate::Drop => None,
         Fate::Pass | Fate::Twice => Some((from, parcel)),
     }
+}
+
+fn is_twice(fate: Fate) -> bool
+    ensures { MatchBool result (fate ≡ Twice) (fate ≢ Twice) }
+{
+    matches!(fate, Fate::Twice)
 }
 
 /// A function of its own, so that a link without a parcel needs no room for one.
@@ -65,21 +72,11 @@ fn lift_fated<C: Exclusion, A: FnOnce() -> Fate>(
     let parcel = lift(field, seat, link, index);
     let fate = ask();
     *hand = hand_of(fate, link.from, parcel);
-    release(field, seat, link, index, hand);
+    release::<C, Brand>(field, seat, link, index, hand);
     fate
 }
 
 impl<C: Exclusion> Station<C> {
-    fn deliver_first(&mut self) -> Result<bool, TakeFault>
-        ensures delivered { IfOk result (λ had.
-            MatchBool had (DeliversFirst C.core self.old self.new)
-            ((self.old.me.hand ≡ None) × (self.new ≡ self.old))) }
-        ensures held { OnErr result (HoldsUnknown C.core self.old) }
-        ensures memory { OnErr result (self.new ≡ self.old) }
-    {
-        self.deliver_as(true)
-    }
-
     /// `ask` draws the fate of the parcel once it is taken. Returns `None` if there is none.
     pub(crate) fn fetch_fated<A: FnOnce() -> Fate>(&mut self, from: NodeId, ask: A) -> Option<Fate>
         requires within { from < self.old.nodes }
@@ -115,22 +112,9 @@ impl<C: Exclusion> Station<C> {
         let Some(fate) = self.fetch_fated(from, || fates.fate()) else {
             return Ok(None);
         };
-        self.deliver_more(fate)?;
-        self.deliver()?;
+        self.deliver(is_twice(fate))?;
+        self.deliver(false)?;
         Ok(Some(fate))
-    }
-
-    fn deliver_more(&mut self, fate: Fate) -> Result<(), TakeFault>
-        ensures more { OnOk result ((fate ≡ Twice → self.old.me.hand ≢ None)
-            → DeliversMore C.core fate self.old self.new) }
-        ensures goes { Goes C.core self.old self.new }
-        ensures kept { OnErr result (HoldsUnknown C.core self.new) }
-    {
-        let Fate::Twice = fate else {
-            return Ok(());
-        };
-        self.deliver_first()?;
-        Ok(())
     }
 
     fn take_each<F: Fates>(
@@ -139,10 +123,12 @@ impl<C: Exclusion> Station<C> {
         report: &mut TurnReport,
     ) -> Result<(), TakeFault>
         requires empty { self.old.me.hand ≡ None }
-        requires few { (report.old.taken ≤ 1) × (report.old.dropped ≤ 1) × (report.old.twice ≤ 1) }
+        requires few { (report.old.taken ≤ 1) × (report.old.dropped ≤ 1) × (report.old.twice ≤ 1)
+            × (report.old.put ≡ 0) × (report.old.full ≡ 0) }
         ensures taken { OnOk result ((takes : List (Option TheFate))
             × TakesEach C.core 0 takes self.old self.new × (length takes ≡ self.old.nodes)
             × (report.new ≡ noted_all takes report.old)) }
+        ensures none_put { (report.new.put ≡ 0) × (report.new.full ≡ 0) }
         ensures goes { Goes C.core self.old self.new }
         ensures kept { OnErr result (HoldsUnknown C.core self.new) }
     {
@@ -184,7 +170,7 @@ impl<C: Exclusion> Station<C> {
         ensures kept { OnErr result (HoldsUnknown C.core self.new) }
     {
         self.forget_moves();
-        let had = self.deliver()?;
+        let had = self.deliver(false)?;
         let mut report = TurnReport::begin(had);
         self.take_each(fates, &mut report)?;
         self.put_each(&mut report);

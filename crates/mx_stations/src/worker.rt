@@ -3,7 +3,7 @@
 ghost use Rattle.std.specs.Prelude.{◌≡◌, ◌<◌, ◌≤◌, ◌↔◌, ℕ, length, IsTrue};
 ghost use Rattle.mx_nodelaws.specs.Core.{IsInside};
 ghost use Rattle.mx_stations.specs.Gathered.{KeepsTable};
-ghost use Rattle.mx_stations.specs.Works.{IsWithin, LeavesNone, MayLeave, TakesTurn, Works, WorksAtMost, WorksFor};
+ghost use Rattle.mx_stations.specs.Works.{IsWithin, MayLeave, Serves, TakesTurn, Works, WorksAtMost, WorksFor};
 
 use crate::collection::is_inside;
 use crate::gate::Gate;
@@ -125,8 +125,7 @@ pub(crate) fn is_to_ask<C: Exclusion>(station: &Station<C>, sections: u64) -> bo
 }
 
 fn ask_if_due<C: Exclusion>(station: &mut Station<C>, sections: u64)
-    ensures none { (register : ℕ) → LeavesNone C.core register station.old station.new }
-    ensures within { IsWithin C.core sections station.old → IsWithin C.core sections station.new }
+    ensures { (register : ℕ) → Serves C.core register sections station.old station.new }
 {
     if is_to_ask(station, sections) {
         let _ = station.ask();
@@ -134,9 +133,7 @@ fn ask_if_due<C: Exclusion>(station: &mut Station<C>, sections: u64)
 }
 
 fn enter_if_due<C: Exclusion>(station: &mut Station<C>)
-    ensures none { (register : ℕ) → LeavesNone C.core register station.old station.new }
-    ensures within { (most : ℕ) → IsWithin C.core most station.old
-        → IsWithin C.core most station.new }
+    ensures { (register most : ℕ) → Serves C.core register most station.old station.new }
 {
     if station.can_enter() {
         let _ = station.enter();
@@ -144,9 +141,7 @@ fn enter_if_due<C: Exclusion>(station: &mut Station<C>)
 }
 
 fn add_if_due<C: Exclusion>(station: &mut Station<C>, register: u8, stance: &mut WorkerState)
-    ensures none { LeavesNone C.core register station.old station.new }
-    ensures within { (most : ℕ) → IsWithin C.core most station.old
-        → IsWithin C.core most station.new }
+    ensures { (most : ℕ) → Serves C.core register most station.old station.new }
 {
     if stance.written || !is_inside(station) {
         return;
@@ -163,39 +158,21 @@ fn add_if_due<C: Exclusion>(station: &mut Station<C>, register: u8, stance: &mut
 }
 
 fn want_next<C: Exclusion>(station: &mut Station<C>, stance: &mut WorkerState)
-    ensures none { (register : ℕ) → LeavesNone C.core register station.old station.new }
-    ensures within { (most : ℕ) → IsWithin C.core most station.old
-        → IsWithin C.core most station.new }
+    ensures { (register most : ℕ) → Serves C.core register most station.old station.new }
 {
-    let next = node_after(stance.wanted, count_of(station));
+    let next = node_after(stance.wanted, station);
     station.want(next);
     stance.wanted = next;
 }
 
-fn count_of<C: Exclusion>(station: &Station<C>) -> u8
-    ensures value { result ≡ station.now.nodes }
-    ensures some { 0 < result }
+fn node_after<C: Exclusion>(node: NodeId, station: &Station<C>) -> NodeId
+    ensures { result < station.now.nodes }
 {
-    station.field.nodes
-}
-
-fn node_after(node: NodeId, nodes: u8) -> NodeId
-    requires { 0 < nodes }
-    ensures { result < nodes }
-{
-    match NodeId::of(node.get() + 1) {
-        Some(next) if next.get() < nodes => next,
-        _ => first_node(),
+    let own = station.node();
+    match NodeId::of((node.get() + 1) % station.nodes()) {
+        Some(next) => next,
+        None => own,
     }
-}
-
-fn first_node() -> NodeId
-    ensures { result ≡ 0 }
-{
-    let Some(first) = NodeId::of(0) else {
-        unreachable!();
-    };
-    first
 }
 
 fn leave_if_due<C: Exclusion>(station: &mut Station<C>, stance: &mut WorkerState)

@@ -1,7 +1,7 @@
 use Rattle.std.proofs.Common.{◌≡◌, ◌∙◌, ◌++◌, ℕ, List, [], ◌∷◌, OnOk, ap, codes, subst}
 use Rattle.std.specs.List.{count_by}
 use Rattle.mx_trace.specs.declared.outcome.Entry.{Entry}
-use Rattle.mx_count.specs.NodeCounts.{entries_of, is_delivered_to, is_entry_of, is_refusal_of, received_of, refused_of, rows_of_node, sent_of}
+use Rattle.mx_count.specs.NodeCounts.{entries_of, is_delivered_to, is_entry_of, is_refusal_of, received_of, refused_of, sent_of}
 use Rattle.mx_count.specs.Rows.{Row, rows_of}
 use Rattle.mx_count.specs.declared.rows.Level.TheVariants.{Next, Node}
 use Rattle.mx_count.specs.declared.rows.Value.TheVariants.{Number}
@@ -11,8 +11,7 @@ use Rattle.mx_count.proofs.node_rows.add_rows_of.Goals as goal
 pub returns : goal.returns
 returns g c =
     let cluster = c.args.cluster.now in
-    let node = c.unwrap-node.result in
-    let is : node ≡ c.args.i = rw c.unwrap-node.ensures at c.of.ensures.value in
+    let node = c.args.node in
     let same = c.trace-trace.ensures.value in
     let rows = rows_of c.args.rows.now.items in
     let rows1 = rows_of c.add_row.new.rows.items in
@@ -32,4 +31,4 @@ returns g c =
     subst (λ (n : ℕ). OnOk c.add_row-4.result (rows4 ≡ rows3 ++ refused n ∷ [])) (c.refused_of.ensures ∙ ap (λ (es : List Entry). count_by (is_refusal_of node) es) same) c.add_row-4.ensures in
     let first_two = joined rows rows1 rows2 _ _ one two in
     let first_three = joined rows rows2 rows3 _ _ first_two three in
-    subst (λ (i : ℕ). OnOk c.add_row-4.result (rows4 ≡ rows ++ rows_of_node cluster i)) is (joined_ok c.add_row-4.result rows rows3 rows4 _ _ first_three four)
+    joined_ok c.add_row-4.result rows rows3 rows4 _ _ first_three four

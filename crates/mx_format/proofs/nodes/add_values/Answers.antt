@@ -1,22 +1,31 @@
-use Rattle.std.proofs.Common.{◌≡◌, ◌∙◌, ◌<◌, ℕ, Option, ap, arith, length, string_bytes, subst, sym, unwrap_or}
+use Rattle.std.proofs.Common.{◌≡◌, ◌∙◌, ◌++◌, ap, append_assoc, arith, string_bytes}
 use Rattle.mx_registers.specs.Registers.{value_in}
-use Rattle.mx_format.specs.NodeTexts.{register_in}
-use Rattle.mx_format.proofs.NodeLemmas.{value_more, value_there}
+use Rattle.mx_format.specs.NodeTexts.{value_by}
+use Rattle.mx_format.proofs.NodeLemmas.{value_more}
 use Rattle.mx_format.proofs.nodes.add_values.Goals as goal
+
+pub loop-register-preserved-then-is_json : goal.loop-register-preserved-then-is_json
+loop-register-preserved-then-is_json c =
+    let k = c.loop-register.register in
+    let lt = c.loop-register-test.true in
+    let end = c.registers-register-end.ensures.value in
+    let added : string_bytes c.write.new.self ≡ string_bytes c.loop-register.text ++ value_by c.args.is_json k c.register_name_of-name.result.now c.unwrap_or-value.result =
+    rw c.if-is_json.true (simp append_assoc (rw c.comma_at.ensures at c.in_ok-write.ensures.bytes)) in
+    record {
+      in_range = omega (arith, lt, end);
+      written = c.loop-register.invariant.written ∙ value_more c.args.is_json c.args.plan.now c.args.journal.now k _ _ _ _ _ _ _ lt end c.registers.ensures.value c.register_name_of-name.ensures
+          (c.value.ensures ∙ ap (λ cells. value_in k cells) c.view-shown.ensures.value) c.unwrap_or-value.ensures added;
+    }
 
 pub loop-register-preserved : goal.loop-register-preserved
 loop-register-preserved c =
-    let i = c.loop-register.invariant in
-    let p = c.args.plan.now in
-    let journal = c.args.journal.now in
     let k = c.loop-register.register in
-    let lt : k < length p.registers = subst (λ (n : ℕ). k < n) c.registers-register-end.ensures.value c.loop-register-test.true in
-    let few : k < c.registers.result = subst (λ (n : ℕ). k < n) (c.registers-register-end.ensures.value ∙ sym c.registers.ensures.value) c.loop-register-test.true in
-    let value : c.unwrap_or-value.result ≡ (register_in k journal).value =
-    c.unwrap_or-value.ensures ∙ ap (λ (o : Option ℕ). unwrap_or o 0)
-    (c.value.ensures ∙ ap (λ cells. value_in k cells) c.view-shown.ensures.value ∙ value_there c.registers.result journal k few) in
+    let lt = c.loop-register-test.true in
+    let end = c.registers-register-end.ensures.value in
+    let added : string_bytes c.write-in-loop-register.new.self ≡ string_bytes c.loop-register.text ++ value_by c.args.is_json k c.register_name_of-name.result.now c.unwrap_or-value.result =
+    rw c.if-is_json.false (simp append_assoc c.in_ok-write-2.ensures.bytes) in
     record {
-      in_range = omega (arith, lt);
-      written = i.written ∙ value_more c.args.is_json p journal k c.register_name_of.result.now c.unwrap_or-value.result (string_bytes c.loop-register.text) (string_bytes c.add_value.new.text)
-          lt c.register_name_of.ensures value c.in_ok-add_value.ensures;
+      in_range = omega (arith, lt, end);
+      written = c.loop-register.invariant.written ∙ value_more c.args.is_json c.args.plan.now c.args.journal.now k _ _ _ _ _ _ _ lt end c.registers.ensures.value c.register_name_of-name.ensures
+          (c.value.ensures ∙ ap (λ cells. value_in k cells) c.view-shown.ensures.value) c.unwrap_or-value.ensures added;
     }

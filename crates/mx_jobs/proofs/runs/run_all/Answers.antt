@@ -1,13 +1,10 @@
-use Rattle.std.proofs.Common.{◌≡◌, ◌≤◌, Option, List, ap, arith, length, map, subst}
-use Rattle.std.specs.List.{AllZip}
+use Rattle.std.proofs.Common.{◌≤◌, Option, ap, arith, length, map, subst}
 use Rattle.mx_stations.specs.Turns.{Station}
 use Rattle.mx_jobs.specs.declared.faults.RunFault.{RunFault}
-use Rattle.mx_jobs.specs.declared.threads.Worker.{Worker}
 use Rattle.mx_jobs.specs.declared.worker.Ended.{Ended}
 use Rattle.mx_jobs.specs.declared.worker.Ended.TheVariants.{GateShut}
 use Rattle.mx_jobs.specs.Faults.{Tells}
-use Rattle.mx_jobs.specs.Runs.{IsLeft}
-use Rattle.mx_jobs.proofs.Promised.{back_as, done_as, many_workers, none_begun, zip_many}
+use Rattle.mx_jobs.proofs.Promised.{back_as, done_as, left_many, none_begun}
 use Rattle.mx_jobs.proofs.Telling.{before_ends, told_of}
 use Rattle.mx_jobs.proofs.runs.run_all.Goals as goal
 
@@ -86,67 +83,38 @@ join-lefts-requires-room-W-Destruct g c κs within = search (c.requires-raw.1.1.
 
 pub put_back-ended-requires : goal.put_back-ended-requires
 put_back-ended-requires g c =
-    let posts = c.args.stations.now.items in
-    let all = c.args.jobs.now.items in
-    let lefts = c.join-lefts.result.0.items in
-    let linked : length posts ≤ length c.args.fates.items = omega (arith, c.if-len.false, c.len.ensures, c.len-2.ensures, c.args.stations.now.ok, c.args.fates.ok) in
-    let leads = subst (λ ws. AllZip (λ (w : Worker (Station g.C.Exclusion.core) g.row.J.Denot g.row.F.Denot) left. IsLeft g.J.Job.terms g.C.Exclusion.core w.options w.station w.job left) ws lefts) c.start_each.ensures.started c.join-lefts.ensures in
-    let many = zip_many _ _ lefts leads in
-    let each = many_workers c.args.options posts all c.args.fates.items c.requires.each linked in
+    let linked : length c.args.stations.now.items ≤ length c.args.fates.items = omega (arith, c.if-len.false, c.len.ensures, c.len-2.ensures, c.args.stations.now.ok, c.args.fates.ok) in
+    let many = left_many g.J.Job.terms g.C.Exclusion.core c.args.options _ _ c.args.fates.items _ c.join-lefts.result.0.items c.requires.each linked c.start_each.ensures.started c.join-lefts.ensures in
     let same = c.requires.each in
     let room = c.start_each.ensures.room in (
       search (c.requires-raw.1.1.1.1.1.1.1.1.1.1.1.1.1.1.1.1, c.requires-raw.1.1.1.1.1.1.1.1.1.1.1.1.1.1.1.1.0),
-      (c.start_each.ensures.stations, (c.start_each.ensures.jobs, (omega (arith, many, each, room.0, c.args.stations.now.ok), omega (arith, many, each, same, room.1, c.args.jobs.now.ok)))),
+      (c.start_each.ensures.stations, (c.start_each.ensures.jobs, (omega (arith, many, room.0, c.args.stations.now.ok), omega (arith, many, same, room.1, c.args.jobs.now.ok)))),
     )
 
 pub returns-in-Some-default-clause-err : goal.returns-in-Some-default-clause-err
 returns-in-Some-default-clause-err g c = before_ends _ _ c.fault_of.ensures
 
 pub returns-in-Some-default-clause-back : goal.returns-in-Some-default-clause-back
-returns-in-Some-default-clause-back g c =
-    let posts = c.args.stations.now.items in
-    let all = c.args.jobs.now.items in
-    let lefts = c.join-lefts.result.0.items in
-    let linked : length posts ≤ length c.args.fates.items = omega (arith, c.if-len.false, c.len.ensures, c.len-2.ensures, c.args.stations.now.ok, c.args.fates.ok) in
-    let leads = subst (λ ws. AllZip (λ (w : Worker (Station g.C.Exclusion.core) g.row.J.Denot g.row.F.Denot) left. IsLeft g.J.Job.terms g.C.Exclusion.core w.options w.station w.job left) ws lefts) c.start_each.ensures.started c.join-lefts.ensures in
-    (map (λ (one : Station g.C.Exclusion.core × g.row.J.Denot × Ended). one.2) lefts, back_as g.J.Job.terms g.C.Exclusion.core c.args.options posts all c.args.fates.items lefts c.requires.each linked leads _ _ c.put_back-ended.ensures.stations c.put_back-ended.ensures.jobs)
+returns-in-Some-default-clause-back g c = (
+  _,
+  back_as g.J.Job.terms g.C.Exclusion.core c.args.options _ _ c.args.fates.items _ c.join-lefts.result.0.items c.requires.each
+      (omega (arith, c.if-len.false, c.len.ensures, c.len-2.ensures, c.args.stations.now.ok, c.args.fates.ok)) c.start_each.ensures.started c.join-lefts.ensures _ _ c.put_back-ended.ensures.stations c.put_back-ended.ensures.jobs,
+)
 
-pub returns-in-None-Some-clause-back : goal.returns-in-None-Some-clause-back
-returns-in-None-Some-clause-back g c =
-    let posts = c.args.stations.now.items in
-    let all = c.args.jobs.now.items in
-    let lefts = c.join-lefts.result.0.items in
-    let linked : length posts ≤ length c.args.fates.items = omega (arith, c.if-len.false, c.len.ensures, c.len-2.ensures, c.args.stations.now.ok, c.args.fates.ok) in
-    let leads = subst (λ ws. AllZip (λ (w : Worker (Station g.C.Exclusion.core) g.row.J.Denot g.row.F.Denot) left. IsLeft g.J.Job.terms g.C.Exclusion.core w.options w.station w.job left) ws lefts) c.start_each.ensures.started c.join-lefts.ensures in
-    (map (λ (one : Station g.C.Exclusion.core × g.row.J.Denot × Ended). one.2) lefts, back_as g.J.Job.terms g.C.Exclusion.core c.args.options posts all c.args.fates.items lefts c.requires.each linked leads _ _ c.put_back-ended.ensures.stations c.put_back-ended.ensures.jobs)
+pub returns-in-None-Some : goal.returns-in-None-Some
+returns-in-None-Some g c =
+    let ends = map (λ (one : Station g.C.Exclusion.core × g.row.J.Denot × Ended). one.2) c.join-lefts.result.0.items in
+    let back = back_as g.J.Job.terms g.C.Exclusion.core c.args.options _ _ c.args.fates.items _ c.join-lefts.result.0.items c.requires.each
+    (omega (arith, c.if-len.false, c.len.ensures, c.len-2.ensures, c.args.stations.now.ok, c.args.fates.ok)) c.start_each.ensures.started c.join-lefts.ensures _ _ c.put_back-ended.ensures.stations c.put_back-ended.ensures.jobs in
+    record { ok = tt; err = told_of c.in-None-Some.fault _ (record { ends = ends; told = subst (λ (f : Option RunFault). Tells f ends) c.in-None-Some.is-1 c.put_back-ended.ensures.told; back = back }); back = (ends, back) }
 
-pub returns-clause-back : goal.returns-clause-back
-returns-clause-back g c =
-    let posts = c.args.stations.now.items in
-    let all = c.args.jobs.now.items in
-    let lefts = c.join-lefts.result.0.items in
-    let linked : length posts ≤ length c.args.fates.items = omega (arith, c.if-len.false, c.len.ensures, c.len-2.ensures, c.args.stations.now.ok, c.args.fates.ok) in
-    let leads = subst (λ ws. AllZip (λ (w : Worker (Station g.C.Exclusion.core) g.row.J.Denot g.row.F.Denot) left. IsLeft g.J.Job.terms g.C.Exclusion.core w.options w.station w.job left) ws lefts) c.start_each.ensures.started c.join-lefts.ensures in
-    (map (λ (one : Station g.C.Exclusion.core × g.row.J.Denot × Ended). one.2) lefts, back_as g.J.Job.terms g.C.Exclusion.core c.args.options posts all c.args.fates.items lefts c.requires.each linked leads _ _ c.put_back-ended.ensures.stations c.put_back-ended.ensures.jobs)
-
-pub returns-in-None-Some-clause-err : goal.returns-in-None-Some-clause-err
-returns-in-None-Some-clause-err g c =
-    let posts = c.args.stations.now.items in
-    let all = c.args.jobs.now.items in
-    let lefts = c.join-lefts.result.0.items in
-    let linked : length posts ≤ length c.args.fates.items = omega (arith, c.if-len.false, c.len.ensures, c.len-2.ensures, c.args.stations.now.ok, c.args.fates.ok) in
-    let leads = subst (λ ws. AllZip (λ (w : Worker (Station g.C.Exclusion.core) g.row.J.Denot g.row.F.Denot) left. IsLeft g.J.Job.terms g.C.Exclusion.core w.options w.station w.job left) ws lefts) c.start_each.ensures.started c.join-lefts.ensures in
-    told_of c.in-None-Some.fault _ (record {
-      ends = map (λ (one : Station g.C.Exclusion.core × g.row.J.Denot × Ended). one.2) lefts;
-      told = subst (λ (f : Option RunFault). Tells f (map (λ (one : Station g.C.Exclusion.core × g.row.J.Denot × Ended). one.2) lefts)) c.in-None-Some.is-1 c.put_back-ended.ensures.told;
-      back = back_as g.J.Job.terms g.C.Exclusion.core c.args.options posts all c.args.fates.items lefts c.requires.each linked leads _ _ c.put_back-ended.ensures.stations c.put_back-ended.ensures.jobs;
-    })
-
-pub returns-clause-ok : goal.returns-clause-ok
-returns-clause-ok g c =
-    let posts = c.args.stations.now.items in
-    let all = c.args.jobs.now.items in
-    let lefts = c.join-lefts.result.0.items in
-    let linked : length posts ≤ length c.args.fates.items = omega (arith, c.if-len.false, c.len.ensures, c.len-2.ensures, c.args.stations.now.ok, c.args.fates.ok) in
-    let leads = subst (λ ws. AllZip (λ (w : Worker (Station g.C.Exclusion.core) g.row.J.Denot g.row.F.Denot) left. IsLeft g.J.Job.terms g.C.Exclusion.core w.options w.station w.job left) ws lefts) c.start_each.ensures.started c.join-lefts.ensures in
-    done_as g.J.Job.terms g.C.Exclusion.core c.args.options posts all c.args.fates.items lefts c.requires.each linked leads _ _ c.put_back-ended.ensures.stations c.put_back-ended.ensures.jobs (subst (λ (f : Option RunFault). Tells f (map (λ (one : Station g.C.Exclusion.core × g.row.J.Denot × Ended). one.2) lefts)) c.in-None-None.is-1 c.put_back-ended.ensures.told)
+pub returns : goal.returns
+returns g c =
+    let ends = map (λ (one : Station g.C.Exclusion.core × g.row.J.Denot × Ended). one.2) c.join-lefts.result.0.items in
+    let linked : length c.args.stations.now.items ≤ length c.args.fates.items = omega (arith, c.if-len.false, c.len.ensures, c.len-2.ensures, c.args.stations.now.ok, c.args.fates.ok) in
+    let stations = c.put_back-ended.ensures.stations in let jobs = c.put_back-ended.ensures.jobs in record {
+      ok = done_as g.J.Job.terms g.C.Exclusion.core c.args.options _ _ c.args.fates.items _ c.join-lefts.result.0.items c.requires.each linked c.start_each.ensures.started c.join-lefts.ensures _ _ stations jobs
+          (subst (λ (f : Option RunFault). Tells f ends) c.in-None-None.is-1 c.put_back-ended.ensures.told);
+      err = tt;
+      back = (ends, back_as g.J.Job.terms g.C.Exclusion.core c.args.options _ _ c.args.fates.items _ c.join-lefts.result.0.items c.requires.each linked c.start_each.ensures.started c.join-lefts.ensures _ _ stations jobs);
+    }

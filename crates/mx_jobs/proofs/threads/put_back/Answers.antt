@@ -4,7 +4,6 @@ use Rattle.mx_stations.specs.Turns.{Station}
 use Rattle.mx_jobs.specs.declared.worker.Ended.{Ended}
 use Rattle.mx_jobs.specs.Faults.{Tells}
 use Rattle.mx_jobs.proofs.Each.{match_none}
-use Rattle.mx_jobs.proofs.Telling.{told_on}
 use Rattle.mx_jobs.proofs.threads.put_back.Goals as goal
 
 pub loop-left-init : goal.loop-left-init
@@ -24,8 +23,7 @@ loop-left-preserved g c =
     let fewer = ap length taken in
     let pushed = length_push c.pop.new.self.items c.in-Some.left in
     let s = ap length c.put_first.ensures.items in
-    let j = ap length c.put_first-in-Some.ensures.items in
-    let w = c.with_end-fault.ensures in record {
+    let j = ap length c.put_first-in-Some.ensures.items in record {
       stations_room = omega (arith, i.stations_room, fewer, pushed, s, c.put_first.ensures.room);
       jobs_room = omega (arith, i.jobs_room, fewer, pushed, j, c.put_first-in-Some.ensures.room);
       all = (
@@ -33,7 +31,7 @@ loop-left-preserved g c =
         sym (append_assoc c.pop.new.self.items (c.in-Some.left ∷ []) i.all.0) ∙ ap (λ (l : List (Station g.C.Exclusion.core × g.row.J.Denot × Ended)). l ++ i.all.0) (sym taken) ∙ i.all.1,
         c.put_first.ensures.items ∙ ap (λ (l : List (Station g.C.Exclusion.core)). c.in-Some.left.0 ∷ l) i.all.2,
         c.put_first-in-Some.ensures.items ∙ ap (λ (l : List g.row.J.Denot). c.in-Some.left.1 ∷ l) i.all.3,
-        told_on _ _ _ w.job w.done w.broken w.stopped w.shut w.still_shut w.spent _ i.all.4,
+        c.with_end-fault.ensures _ i.all.4,
       );
     }
 

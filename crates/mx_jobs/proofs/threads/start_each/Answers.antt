@@ -1,4 +1,4 @@
-use Rattle.std.proofs.Common.{◌≡◌, ◌∙◌, ◌++◌, ◌∷◌, [], List, ap, append-nil, append_assoc, arith, length, refl, sym}
+use Rattle.std.proofs.Common.{◌∙◌, ◌++◌, ◌∷◌, [], ap, append-nil, append_assoc, arith, length, refl, sym}
 use Rattle.std.proofs.lemmas.List.{length_push, nil_from_length}
 use Rattle.mx_stations.specs.Turns.{Station}
 use Rattle.mx_jobs.specs.declared.threads.Worker.{Worker}

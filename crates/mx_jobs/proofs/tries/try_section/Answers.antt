@@ -10,7 +10,7 @@ use Rattle.mx_jobs.specs.declared.tries.JobFault.TheVariants.{NoRegister}
 use Rattle.mx_jobs.specs.Laws.{AreThere, KeepsLaw}
 use Rattle.mx_jobs.specs.Sections.{CannotGoOn, Drafts, Pends, Rests}
 use Rattle.mx_jobs.proofs.Able.{left_able}
-use Rattle.mx_jobs.proofs.Members.{apart_outside, apart_pending, apart_tries, restarted, rests_on, same_ok}
+use Rattle.mx_jobs.proofs.Members.{restarted, rests_on, same_ok}
 use Rattle.mx_jobs.proofs.Made.{pending_left, section_pends}
 use Rattle.mx_jobs.proofs.Rounding.{acted_on, err_then, if_err, no_act, one_act, serves_acting, serves_leaving}
 use Rattle.mx_jobs.proofs.tries.try_section.Goals as goal
@@ -33,43 +33,39 @@ write_all-requires g c =
 pub try_leave-has_left-requires : goal.try_leave-has_left-requires
 try_leave-has_left-requires g c = search (c.requires-raw)
 
-pub returns-in_ok-write_all-in-Ok-clause-left : goal.returns-in_ok-write_all-in-Ok-clause-left
-returns-in_ok-write_all-in-Ok-clause-left g c = λ e.
-    let core = g.C.Exclusion.core in
-    let job = c.args.job.now in
-    let after = c.section-writes.new.self in
-    let number = c.in-Inside.number in
-    let values = c.in-Ok.values.items in
-    let writes = c.section-writes.result.items in
-    let read = c.read_all.new.station in
-    let d = read.me.member.draft in
-    let made = section_pends g.J.Job.terms core job after number c.args.registers.now values writes
+pub returns-in_ok-write_all-in-Ok : goal.returns-in_ok-write_all-in-Ok
+returns-in_ok-write_all-in-Ok g c =
+    let core = g.C.Exclusion.core in let terms = g.J.Job.terms in
+    let job = c.args.job.now in let after = c.section-writes.new.self in
+    let number = c.in-Inside.number in let writes = c.section-writes.result.items in
+    let read = c.read_all.new.station in let d = read.me.member.draft in
+    let woke = restarted core c.args.station.now c.restart.new.self c.restart.ensures in
+    let drafts = c.in_ok-write_all-in-Ok.ensures.drafts in
+    let made = section_pends terms core job after number c.args.registers.now c.in-Ok.values.items writes
     c.args.station.now c.restart.new.self read c.write_all.new.station (sym c.in-Inside.ensures.value) c.requires.asked
-    (subst (λ (vs : List ℕ). g.J.Job.terms.makes job number vs writes after) c.as_slice.ensures.value c.section-writes.ensures.made)
-    (subst (λ (vs : List ℕ). KeepsLaw g.J.Job.terms job number vs writes) c.as_slice.ensures.value c.section-writes.ensures.keeps)
-    (restarted core _ _ c.restart.ensures) c.in-Ok.ensures.read
-    (subst (λ (ws : List OneWrite). Drafts core read (record { reads = d.reads; writes = d.writes ++ ws }) c.write_all.new.station × AreThere read.me.member.setting.registers (map (λ (w : OneWrite). w.register) ws)) c.as_slice-in-Ok.ensures.value c.in_ok-write_all-in-Ok.ensures.drafts) in
-    let has = c.try_leave-has_left.ensures.left (c.outcome_of.ensures.left (same_ok {F = JobFault} _ _ e)) in
-    pending_left g.J.Job.terms core job after has.0 c.args.station.now c.write_all.new.station c.try_leave-has_left.new.station made.0 made.1 has.1 has.2
-
-pub returns-in_ok-write_all-in-Ok-clause-pending : goal.returns-in_ok-write_all-in-Ok-clause-pending
-returns-in_ok-write_all-in-Ok-clause-pending g c = λ e.
-    let core = g.C.Exclusion.core in
-    let job = c.args.job.now in
-    let after = c.section-writes.new.self in
-    let number = c.in-Inside.number in
-    let values = c.in-Ok.values.items in
-    let writes = c.section-writes.result.items in
-    let read = c.read_all.new.station in
-    let d = read.me.member.draft in
-    let made = section_pends g.J.Job.terms core job after number c.args.registers.now values writes
-    c.args.station.now c.restart.new.self read c.write_all.new.station (sym c.in-Inside.ensures.value) c.requires.asked
-    (subst (λ (vs : List ℕ). g.J.Job.terms.makes job number vs writes after) c.as_slice.ensures.value c.section-writes.ensures.made)
-    (subst (λ (vs : List ℕ). KeepsLaw g.J.Job.terms job number vs writes) c.as_slice.ensures.value c.section-writes.ensures.keeps)
-    (restarted core _ _ c.restart.ensures) c.in-Ok.ensures.read
-    (subst (λ (ws : List OneWrite). Drafts core read (record { reads = d.reads; writes = d.writes ++ ws }) c.write_all.new.station × AreThere read.me.member.setting.registers (map (λ (w : OneWrite). w.register) ws)) c.as_slice-in-Ok.ensures.value c.in_ok-write_all-in-Ok.ensures.drafts) in
-    subst (λ (z : Station core). Rests core c.args.station.now z × Pends g.J.Job.terms core job z after)
-    (sym (c.try_leave-has_left.ensures.kept (c.outcome_of.ensures.pending (same_ok {F = JobFault} _ _ e)))) made
+    (subst (λ (vs : List ℕ). terms.makes job number vs writes after) c.as_slice.ensures.value c.section-writes.ensures.made)
+    (subst (λ (vs : List ℕ). KeepsLaw terms job number vs writes) c.as_slice.ensures.value c.section-writes.ensures.keeps)
+    woke c.in-Ok.ensures.read
+    (subst (λ (ws : List OneWrite). Drafts core read (record { reads = d.reads; writes = d.writes ++ ws }) c.write_all.new.station × AreThere read.me.member.setting.registers (map (λ (w : OneWrite). w.register) ws)) c.as_slice-in-Ok.ensures.value drafts) in
+    let tried = c.try_leave-has_left.ensures in let told = c.outcome_of.ensures in
+    record {
+      ready = c.section-writes.ensures.ready;
+      left = λ e. let has = tried.left (told.left (same_ok {F = JobFault} _ _ e)) in
+          pending_left terms core job after has.0 c.args.station.now c.write_all.new.station c.try_leave-has_left.new.station made.0 made.1 has.1 has.2;
+      pending = λ e. subst (λ (z : Station core). Rests core c.args.station.now z × Pends terms core job z after) (sym (tried.kept (told.pending (same_ok {F = JobFault} _ _ e)))) made;
+      outside = λ e. absurd (told.inside (same_ok {F = JobFault} _ _ e));
+      gap = λ e. absurd (told.whole (same_ok {F = JobFault} _ _ e));
+      able = λ e. left_able core g.met.C.Exclusion.phases number c.write_all.new.station c.try_leave-has_left.new.station
+          (ap core.phase (drafts.0.same_core ∙ c.read_all.ensures.phase ∙ woke.same_core) ∙ sym c.in-Inside.ensures.value) (tried.left (told.left (same_ok {F = JobFault} _ _ e))).2;
+      serves = serves_leaving core _ _ _ (acted_on core _ _ _ (acted_on core _ _ _ (one_act core Restart c.args.station.now c.restart.new.self tt c.restart.ensures) c.read_all.ensures.acts) c.write_all.ensures.acts)
+          (elim (bool_cases c.try_leave-has_left.result) [
+            | inl t ↦ inr (tried.left t).2
+            | inr f ↦ inl (tried.kept f)
+          ]);
+      acts = λ e. absurd (told.whole (same_ok {F = JobFault} _ _ e));
+      broken = tt;
+      fails = tt;
+    }
 
 pub returns-in-Err : goal.returns-in-Err
 returns-in-Err g c =
@@ -77,11 +73,11 @@ returns-in-Err g c =
     let rests = rests_on core _ _ _ (restarted core _ _ c.restart.ensures).rests c.read_all.ensures.rests in
     let acts = acted_on core _ _ _ (one_act core Restart c.args.station.now c.restart.new.self tt c.restart.ensures) c.read_all.ensures.acts in
     record {
-      left = λ e. absurd (apart_tries e);
-      pending = λ e. absurd (apart_pending e);
-      outside = λ e. absurd (apart_outside e);
+      left = λ e. cc;
+      pending = λ e. cc;
+      outside = λ e. cc;
       gap = λ e. (refl, rests, c.read_all.ensures.phase ∙ (restarted core c.args.station.now c.restart.new.self c.restart.ensures).same_core);
-      able = λ e. absurd (apart_tries e);
+      able = λ e. cc;
       ready = c.requires.ready;
       fails = tt;
       serves = serves_acting core _ _ acts;
@@ -102,17 +98,6 @@ returns-in_err-write_all-in-Ok-clause-broken g c =
     let core = g.C.Exclusion.core in
     if_err c.from_residual.result
     (acted_on core _ _ _ (acted_on core _ _ _ (one_act core Restart c.args.station.now c.restart.new.self tt c.restart.ensures) c.read_all.ensures.acts) c.write_all.ensures.acts)
-
-pub returns-in_ok-write_all-in-Ok-clause-serves : goal.returns-in_ok-write_all-in-Ok-clause-serves
-returns-in_ok-write_all-in-Ok-clause-serves g c =
-    let core = g.C.Exclusion.core in
-    let tried = c.try_leave-has_left.ensures in
-    serves_leaving core _ _ _
-    (acted_on core _ _ _ (acted_on core _ _ _ (one_act core Restart c.args.station.now c.restart.new.self tt c.restart.ensures) c.read_all.ensures.acts) c.write_all.ensures.acts)
-    (elim (bool_cases c.try_leave-has_left.result) [
-      | inl t ↦ inr (tried.left t).2
-      | inr f ↦ inl (tried.kept f)
-    ])
 
 pub section-writes-requires : goal.section-writes-requires
 section-writes-requires g c = c.requires.ready
@@ -138,12 +123,3 @@ returns-in_err-write_all-in-Ok-clause-fails g c =
     err_then (λ (w : JobFault). Rests core c.args.station.now c.write_all.new.station × CannotGoOn g.J.Job.terms core w c.args.job.now c.section-writes.new.self c.write_all.new.station)
     c.from_residual.result NoRegister c.from_residual.ensures.1
     (rests, inr (c.in-Inside.number, c.in-Ok.values.items, writes, subst (λ (vs : List ℕ). g.J.Job.terms.makes c.args.job.now c.in-Inside.number vs writes c.section-writes.new.self) c.as_slice.ensures.value c.section-writes.ensures.made, lacks))
-
-pub returns-in_ok-write_all-in-Ok-clause-able : goal.returns-in_ok-write_all-in-Ok-clause-able
-returns-in_ok-write_all-in-Ok-clause-able g c = λ e.
-    let core = g.C.Exclusion.core in
-    let phases = g.met.C.Exclusion.phases in
-    let wrote = c.in_ok-write_all-in-Ok.ensures.drafts.0 in
-    let same = wrote.same_core ∙ c.read_all.ensures.phase ∙ (restarted core c.args.station.now c.restart.new.self c.restart.ensures).same_core in
-    left_able core phases c.in-Inside.number c.write_all.new.station c.try_leave-has_left.new.station (ap core.phase same ∙ sym c.in-Inside.ensures.value)
-    (c.try_leave-has_left.ensures.left (c.outcome_of.ensures.left (same_ok {F = JobFault} _ _ e))).2

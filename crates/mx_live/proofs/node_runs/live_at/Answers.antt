@@ -1,8 +1,6 @@
 use Rattle.std.proofs.Common.{◌⊎◌, IfErr, inl, inr, subst, sym}
 use Rattle.std.proofs.lemmas.Result.{IfErr-weaker, err_from_is_err_and}
-use Rattle.mx_cli.specs.Requests.{live_request_of}
 use Rattle.mx_live.specs.LiveErrors.{IsShort, RunsInVain}
-use Rattle.mx_live.specs.Workers.{orders_in}
 use Rattle.mx_live.proofs.SectionLemmas.{both_ok, come_gathered}
 use Rattle.mx_live.proofs.WorkerLemmas.{of_one_table}
 use Rattle.mx_live.proofs.node_runs.live_at.Goals as goal
@@ -38,7 +36,7 @@ returns-clause-err g c = λ shape rested.
 pub returns-in_err-left-clause-err : goal.returns-in_err-left-clause-err
 returns-in_err-left-clause-err g c = λ shape at.
     let e = err_from_is_err_and c.from_residual.result c.from_residual.ensures.1 in
-    subst (λ r. IfErr r (λ error. RunsInVain g.C.Exclusion.core shape c.args.plan.now (orders_in (live_request_of c.args.request.now)) error ⊎ IsShort error)) (sym e.1)
+    subst (λ r. IfErr r (λ error. RunsInVain g.C.Exclusion.core shape c.args.plan.now c.args.options.now error ⊎ IsShort error)) (sym e.1)
     (inr (subst IsShort (sym e.2) c.in_err-left.ensures.short))
 
 pub run_stations-requires-after_bounds : goal.run_stations-requires-after_bounds

@@ -51,10 +51,10 @@ returns-in_ok-stations-in-Raymond g c =
     }
 
 pub returns-in_err-stations-in-Ricart-clause-progress : goal.returns-in_err-stations-in-Ricart-clause-progress
-returns-in_err-stations-in-Ricart-clause-progress g c = tells_none c.args.request.now.progress (g.E.Output.written c.args.err.now)
+returns-in_err-stations-in-Ricart-clause-progress g c = tells_none c.args.options.now.progress (g.E.Output.written c.args.err.now)
 
 pub returns-in_err-stations-in-Maekawa-clause-progress : goal.returns-in_err-stations-in-Maekawa-clause-progress
-returns-in_err-stations-in-Maekawa-clause-progress g c = tells_none c.args.request.now.progress (g.E.Output.written c.args.err.now)
+returns-in_err-stations-in-Maekawa-clause-progress g c = tells_none c.args.options.now.progress (g.E.Output.written c.args.err.now)
 
 pub returns-in_err-stations-in-Raymond-clause-progress : goal.returns-in_err-stations-in-Raymond-clause-progress
-returns-in_err-stations-in-Raymond-clause-progress g c = tells_none c.args.request.now.progress (g.E.Output.written c.args.err.now)
+returns-in_err-stations-in-Raymond-clause-progress g c = tells_none c.args.options.now.progress (g.E.Output.written c.args.err.now)

@@ -1,16 +1,10 @@
-use Rattle.std.proofs.Common.{IfOk, arith, subst}
-use Rattle.std.proofs.lemmas.Result.{IfOk-weaker}
-use Rattle.mx_live.specs.declared.threads.WorkerConfig.{WorkerConfig}
-use Rattle.mx_live.specs.Workers.{AreLeft}
+use Rattle.std.proofs.Common.{arith}
 use Rattle.mx_live.proofs.ProgressLemmas.{tells_none}
 use Rattle.mx_live.proofs.WorkerLemmas.{left_by}
 use Rattle.mx_live.proofs.node_runs.run_stations.Goals as goal
 
 pub nodes-requires : goal.nodes-requires
 nodes-requires g c = omega arith
-
-pub orders_of-requires : goal.orders_of-requires
-orders_of-requires g c = omega arith
 
 pub start_all-requires-send-C : goal.start_all-requires-send-C
 start_all-requires-send-C g c κs within = record { owned = c.type_bounds.send-C.owned; leaving = c.type_bounds.send-C.leaving }
@@ -23,8 +17,7 @@ start_all-requires-send-C-Shape g c κs within = record { owned = c.type_bounds.
 
 pub returns-clause-left : goal.returns-clause-left
 returns-clause-left g c =
-    subst (λ (o : WorkerConfig). AreLeft g.C.Exclusion.core o c.args.stations.items c.in_ok-join_all.field-0.items) c.orders_of.ensures
-    (left_by g.C.Exclusion.core _ _ _ _ c.in_ok-workers.ensures c.in_ok-join_all.ensures)
+    left_by g.C.Exclusion.core _ _ _ _ c.in_ok-workers.ensures c.in_ok-join_all.ensures
 
 pub start_all-requires-after_bounds : goal.start_all-requires-after_bounds
 start_all-requires-after_bounds g c κs within = (search (c.requires-raw.1.1.1.1.1.1), omega (arith, c.nodes.ensures.high))
@@ -48,7 +41,7 @@ pub drop-stations-requires-room-T-Destruct : goal.drop-stations-requires-room-T-
 drop-stations-requires-room-T-Destruct g c κs within = search (c.requires-raw.1.1.1.1.1.1)
 
 pub returns-in_err-watch-clause-progress : goal.returns-in_err-watch-clause-progress
-returns-in_err-watch-clause-progress g c = tells_none c.args.request.now.progress (g.E.Output.written c.args.err.now)
+returns-in_err-watch-clause-progress g c = tells_none c.args.options.now.progress (g.E.Output.written c.args.err.now)
 
 pub returns-in_err-workers-clause-progress : goal.returns-in_err-workers-clause-progress
-returns-in_err-workers-clause-progress g c = tells_none c.args.request.now.progress (g.E.Output.written c.args.err.now)
+returns-in_err-workers-clause-progress g c = tells_none c.args.options.now.progress (g.E.Output.written c.args.err.now)

@@ -1,8 +1,6 @@
-use Rattle.std.proofs.Common.{◌≡◌, ◌∙◌, ◌++◌, ◌∷◌, [], List, ap, arith, length, rules}
+use Rattle.std.proofs.Common.{◌≡◌, ◌∙◌, ◌++◌, ◌∷◌, [], ap, arith, length, rules}
 use Rattle.std.proofs.lemmas.List.{length_push, nil_from_length}
 use Rattle.mx_explorer.specs.Weather.{Climate}
-use Rattle.mx_stations.specs.Turns.{Station}
-use Rattle.mx_live.specs.declared.threads.Worker.{Worker}
 use Rattle.mx_live.specs.Workers.{weather_of, worker_of}
 use Rattle.mx_live.proofs.StationLemmas.{ended, first, moved}
 use Rattle.mx_live.proofs.threads.start_all.Goals as goal

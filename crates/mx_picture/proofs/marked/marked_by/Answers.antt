@@ -1,10 +1,8 @@
 use Rattle.std.proofs.Common.{◌∙◌, List, ap, refl, string_bytes, subst, sym}
-use Rattle.mx_plan.specs.Text.{Text}
 use Rattle.mx_trace.specs.declared.outcome.Entry.{Entry}
 use Rattle.mx_judge.specs.Judged.{IsVerdictOf}
 use Rattle.mx_judge.specs.Listed.{listed}
 use Rattle.mx_judge.specs.Reasons.{reason_for}
-use Rattle.mx_picture.specs.Marks.{why_text}
 use Rattle.mx_picture.proofs.TraceLemmas.{marked_is}
 use Rattle.mx_picture.proofs.marked.marked_by.Goals as goal
 

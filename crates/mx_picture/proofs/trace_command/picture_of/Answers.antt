@@ -5,4 +5,4 @@ use Rattle.mx_picture.proofs.trace_command.picture_of.Goals as goal
 
 pub returns : goal.returns
 returns c = λ is.
-    subst (λ (j : Text). IfOk c.trace_page.result (λ page. IsTracePicture c.args.plan.now j (string_bytes page))) (c.as_str.ensures.value ∙ c.in_ok-judgement.ensures is) c.trace_page.ensures
+    subst (λ (j : Text). IfOk c.page_of.result (λ page. IsTracePicture c.args.plan.now j (string_bytes page))) (c.as_str.ensures.value ∙ c.in_ok-judgement.ensures is) c.page_of.ensures

@@ -1,21 +1,23 @@
-use Rattle.std.proofs.Common.{inr}
-use Rattle.mx_cli.specs.Table.{mx_app}
-use Rattle.mx_cli.specs.Words.{texts_of}
-use Rattle.mx_cli.specs.Requests.{request_asked, request_in}
+use Rattle.mx_cli.specs.Reading.{is_dash}
 use Rattle.mx_cli.specs.Reports.{seen}
-use Rattle.mx_cli.proofs.RefusedLemmas.{faultless, refused}
-use Rattle.mx_play.proofs.RequestLemmas.{short_plays, short_stops}
+use Rattle.mx_play.specs.Lines.{session_lines}
+use Rattle.mx_play.proofs.PlayedLemmas.{by_left}
 use Rattle.mx_play.proofs.command.play.Goals as goal
 
-pub returns-in-Err : goal.returns-in-Err
-unfolding request_asked
-returns-in-Err g c = record {
-  played = refused mx_app request_in (texts_of c.args.words.now) c.in-Err.e c.in-Err.ensures c.refuse.ensures.memory _
-      (λ memory. short_plays (g.S.Source.told c.args.source.now) (g.L.Lines.rest c.args.lines.now) (seen g.O.Output g.E.Output c.args.out.now c.args.err.now) (seen g.O.Output g.E.Output c.refuse.new.out c.refuse.new.err) c.refuse.result memory
-      (g.W.Store.stored c.args.store.now));
-  answers = c.refuse.ensures.answers mx_app (texts_of c.args.words.now) c.in-Err.ensures;
-  stops = refused mx_app request_in (texts_of c.args.words.now) c.in-Err.e c.in-Err.ensures c.refuse.ensures.memory _
-      (λ memory. short_stops (g.S.Source.told c.args.source.now) (g.L.Lines.rest c.args.lines.now) (seen g.O.Output g.E.Output c.args.out.now c.args.err.now) (seen g.O.Output g.E.Output c.refuse.new.out c.refuse.new.err) c.refuse.result memory
-      (g.L.Lines.readable c.args.lines.now) (g.O.Output.takes_all c.args.out.now) (g.E.Output.takes_all c.args.err.now));
-  other = λ asks. let m = faultless mx_app request_in (texts_of c.args.words.now) c.in-Err.e c.in-Err.ensures c.refuse.ensures.memory asks.0 in (m.1, inr (m.0, m.2));
-}
+pub returns-in-Ok-clause-played : goal.returns-in-Ok-clause-played
+returns-in-Ok-clause-played g c =
+    let start = c.in-Ok.start in
+    let lines = session_lines (is_dash c.args.plan.now) (g.L.Lines.rest c.args.lines.now) in
+    let new = seen g.O.Output g.E.Output c.play_and_close.new.out c.play_and_close.new.err in
+    record {
+      played = λ zero. (
+        start.plan,
+        start.text.items,
+        c.in-Ok.ensures.plan,
+        c.in-Ok.ensures.script,
+        by_left start.plan start.text.items (seen g.O.Output g.E.Output c.args.out.now c.args.err.now) new new (g.W.Store.stored c.args.store.now) (g.W.Store.stored c.play_and_close.new.store) lines (g.L.Lines.rest c.fetch_start.new.lines) start.plan.shape
+            c.in-Ok.ensures.left (c.play_and_close.ensures.played zero),
+      );
+      passed = c.play_and_close.ensures.passed;
+      status_is = c.play_and_close.ensures.status;
+    }

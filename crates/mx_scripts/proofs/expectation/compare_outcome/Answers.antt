@@ -1,4 +1,4 @@
-use Rattle.std.proofs.Common.{inr, refl, rules, string_bytes, sym, ◌∙◌}
+use Rattle.std.proofs.Common.{inr, refl, rules, string_bytes}
 use Rattle.mx_scripts.proofs.expectation.compare_outcome.Goals as goal
 
 pub returns-then-not-branch-clause-err : goal.returns-then-not-branch-clause-err

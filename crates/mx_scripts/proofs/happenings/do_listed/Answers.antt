@@ -1,4 +1,4 @@
-use Rattle.std.proofs.Common.{◌≡◌, ◌∙◌, ◌++◌, List, ap}
+use Rattle.std.proofs.Common.{◌∙◌, ◌++◌, List, ap}
 use Rattle.mx_scripts.specs.Lines.{of_line}
 use Rattle.mx_scripts.specs.declared.happenings.Happening.{Happening}
 use Rattle.mx_scripts.proofs.HappeningLemmas.{told_listed}

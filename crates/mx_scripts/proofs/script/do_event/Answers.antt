@@ -1,7 +1,6 @@
-use Rattle.std.proofs.Common.{◌∙◌, ap, inl, length, refl}
+use Rattle.std.proofs.Common.{◌∙◌, ap, length, refl}
 use Rattle.mx_network.specs.Step.{ClusterState}
 use Rattle.mx_scripts.specs.Told.{IsToldUnlessMemory}
-use Rattle.mx_scripts.specs.declared.line_failure.LineFailure.TheVariants as failure
 use Rattle.mx_scripts.proofs.LineLemmas.{err_of}
 use Rattle.mx_scripts.proofs.ToldLemmas.{untold}
 use Rattle.mx_scripts.proofs.script.do_event.Goals as goal

@@ -21,6 +21,6 @@ returns-in_err-text-clause-err g c =
 pub returns-clause-err : goal.returns-clause-err
 returns-clause-err g c =
     let p = c.args.plan.now in
-    err_then c.script_file.result
+    err_then c.script_file.result c.script_file.ensures.err
     (λ s. line_as {P = λ (line : Text). StopsInPlan p c.in_ok-text.text.now line p.shape} {Q = IsRefusedScript p c.args.script.now} s
-    (λ line h. inr (subst (λ (t : Text). StopsInPlan p t line p.shape) c.in_ok-text.ensures.ok h))) c.script_file.ensures.err
+    (λ line h. inr (subst (λ (t : Text). StopsInPlan p t line p.shape) c.in_ok-text.ensures.ok h)))

@@ -7,20 +7,11 @@ least_missing-requires g c = search rules
 pub least_inside-requires : goal.least_inside-requires
 least_inside-requires g c = search rules
 
-pub returns-in-Some-clause-some : goal.returns-in-Some-clause-some
-returns-in-Some-clause-some g c = c.in-Some.ensures.some
+pub returns-in-Some : goal.returns-in-Some
+returns-in-Some g c = record { some = c.in-Some.ensures.some; none = tt }
 
-pub returns-in-Some-clause-none : goal.returns-in-Some-clause-none
-returns-in-Some-clause-none g c = tt
+pub returns-in-Some-least_inside : goal.returns-in-Some-least_inside
+returns-in-Some-least_inside g c = record { some = (c.in_default.ensures.none, c.in-Some-least_inside.ensures.some); none = tt }
 
-pub returns-in-Some-least_inside-clause-some : goal.returns-in-Some-least_inside-clause-some
-returns-in-Some-least_inside-clause-some g c = (c.in_default.ensures.none, c.in-Some-least_inside.ensures.some)
-
-pub returns-in-Some-least_inside-clause-none : goal.returns-in-Some-least_inside-clause-none
-returns-in-Some-least_inside-clause-none g c = tt
-
-pub returns-clause-some : goal.returns-clause-some
-returns-clause-some g c = tt
-
-pub returns-clause-none : goal.returns-clause-none
-returns-clause-none g c = (c.in_default.ensures.none, c.in_default-least_inside.ensures.none)
+pub returns : goal.returns
+returns g c = record { some = tt; none = (c.in_default.ensures.none, c.in_default-least_inside.ensures.none) }

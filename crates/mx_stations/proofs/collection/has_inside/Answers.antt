@@ -1,12 +1,10 @@
-use Rattle.std.proofs.Common.{rules, ◌≡◌, Bool, true, false}
+use Rattle.std.proofs.Common.{rules, ◌≡◌}
 use Rattle.atomic_table.proofs.Lists.{at_index}
+use Rattle.mx_stamps.proofs.Choices.{not_both}
 use Rattle.mx_nodelaws.specs.Core.{IsInside}
 use Rattle.mx_stations.proofs.Gathers.{below_more, below_all, below_none}
 use Rattle.mx_stations.proofs.collection.has_inside.Goals as goal
 use Rattle.mx_stations.proofs.collection.has_inside.Goals.{else-is_of-via-then-is_of+else-is_inside, else-is_of-via-else-is_of}
-
-apart : {b : Bool} → b ≡ false → b ≡ true → ⊥
-apart e f = cc
 
 pub returns-then-is_inside : goal.returns-then-is_inside
 returns-then-is_inside g c =
@@ -16,8 +14,8 @@ pub loop-station-preserved : goal.loop-station-preserved
 loop-station-preserved g c =
     below_more (λ s. s.me.node ≡ c.args.node → IsInside g.C.Exclusion.core s.me.member.core → ⊥) _ _ c.station-item.result c.loop-station.invariant (at_index _ _ _ c.loop-station-test.true c.station-item.is)
     (λ e inside. elim c.else-is_of.branch [
-      | else-is_of-via-then-is_of+else-is_inside w ↦ apart w.if-is_inside.false (w.is_inside.ensures.1 inside)
-      | else-is_of-via-else-is_of w ↦ apart w.if-is_of.false (c.is_of.ensures.1 e)
+      | else-is_of-via-then-is_of+else-is_inside w ↦ not_both _ (w.is_inside.ensures.1 inside) w.if-is_inside.false
+      | else-is_of-via-else-is_of w ↦ not_both _ (c.is_of.ensures.1 e) w.if-is_of.false
     ])
 
 pub returns : goal.returns

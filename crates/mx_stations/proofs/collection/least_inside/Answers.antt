@@ -3,11 +3,8 @@ use Rattle.mx_stations.specs.Gathered.{NotInside, nodes_in}
 use Rattle.mx_stations.proofs.Gathers.{each_more}
 use Rattle.mx_stations.proofs.collection.least_inside.Goals as goal
 
-never : false ≡ true → ⊥
-never e = cc
-
 pub unreachable-requires : goal.unreachable-requires
-unreachable-requires g c = never (c.in_default.ensures.some.1 (let t = c.loop-index-test.true in let h = c.count_of-index-end.ensures.few in omega arith))
+unreachable-requires g c = let bad : false ≡ true = c.in_default.ensures.some.1 (let t = c.loop-index-test.true in let h = c.count_of-index-end.ensures.few in omega arith) in cc
 
 pub returns-then-has_inside-clause-some : goal.returns-then-has_inside-clause-some
 returns-then-has_inside-clause-some g c =

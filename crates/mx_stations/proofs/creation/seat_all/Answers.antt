@@ -11,16 +11,13 @@ use Rattle.mx_stations.proofs.creation.seat_all.Goals as goal
 pub of-requires : goal.of-requires
 of-requires g c = omega arith
 
-never : false ≡ true → ⊥
-never e = cc
-
 pub loop-index-init : goal.loop-index-init
 loop-index-init g c =
     let r = c.requires in
     (r.table, r.nodes, (c.args.setup.now.nodes, omega arith, r.all, c.in_ok-members.ensures), (search rules, λ j s at. absurd (search rules)))
 
 pub unreachable-requires : goal.unreachable-requires
-unreachable-requires g c = absurd (never (c.in_default.ensures.some.1 (let t = c.loop-index-test.true in let h = c.requires.named in omega arith)))
+unreachable-requires g c = let bad : false ≡ true = c.in_default.ensures.some.1 (let t = c.loop-index-test.true in let h = c.requires.named in omega arith) in cc
 
 pub split_seat-own-requires : goal.split_seat-own-requires
 split_seat-own-requires g c =

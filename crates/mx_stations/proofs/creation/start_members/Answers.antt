@@ -5,15 +5,12 @@ use Rattle.mx_stations.proofs.Opens.{all_more}
 use Rattle.mx_stations.proofs.creation.start_members.Goals as goal
 use Rattle.mx_stations.proofs.creation.start_members.Goals.{in-Some+in_ok-push, in_default}
 
-never : false ≡ true → ⊥
-never e = cc
-
 pub loop-index-preserved : goal.loop-index-preserved
 loop-index-preserved g c =
     let starts = starts_of g.C.Exclusion.core c.args.setup.now in
     elim c.match-of.branch [
       | in-Some+in_ok-push w ↦ all_more starts _ _ _ c.loop-index.invariant (ap (λ v. v.items) w.members-is ∙ w.in_ok-push.ensures.items) (w.start.ensures ∙ ap starts w.in-Some.ensures.value)
-      | in_default w ↦ absurd (never (w.in_default.ensures.some.1 (let t = c.loop-index-test.true in let h = c.requires.named in omega arith)))
+      | in_default w ↦ let bad : false ≡ true = w.in_default.ensures.some.1 (let t = c.loop-index-test.true in let h = c.requires.named in omega arith) in cc
     ]
 
 pub returns : goal.returns

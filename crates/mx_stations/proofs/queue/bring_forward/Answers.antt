@@ -1,4 +1,4 @@
-use Rattle.std.proofs.Common.{◌≡◌, ◌+◌, ap, arith, length, subst, sym, take, ◌∙◌}
+use Rattle.std.proofs.Common.{◌≡◌, ◌+◌, ap, arith, length, subst, take, ◌∙◌}
 use Rattle.std.specs.List.{SwappedAt}
 use Rattle.mx_stamps.specs.Lists.{IsIn}
 use Rattle.mx_stations.proofs.Waits.{brought, brought_among, brought_itself, refilled}

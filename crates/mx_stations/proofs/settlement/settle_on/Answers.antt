@@ -1,5 +1,4 @@
-use Rattle.std.proofs.Common.{◌≡◌, ◌+◌, arith, refl, rules, sym}
-use Rattle.mx_stations.proofs.Endings.{done_not_yet, done_shut, not_yet_shut, same_turns, shut_done, shut_not_yet}
+use Rattle.std.proofs.Common.{◌≡◌, ◌+◌, arith, refl, rules}
 use Rattle.mx_stations.proofs.Rounding.{rounds_made, rounds_on, rounds_rest}
 use Rattle.mx_stations.proofs.Within.{settling_within}
 use Rattle.mx_stations.proofs.settlement.settle_on.Goals as goal
@@ -11,9 +10,9 @@ pub returns-then-not-arrive : goal.returns-then-not-arrive
 returns-then-not-arrive g c = record {
   most = (0, omega arith, rounds_rest g.C.Exclusion.core c.args.script.now.register c.args.every _ _ refl);
   within = λ is. is;
-  done = λ ended. absurd (shut_done ended);
-  outside = λ ended. absurd (shut_done ended);
-  not_yet = λ n ended. absurd (shut_not_yet n ended);
+  done = λ ended. cc;
+  outside = λ ended. cc;
+  not_yet = λ n ended. cc;
   shut = λ shut. refl;
 }
 
@@ -37,21 +36,21 @@ returns-then-done g c =
       within = λ is. settling_within g.C.Exclusion.core g.met.C.Exclusion.phases c.args.script.now.sections c.args.every _ _ _ c.settle_if_due.ensures (c.take_turn.ensures.within (c.loop-turn.invariant.within is));
       done = λ ended. c.if-is_finished.ensures.enough refl;
       outside = λ ended. c.if-is_finished.ensures.outside refl;
-      not_yet = λ n ended. absurd (done_not_yet n ended);
-      shut = λ shut. absurd (done_shut shut);
+      not_yet = λ n ended. cc;
+      shut = λ shut. cc;
     }
 
 pub returns : goal.returns
 returns g c = record {
   most = (c.loop-turn._turn, c.loop-turn.auto._turn-end, c.loop-turn.invariant.works);
   within = c.loop-turn.invariant.within;
-  done = λ ended. absurd (done_not_yet c.args.turns (sym ended));
-  outside = λ ended. absurd (done_not_yet c.args.turns (sym ended));
+  done = λ ended. cc;
+  outside = λ ended. cc;
   not_yet = λ n ended.
-      let same : n ≡ c.args.turns = same_turns c.args.turns n ended in
+      let same : n ≡ c.args.turns = cc in
       let all : c.loop-turn._turn ≡ n = (let t = c.loop-turn-test.false in let a = c.loop-turn.auto._turn-end in omega arith) in
       (same, rounds_made g.C.Exclusion.core c.args.script.now.register c.args.every c.loop-turn._turn n _ _ all c.loop-turn.invariant.works);
-  shut = λ shut. absurd (not_yet_shut c.args.turns shut);
+  shut = λ shut. cc;
 }
 
 pub is_finished-requires : goal.is_finished-requires

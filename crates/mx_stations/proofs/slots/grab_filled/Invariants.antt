@@ -9,3 +9,6 @@ invariant-loop-index g l =
     × (l.seat.id ≡ l.fn.seat.id)
     × (l.seat.me ≡ l.fn.seat.me)
     × ((j : ℕ) → j < l.index → HasEmptied (slot_in l.field.nodes l.link j) l.link.from l.fn.seat.me)
+
+abbrev pub ghosts-grab : goal.ghosts-grab
+ghosts-grab g a = record { slot = slot_in a.field.now.nodes a.link.now a.index; from = a.link.now.from }

@@ -1,20 +1,8 @@
-use Rattle.std.proofs.Common.{◌≡◌, Bool, true, false}
+use Rattle.mx_stamps.proofs.Choices.{not_both}
 use Rattle.mx_stations.proofs.worker.is_finished.Goals as goal
 
-apart : {b : Bool} → b ≡ false → b ≡ true → ⊥
-apart e f = cc
+pub returns-then-is_inside : goal.returns-then-is_inside
+returns-then-is_inside g c = record { enough = λ t. cc; outside = λ t. cc }
 
-never : false ≡ true → ⊥
-never e = cc
-
-pub returns-then-is_inside-clause-enough : goal.returns-then-is_inside-clause-enough
-returns-then-is_inside-clause-enough g c = λ t. absurd (never t)
-
-pub returns-then-is_inside-clause-outside : goal.returns-then-is_inside-clause-outside
-returns-then-is_inside-clause-outside g c = λ t. absurd (never t)
-
-pub returns-clause-enough : goal.returns-clause-enough
-returns-clause-enough g c = c.has_sections.ensures.0
-
-pub returns-clause-outside : goal.returns-clause-outside
-returns-clause-outside g c = λ t inside. apart c.if-is_inside.false (c.is_inside.ensures.1 inside)
+pub returns : goal.returns
+returns g c = record { enough = c.has_sections.ensures.0; outside = λ t inside. not_both _ (c.is_inside.ensures.1 inside) c.if-is_inside.false }

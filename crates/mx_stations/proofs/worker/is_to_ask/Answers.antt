@@ -1,4 +1,4 @@
-use Rattle.std.proofs.Common.{◌<◌, inl, inr, length}
+use Rattle.std.proofs.Common.{inl, inr, length}
 use Rattle.mx_stamps.proofs.Choices.{dec_le, not_both}
 use Rattle.mx_stations.proofs.worker.is_to_ask.Goals as goal
 

@@ -1,4 +1,4 @@
-use Rattle.std.proofs.Common.{◌≡◌, ◌∙◌, ◌++◌, ap, length, List, OnOk, rules, string_bytes, subst, sym, ℕ}
+use Rattle.std.proofs.Common.{◌≡◌, ◌∙◌, ◌++◌, ap, length, OnOk, rules, string_bytes, subst, sym}
 use Rattle.mx_network.specs.Step.{ClusterState}
 use Rattle.mx_plan.specs.Text.{Text}
 use Rattle.mx_scripts.specs.ShownScripts.{event_shown, with_line}

@@ -1,8 +1,8 @@
 use Rattle.std.proofs.Common.{◌≡◌, List, drop, length}
 use Rattle.mx_plan.specs.Text.{Text}
-use Rattle.mx_cli.specs.Printing.{Report, Sight, sight}
+use Rattle.mx_cli.specs.Printing.{sight}
 use Rattle.mx_driver.proofs.RunLemmas.{Printed}
-use Rattle.mx_scripts.specs.ShownScripts.{ShowsAll}
+use Rattle.mx_scripts.specs.ShownScripts.{ShowsAll, report_shown}
 use Rattle.mx_scripts.specs.States.{RunState}
 use Rattle.mx_scripts.proofs.ShownLemmas.{left}
 use Rattle.mx_scripts.proofs.shown_script.Showing.print.Given as goal
@@ -16,9 +16,8 @@ invariant-loop-happening g l =
     let view = l.self.view.now in
     record {
       members : length l.state.cluster.members ≡ length p.nodes;
-      -- of a report that was printed up to the first of these texts, more was printed, and this is left
+      -- what is shown was printed up to the first of these texts
       shown : (last : RunState g.row.C.Denot g.row.C-Msg.Denot) → (texts : List Text) → ShowsAll core parts p view knows l.initial.state l.happened last texts
           → (rest : List Text) × ShowsAll core parts p view knows l.state (drop l.happening-index l.happened) last rest
-          × ((o : Sight) → (r : Report) → Printed o (sight g.O.Output l.initial.out) r (left core p view knows l.fault last texts)
-          → Printed o (sight g.O.Output l.out) r (left core p view knows l.fault last rest));
+          × Printed (sight g.O.Output l.fn.out) (sight g.O.Output l.out) (report_shown core parts p view knows l.initial.state texts l.fault last) (left core p view knows l.fault last rest);
     }

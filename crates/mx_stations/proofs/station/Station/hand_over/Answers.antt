@@ -1,4 +1,4 @@
-use Rattle.std.proofs.Common.{arith, rules, sym, ap, ◌∙◌, subst, ◌≡◌, [], ◌∷◌, append-nil}
+use Rattle.std.proofs.Common.{rules, inl, inr, sym, ap, ◌∙◌, subst, ◌≡◌, [], ◌∷◌, append-nil}
 use Rattle.std.specs.Arc.{arc_value}
 use Rattle.mx_member.specs.declared.acts.Act.TheVariants.{Deliver}
 use Rattle.mx_member.specs.Member.{BringsUnknown}
@@ -12,8 +12,7 @@ pub clear-requires : goal.clear-requires
 clear-requires g c = search rules
 
 pub receive-requires : goal.receive-requires
-receive-requires g c =
-    (search rules, (search rules, (c.clear.ensures, held_takes _ _ c.args.self.now c.in-Some.held (ap (λ s. s.me.member) (sym c.self.view_is)) (ap (λ s. s.me.hand) (sym c.self.view_is)) c.in-Some.is c.requires)))
+receive-requires g c = (search rules, (search rules, c.clear.ensures))
 
 pub invariant_of-self : goal.invariant_of-self
 invariant_of-self g c =
@@ -27,9 +26,10 @@ returns-in_err-receive-clause-memory g c =
 
 pub returns-in_err-receive-clause-held : goal.returns-in_err-receive-clause-held
 returns-in_err-receive-clause-held g c =
-    let held = c.in-Some.held in
-    on_err c.from_residual.result _
-    (held.0, held.1, ap (λ s. s.me.hand) (sym c.self.view_is) ∙ c.in-Some.is, subst (λ s. BringsUnknown held.1 s.me.member.journal) c.self.view_is c.in_err-receive.ensures.memory)
+    let held = c.in-Some.held in let e = c.in_err-receive.ensures in
+    let can = held_takes _ _ c.args.self.now held (ap (λ s. s.me.member) (sym c.self.view_is)) (ap (λ s. s.me.hand) (sym c.self.view_is)) c.in-Some.is c.requires in
+    let brings : BringsUnknown held.1 c.self.inside.member.journal = elim (e.taken.1 can) [ inl bad ↦ cc | inr is ↦ e.memory is ] in
+    on_err c.from_residual.result _ (held.0, held.1, ap (λ s. s.me.hand) (sym c.self.view_is) ∙ c.in-Some.is, subst (λ s. BringsUnknown held.1 s.me.member.journal) c.self.view_is brings)
 
 pub act-requires : goal.act-requires
 act-requires g c =

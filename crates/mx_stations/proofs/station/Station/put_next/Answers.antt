@@ -1,4 +1,4 @@
-use Rattle.std.proofs.Common.{ℕ, ◌+◌, ◌<◌, ◌≡◌, ◌++◌, ◌∷◌, [], Some, append_assoc, ap, arith, drop, length, slice_get, subst, sym, take, ◌∙◌}
+use Rattle.std.proofs.Common.{ℕ, ◌+◌, ◌<◌, ◌++◌, ◌∷◌, [], append_assoc, ap, arith, drop, length, subst, sym, take, ◌∙◌}
 use Rattle.mx_stamps.specs.Lists.{IsIn}
 use Rattle.mx_stamps.proofs.Choices.{lt_false}
 use Rattle.mx_stamps.proofs.Lists.{drop_at, in_get}

@@ -9,20 +9,11 @@ waits-requires g c = search rules
 pub tick-requires : goal.tick-requires
 tick-requires g c = search rules
 
-pub returns-then-not-is_idle-clause-ends : goal.returns-then-not-is_idle-clause-ends
-returns-then-not-is_idle-clause-ends g c = refl
+pub returns-then-not-is_idle : goal.returns-then-not-is_idle
+returns-then-not-is_idle g c =
+    record { ends = refl; idle = c.if-not-is_idle.ensures ∙ ap (λ (n : ℕ). (c.args.taken == 0) && (n == 0)) c.waits.ensures.count; goes = stays g.C.Exclusion.core _ _ refl }
 
-pub returns-then-not-is_idle-clause-idle : goal.returns-then-not-is_idle-clause-idle
-returns-then-not-is_idle-clause-idle g c = c.if-not-is_idle.ensures ∙ ap (λ (n : ℕ). (c.args.taken == 0) && (n == 0)) c.waits.ensures.count
-
-pub returns-then-not-is_idle-clause-goes : goal.returns-then-not-is_idle-clause-goes
-returns-then-not-is_idle-clause-goes g c = stays g.C.Exclusion.core _ _ refl
-
-pub returns-clause-ends : goal.returns-clause-ends
-returns-clause-ends g c = c.tick.ensures
-
-pub returns-clause-idle : goal.returns-clause-idle
-returns-clause-idle g c = c.if-not-is_idle.ensures ∙ ap (λ (n : ℕ). (c.args.taken == 0) && (n == 0)) c.waits.ensures.count
-
-pub returns-clause-goes : goal.returns-clause-goes
-returns-clause-goes g c = goes_ticking g.C.Exclusion.core _ _ c.tick.ensures
+pub returns : goal.returns
+returns g c =
+    let did = c.tick.ensures in
+    record { ends = did; idle = c.if-not-is_idle.ensures ∙ ap (λ (n : ℕ). (c.args.taken == 0) && (n == 0)) c.waits.ensures.count; goes = goes_ticking g.C.Exclusion.core _ _ did }

@@ -1,6 +1,0 @@
-use Rattle.mx_stations.specs.Links.{slot_in}
-use Rattle.mx_stations.specs.Slides.{placed_view}
-use Rattle.mx_stations.proofs.slots.place.Given as goal
-
-abbrev pub ghosts-place_as : goal.ghosts-place_as
-ghosts-place_as g a = record { after = λ v. placed_view (slot_in a.field.now.nodes a.link.now a.index) a.parcel v; count = a.field.now.nodes }
