@@ -17,7 +17,7 @@ use Rattle.clap.specs.declared.parser.matches.Found.{Found}
 use Rattle.clap.proofs.WalkLemmas.{one_text-rows}
 use Rattle.clap.proofs.ValueTestLemmas.{Accepts-accepts, accepts-Accepts}
 use Rattle.clap.specs.Faults.{fault_of, is_simple_and_free}
-use Rattle.mx_cli.specs.Words.{Asks, Finds, IsLine, IsReadable, asked_of, number_at, number_of, where_none}
+use Rattle.mx_cli.specs.Words.{Finds, IsLine, IsReadable, ParsesAs, asked_of, number_at, number_of, where_none}
 
 -- ---- numbers
 
@@ -63,7 +63,7 @@ is_line r app read h = IfOk-weaker r _ _ (λ line is. record { app = is; readabl
 
 -- what is read of what was found is what the words ask for
 pub asks : {T X : Type 0} (value : T → X) (line : App) (words : List Text) (read : Option (Text × List Row) → Option X) (matches : ArgMatches) (request : Option T)
-    → Finds line words (Ok matches) → option_map value request ≡ read (subcommand_rows_of matches) → Asks value line words (asked_of line read words) (Ok request)
+    → Finds line words (Ok matches) → option_map value request ≡ read (subcommand_rows_of matches) → ParsesAs value line words (asked_of line read words) (Ok request)
 asks value line words read matches request found e =
     (found.0, e ∙ ap read found.1 ∙ sym (ap (λ kinds. where_none kinds (read (subcommand_of line words))) found.0))
 

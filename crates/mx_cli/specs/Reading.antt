@@ -95,5 +95,5 @@ IsRead = IsReadFor All
 abbrev pub Reads : Telling → Result Fields Stop → Type 0
 Reads = ReadsFor All
 
-abbrev pub IsPlanOf : Option Telling → Fields → Type 0
-IsPlanOf = IsPlanFor All
+abbrev pub IsPlanTold : Option Telling → Fields → Type 0
+IsPlanTold = IsPlanFor All

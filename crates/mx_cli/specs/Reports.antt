@@ -53,8 +53,8 @@ ReportsUsage old new status =
 
 -- if the words ask a command line for help, the run ends as `Helps` says; if the words are wrong,
 -- as `ReportsUsage` says
-abbrev pub Answers : App → List Text → Bool → Seen → Seen → ℕ → Type 0
-Answers line words takes_all old new status =
+abbrev pub HelpsOrRefuses : App → List Text → Bool → Seen → Seen → ℕ → Type 0
+HelpsOrRefuses line words takes_all old new status =
     (AskHelp line words → Helps takes_all old new status)
     × (AreWrong line words → ReportsUsage old new status)
 

@@ -12,7 +12,7 @@ use Rattle.clap.specs.declared.builder.arg.Arg.{Arg}
 use Rattle.clap.specs.declared.builder.command.Command.{Command}
 use Rattle.clap.specs.declared.builder.command.Command.TheViews.{out-Command}
 use Rattle.clap.specs.declared.parser.matches.ArgMatches.{ArgMatches}
-use Rattle.mx_cli.specs.declared.request.Names.{Names}
+use Rattle.mx_cli.specs.declared.request.FileNames.{FileNames}
 use Rattle.clap.specs.declared.error.Error.{Error}
 use Rattle.clap.specs.declared.error.kind.ErrorKind.{ErrorKind}
 use Rattle.clap.specs.declared.error.kind.ErrorKind.TheVariants.{DisplayHelp, DisplayVersion}
@@ -49,7 +49,7 @@ texts_of = map (λ word. word.now)
 -- ---- what is asked for
 
 -- the names of the plan and of the events
-abbrev pub names_of : Names → Text × Text
+abbrev pub names_of : FileNames → Text × Text
 names_of names = (names.plan.now, names.events.now)
 
 -- the number that a text writes, if it fits in 64 bits
@@ -85,24 +85,24 @@ Finds line words result =
 
 -- the words have no fault, and the request is the one that is wanted; or the error has the kind of
 -- a fault of the words, or says that memory ran out
-abbrev pub Asks : {T X : Type 0} → (T → X) → App → List Text → Option X → Result (Option T) Error
+abbrev pub ParsesAs : {T X : Type 0} → (T → X) → App → List Text → Option X → Result (Option T) Error
     → Type 0
-Asks value line words wanted result =
+ParsesAs value line words wanted result =
     MatchResult result (λ request. (fault_of line words ≡ []) × (option_map value request ≡ wanted))
     (HasKind (fault_of line words))
 
 -- ---- words that are no command
 
 -- the error is a request to show a text: help, or the version
-abbrev pub IsShown : ErrorKind → Type 0
-IsShown k = (k ≡ DisplayHelp) ⊎ (k ≡ DisplayVersion)
+abbrev pub IsHelpKind : ErrorKind → Type 0
+IsHelpKind k = (k ≡ DisplayHelp) ⊎ (k ≡ DisplayVersion)
 
 -- the words ask a command line for help, or for the version
 pub record AskHelp (line : App) (words : List Text) : Type 0 where
   pub some : fault_of line words ≢ []
-  pub each : (k : ErrorKind) → IsAmong k (fault_of line words) → IsShown k
+  pub each : (k : ErrorKind) → IsAmong k (fault_of line words) → IsHelpKind k
 
 -- the words are wrong: they have faults, and no fault is a request for help or for the version
 pub record AreWrong (line : App) (words : List Text) : Type 0 where
   pub some : fault_of line words ≢ []
-  pub each : (k : ErrorKind) → IsAmong k (fault_of line words) → ¬ (IsShown k)
+  pub each : (k : ErrorKind) → IsAmong k (fault_of line words) → ¬ (IsHelpKind k)

@@ -5,7 +5,7 @@ ghost use Rattle.mx_cli.specs.FaultLines.{fault_line, part_text};
 ghost use Rattle.mx_cli.specs.Words.{names_of};
 
 use crate::planning::are_dashes;
-use crate::request::Names;
+use crate::request::FileNames;
 use mx_lines::Escaped;
 use mx_plan::PlanFault;
 use std::fmt;
@@ -34,7 +34,7 @@ pub enum Fault {
 #[derive(Clone, Copy)]
 pub struct FaultLine<'a> {
     pub fault: Fault,
-    pub names: Names<'a>,
+    pub names: FileNames<'a>,
 }
 
 impl fmt::Display for FaultLine<'_> {
@@ -62,7 +62,7 @@ impl fmt::Display for FaultLine<'_> {
 
 /// Returns where the text of `part` stands: its name, or the part of standard input if both names
 /// are `-`.
-fn part_in<'a>(names: &Names<'a>, part: Named) -> &'a str
+fn part_in<'a>(names: &FileNames<'a>, part: Named) -> &'a str
     ensures { result.now ≡ part_text (names_of names.now) part }
 {
     let are_one = are_dashes(names);

@@ -8,7 +8,7 @@ ghost use Rattle.mx_cli.specs.Frames as spec;
 
 use crate::faults::{Fault, Named};
 use crate::planning::{PlanAndText, fetch_both, fetch_plan};
-use crate::request::Names;
+use crate::request::FileNames;
 use crate::stop::Stop;
 use mx_io::Source;
 use mx_plan::{Needs, PlanFault};
@@ -48,7 +48,7 @@ impl<'a> Files<'a> {
     }
 
     /// Returns the files of a plan and of the text that comes with it.
-    pub fn both(names: &Names<'a>, names_texts: bool) -> Files<'a>
+    pub fn both(names: &FileNames<'a>, names_texts: bool) -> Files<'a>
         ensures { spec.files_of result ≡ spec.both (names_of names.now) names_texts }
     {
         Files::new(names.plan, Some(names.events), names_texts)
@@ -56,7 +56,7 @@ impl<'a> Files<'a> {
 
     /// Returns the files of a plan and of a trace. Of the plan only the names of nodes and registers
     /// count, so it needs no other keys.
-    pub fn of_trace(names: &Names<'a>) -> Files<'a>
+    pub fn of_trace(names: &FileNames<'a>) -> Files<'a>
         ensures { spec.files_of result ≡ spec.of_trace (names_of names.now) }
     {
         Files {
@@ -68,10 +68,10 @@ impl<'a> Files<'a> {
     }
 
     /// Returns the names for the lines of faults. The plan's name stands in for a missing one.
-    pub(crate) fn names(&self) -> Names<'a>
+    pub(crate) fn names(&self) -> FileNames<'a>
         ensures { names_of result ≡ spec.names_of (spec.files_of self.now) }
     {
-        Names {
+        FileNames {
             plan: self.plan,
             events: self.text.unwrap_or(self.plan),
         }
@@ -96,7 +96,7 @@ pub fn fetch_files<S: Source>(
 {
     match files.text {
         Some(text) => {
-            let names = Names {
+            let names = FileNames {
                 plan: files.plan,
                 events: text,
             };

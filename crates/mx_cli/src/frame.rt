@@ -10,7 +10,7 @@ use crate::command::Command;
 use crate::faults::Named;
 use crate::files::{Files, fault_for, fetch_files};
 use crate::report::{report_fault, report_memory};
-use crate::request::Names;
+use crate::request::FileNames;
 use crate::stop::Stop;
 use mx_io::{Output, OutputFault, Source};
 use std::alloc::Global;
@@ -79,7 +79,7 @@ pub fn stop_for(stop: Stop, names_texts: bool, part: Named) -> Stop
 pub fn close<O: Output, E: Output>(
     alloc: Global,
     ended: Result<u8, Stop>,
-    names: &Names<'_>,
+    names: &FileNames<'_>,
     out: &mut O,
     err: &mut E,
 ) -> u8
@@ -98,7 +98,12 @@ pub fn close<O: Output, E: Output>(
 }
 
 /// Writes the line that says why a command ended early, if it did, and returns the exit status.
-fn tell_end<E: Output>(alloc: Global, ended: Result<u8, Stop>, names: &Names<'_>, err: &mut E) -> u8
+fn tell_end<E: Output>(
+    alloc: Global,
+    ended: Result<u8, Stop>,
+    names: &FileNames<'_>,
+    err: &mut E,
+) -> u8
     ensures { TellsEnd (names_of names.now) (E.takes_all err.old) (course_of ended)
         (E.written err.old) (E.written err.new) result }
 {

@@ -27,6 +27,6 @@ pub use planning::{PlanAndText, are_dashes, fetch, fetch_both, fetch_plan, plan_
 pub use reader::parse;
 pub use report::{refuse, report_fault, report_memory, report_misfit, write_line};
 pub use request::{
-    Conditions, LiveOptions, Misfit, Names, PicturePart, RandomRun, Request, Task, ViewOptions,
+    Conditions, FileNames, LiveOptions, Misfit, PicturePart, RandomRun, Request, Task, ViewOptions,
 };
 pub use stop::{Stop, stop_with};

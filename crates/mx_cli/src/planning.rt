@@ -8,7 +8,7 @@ ghost use Rattle.mx_cli.specs.Reading.{Fetches, IsUnread, ReadsBoth, ReadsFor, i
 ghost use Rattle.mx_cli.specs.Words.{names_of};
 
 use crate::faults::{Fault, Named};
-use crate::request::Names;
+use crate::request::FileNames;
 use crate::stop::Stop;
 use mx_io::{Source, SourceFault};
 use mx_plan::{Needs, Plan, read_plan_for};
@@ -76,7 +76,7 @@ pub fn plan_in(alloc: Global, text: &[u8], needs: Needs) -> Result<Plan, Stop>
 pub fn fetch_both<S: Source>(
     alloc: Global,
     source: &mut S,
-    names: &Names<'_>,
+    names: &FileNames<'_>,
     needs: Needs,
 ) -> Result<PlanAndText, Stop>
     ensures read { ReadsBoth needs (plan_told (S.told source.old) (names_of names.now))
@@ -120,7 +120,7 @@ fn both_in(alloc: Global, bytes: &[u8], needs: Needs) -> Result<PlanAndText, Sto
 fn fetch_two<S: Source>(
     alloc: Global,
     source: &mut S,
-    names: &Names<'_>,
+    names: &FileNames<'_>,
     needs: Needs,
 ) -> Result<PlanAndText, Stop>
     ensures read { ReadsBoth needs (S.told source.old names.now.plan.now)
@@ -134,7 +134,7 @@ fn fetch_two<S: Source>(
 }
 
 /// Whether both names are `-`, which is standard input.
-pub fn are_dashes(names: &Names<'_>) -> bool
+pub fn are_dashes(names: &FileNames<'_>) -> bool
     ensures { result ≡ (is_dash names.now.plan.now && is_dash names.now.events.now) }
 {
     names.plan == "-" && names.events == "-"

@@ -3,28 +3,28 @@
 ghost use Rattle.std.specs.Prelude.{◌≡◌, Some, option_map};
 ghost use Rattle.clap.specs.Words.{first_of, found_of, rows_of, subcommand_rows_of};
 ghost use Rattle.mx_cli.specs.Table.{mx_app};
-ghost use Rattle.mx_cli.specs.Words.{Asks, is_given, names_of, number_at, texts_of};
+ghost use Rattle.mx_cli.specs.Words.{ParsesAs, is_given, names_of, number_at, texts_of};
 ghost use Rattle.mx_cli.specs.Requests as spec;
 
 use crate::files::Files;
 use crate::line::{matches_of, whole_line};
 use crate::request::{
-    Conditions, LiveOptions, Misfit, Names, PicturePart, RandomRun, Request, Task, ViewOptions,
+    Conditions, FileNames, LiveOptions, Misfit, PicturePart, RandomRun, Request, Task, ViewOptions,
 };
 use clap::{ArgMatches, Error};
 use std::alloc::Global;
 
 /// The chance in 256 that a parcel of a walk is lost, if `--loss` is absent.
-const LOSS: u64 = 4;
+const DEFAULT_LOSS: u64 = 4;
 
 /// The chance in 256 that a step of a walk repeats a parcel, if `--repeat` is absent.
-const REPEAT: u64 = 8;
+const DEFAULT_REPEAT: u64 = 8;
 
 /// The seed of the links of `live`, if `--seed` is absent.
-const LINK_SEED: u64 = 1;
+const DEFAULT_SEED: u64 = 1;
 
 /// How many turns each node of `live` may take, if `--turns` is absent.
-const TURNS: u64 = 10_000_000;
+const DEFAULT_TURNS: u64 = 10_000_000;
 
 /// Parses the words of a command line, without the program's name.
 ///
@@ -33,7 +33,7 @@ const TURNS: u64 = 10_000_000;
 /// Returns the error of `clap` for wrong arguments. A request for help or for the version is such
 /// an error too, with the text to show.
 pub fn parse<'a>(alloc: Global, words: &'a [&'a str]) -> Result<Option<Request<'a>>, Error>
-    ensures { Asks spec.request_of mx_app (texts_of words.entry.now)
+    ensures { ParsesAs spec.request_of mx_app (texts_of words.entry.now)
         (spec.request_asked (texts_of words.entry.now)) result }
 {
     let matches = matches_of(whole_line(alloc)?, words)?;
@@ -141,8 +141,8 @@ fn live_in<'a>(matches: &ArgMatches<'a>) -> Option<Request<'a>>
     let sections = number_at(matches, "sections")?;
     let live = Task::Live(LiveOptions {
         sections,
-        seed: number_or(matches, "seed", LINK_SEED),
-        turns: number_or(matches, "turns", TURNS),
+        seed: number_or(matches, "seed", DEFAULT_SEED),
+        turns: number_or(matches, "turns", DEFAULT_TURNS),
         settle: number_or(matches, "settle", 0),
         progress: is_given(matches, "progress"),
     });
@@ -188,8 +188,8 @@ fn conditions_in(matches: &ArgMatches<'_>) -> Conditions
     ensures { result ≡ spec.conditions_in (rows_of (found_of matches.now)) }
 {
     Conditions {
-        loss: number_or(matches, "loss", LOSS),
-        repeat: number_or(matches, "repeat", REPEAT),
+        loss: number_or(matches, "loss", DEFAULT_LOSS),
+        repeat: number_or(matches, "repeat", DEFAULT_REPEAT),
         in_order: is_given(matches, "in-order"),
     }
 }
@@ -229,7 +229,11 @@ fn picture_in<'a>(matches: &ArgMatches<'a>) -> Option<Request<'a>>
     Some(picture_of(matches, names, part))
 }
 
-fn picture_of<'a>(matches: &ArgMatches<'a>, names: Names<'a>, part: PicturePart<'a>) -> Request<'a>
+fn picture_of<'a>(
+    matches: &ArgMatches<'a>,
+    names: FileNames<'a>,
+    part: PicturePart<'a>,
+) -> Request<'a>
     ensures { spec.request_of result
         ≡ spec.picture_of (rows_of (found_of matches.now)) (names_of names.entry)
         (spec.part_of part.entry) }
@@ -248,7 +252,7 @@ fn picture_of<'a>(matches: &ArgMatches<'a>, names: Names<'a>, part: PicturePart<
 
 fn picture_trace_of<'a>(
     matches: &ArgMatches<'a>,
-    names: Names<'a>,
+    names: FileNames<'a>,
     part: PicturePart<'a>,
 ) -> Request<'a>
     ensures { spec.request_of result
@@ -306,12 +310,12 @@ fn explain_in<'a>(matches: &ArgMatches<'a>) -> Option<Request<'a>>
 }
 
 /// Returns the names of the plan, and of the text that the argument `id` names.
-fn names_in<'a>(matches: &ArgMatches<'a>, id: &str) -> Option<Names<'a>>
+fn names_in<'a>(matches: &ArgMatches<'a>, id: &str) -> Option<FileNames<'a>>
     ensures { option_map names_of result ≡ spec.names_in id.now (rows_of (found_of matches.now)) }
 {
     let plan = text_at(matches, "PLAN")?;
     let events = text_at(matches, id)?;
-    Some(Names { plan, events })
+    Some(FileNames { plan, events })
 }
 
 /// Returns the text that was given for the argument `id`.

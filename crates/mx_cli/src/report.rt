@@ -6,10 +6,10 @@ ghost use Rattle.clap.specs.Words.{App, HasKind, Text, fault_of, kind_of};
 ghost use Rattle.mx_cli.specs.Words.{names_of};
 ghost use Rattle.mx_io.specs.Outputs.{refused_by};
 ghost use Rattle.mx_cli.specs.FaultLines.{fault_line};
-ghost use Rattle.mx_cli.specs.Reports.{Answers, Helps, MayReport, RunsOut, ReportsFault, seen};
+ghost use Rattle.mx_cli.specs.Reports.{HelpsOrRefuses, Helps, MayReport, RunsOut, ReportsFault, seen};
 
 use crate::faults::{Fault, FaultLine};
-use crate::request::{Misfit, Names};
+use crate::request::{FileNames, Misfit};
 use clap::error::ErrorKind;
 use mx_io::{Output, OutputFault};
 use std::alloc::Global;
@@ -21,7 +21,7 @@ pub fn refuse<O: Output, E: Output>(alloc: Global, e: &clap::Error, out: &mut O,
     ensures memory { kind_of e.now ≡ ErrorKind.OutOfMemory → RunsOut
         (seen O.Output E.Output out.old err.old) (seen O.Output E.Output out.new err.new) result }
     ensures answers { (line : App) (words : List Text) → HasKind (fault_of line words) e.now
-        → Answers line words (O.takes_all out.old)
+        → HelpsOrRefuses line words (O.takes_all out.old)
         (seen O.Output E.Output out.old err.old) (seen O.Output E.Output out.new err.new) result }
 {
     match e.kind() {
@@ -40,7 +40,12 @@ pub fn report_misfit<E: Output>(alloc: Global, misfit: Misfit, err: &mut E) -> u
 }
 
 /// Writes the line of a fault, and returns the exit status: 1, or 5 if memory ran out.
-pub fn report_fault<E: Output>(alloc: Global, fault: Fault, names: &Names<'_>, err: &mut E) -> u8
+pub fn report_fault<E: Output>(
+    alloc: Global,
+    fault: Fault,
+    names: &FileNames<'_>,
+    err: &mut E,
+) -> u8
     ensures { ReportsFault (E.takes_all err.old) (fault_line (names_of names.now) fault)
         (E.written err.old) (E.written err.new) result }
 {

@@ -9,7 +9,7 @@ use std::fmt;
 /// The names of a plan and of its events, or of a script or a trace in place of events. The name
 /// `-` is standard input.
 #[derive(Clone, Copy, Debug, PartialEq, Eq)]
-pub struct Names<'a> {
+pub struct FileNames<'a> {
     pub plan: &'a str,
     pub events: &'a str,
 }

@@ -1,5 +1,5 @@
 -- What requests do.
-use Rattle.std.proofs.Common.{ℕ, Bool, List, Option, inl, inr}
+use Rattle.std.proofs.Common.{ℕ, Bool, List, Option, inl, inr, refl}
 use Rattle.mx_plan.specs.Text.{Text}
 use Rattle.mx_io.specs.Stored.{Stored}
 use Rattle.mx_io.specs.Told.{Telling}
@@ -10,7 +10,7 @@ use Rattle.mx_cli.proofs.ClosedLemmas.{not_five}
 use Rattle.mx_live.proofs.RequestLemmas.{short_run}
 use Rattle.mx_play.proofs.StopLemmas.{five_is_one}
 use Rattle.mx_play.proofs.StoreLemmas.{Stores-nil}
-use Rattle.mx_dispatch.specs.Program.{Does, DoesWith, HasReason}
+use Rattle.mx_dispatch.specs.Program.{AsksOnce, Does, DoesWith, HasReason}
 
 module _ (told : Text → Option Telling) (t u : Bool) (old new : Seen) (status : ℕ) (memory : RunsOut old new status) where
   declines : Declines old new status
@@ -39,3 +39,8 @@ module _ (told : Text → Option Telling) (t u : Bool) (old new : Seen) (status 
   pub short_stops : (lines : Option (List Text)) (left : Option ℕ) (request : Request) → HasReason told lines left request t u status
   short_stops lines left (task files play) = λ out err can one. five_is_one status memory.0 one
   short_stops lines left _ = tt
+
+-- no name was read
+pub unread : (request : Request) (asked : Option (List Text)) → AsksOnce request asked asked
+unread (misfit reason) asked = refl
+unread (task files _) asked = inl refl

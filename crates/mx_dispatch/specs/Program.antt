@@ -1,9 +1,9 @@
 -- The program: what each request does.
-use Rattle.std.specs.Prelude.{ℕ, ◌≡◌, ◌≢◌, ⊤, Bool, true, [], List, Option}
+use Rattle.std.specs.Prelude.{ℕ, ◌≡◌, ◌≢◌, ◌⊎◌, ⊤, Bool, true, [], ◌∷◌, List, Option}
 use Rattle.mx_plan.specs.Text.{Text}
 use Rattle.mx_io.specs.Stored.{Stored, Stores}
-use Rattle.mx_io.specs.Told.{Telling}
-use Rattle.mx_cli.specs.Frames.{Files, Runs}
+use Rattle.mx_io.specs.Told.{Asks, Telling}
+use Rattle.mx_cli.specs.Frames.{AsksFiles, Files, Runs}
 use Rattle.mx_cli.specs.Reports.{Declines, ReportsUsage, Seen}
 use Rattle.mx_cli.specs.Requests.{Request, Task, check, count, count_script, draw, explain, explore, judge, live, misfit, picture, picture_script, picture_trace, play, replay, replay_script, script, task}
 use Rattle.mx_driver.specs.Commands.{IsCheck}
@@ -16,6 +16,7 @@ use Rattle.mx_judge.specs.Judged.{IsJudgement}
 use Rattle.mx_live.specs.Lives.{Lives}
 use Rattle.mx_picture.specs.Pictures.{IsPictured}
 use Rattle.mx_picture.specs.TracePictures.{IsTracePictured}
+use Rattle.mx_play.specs.AskedFiles.{AsksStart}
 use Rattle.mx_play.specs.Played.{Plays}
 use Rattle.mx_play.specs.Reasons.{CanBeRead}
 use Rattle.mx_scripts.specs.Printed.{IsOnScript, IsScript}
@@ -57,6 +58,19 @@ DoesWith told lines (task files play) t u old new store store' status =
     Plays told lines files.plan files.text old new store store' status
 DoesWith told lines request t u old new store store' status =
     Does told request t u old new status × Stores store store' []
+
+-- each name that a task reads is read at most once, the plan's first. `explain` may try a name that
+-- can't be read once more, to say why
+abbrev pub AsksTask : Files → Task → Option (List Text) → Option (List Text) → Type 0
+AsksTask files (live options) old new = Asks old new (files.plan ∷ [])
+AsksTask files play old new = AsksStart files.plan files.text old new
+AsksTask files (explain is_script) old new = ⊤
+AsksTask files asked old new = AsksFiles files old new
+
+-- the same, or nothing was read
+abbrev pub AsksOnce : Request → Option (List Text) → Option (List Text) → Type 0
+AsksOnce (task files asked) old new = (new ≡ old) ⊎ AsksTask files asked old new
+AsksOnce (misfit reason) old new = new ≡ old
 
 -- a session whose texts can be read, and whose outputs take all bytes, has not status 1
 abbrev pub HasReason : (Text → Option Telling) → Option (List Text) → Option ℕ → Request → Bool

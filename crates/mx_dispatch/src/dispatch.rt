@@ -1,12 +1,12 @@
 //! The words of a command line, and the command that they ask for.
 
-ghost use Rattle.std.specs.Prelude.{◌≡◌, IfSome};
+ghost use Rattle.std.specs.Prelude.{◌≡◌, ◌⊎◌, IfSome};
 ghost use Rattle.mx_cli.specs.Table.{mx_app};
 ghost use Rattle.mx_cli.specs.Frames.{files_of};
 ghost use Rattle.mx_cli.specs.Words.{texts_of};
 ghost use Rattle.mx_cli.specs.Requests.{AskNothing, request_asked, request_of, task_of};
-ghost use Rattle.mx_cli.specs.Reports.{Answers, Declines, seen};
-ghost use Rattle.mx_dispatch.specs.Program.{Does, DoesTask, DoesWith, HasReason};
+ghost use Rattle.mx_cli.specs.Reports.{Declines, HelpsOrRefuses, seen};
+ghost use Rattle.mx_dispatch.specs.Program.{AsksOnce, AsksTask, Does, DoesTask, DoesWith, HasReason};
 
 use mx_cli::{Files, Request, Task, front, parse, refuse, report_misfit};
 use mx_count::Count;
@@ -42,13 +42,15 @@ pub fn run<R: Host, S: Source, L: Lines, W: Store, O: Output, E: Output>(
         (O.takes_all out.old) (E.takes_all err.old)
         (seen O.Output E.Output out.old err.old) (seen O.Output E.Output out.new err.new)
         (W.stored store.old) (W.stored store.new) result) }
-    ensures answers { Answers mx_app (texts_of words.entry.now) (O.takes_all out.old)
+    ensures answers { HelpsOrRefuses mx_app (texts_of words.entry.now) (O.takes_all out.old)
         (seen O.Output E.Output out.old err.old) (seen O.Output E.Output out.new err.new) result }
     ensures other { AskNothing (texts_of words.entry.now) → Declines
         (seen O.Output E.Output out.old err.old) (seen O.Output E.Output out.new err.new) result }
     ensures stops { IfSome (request_asked (texts_of words.entry.now)) (λ request.
         HasReason (S.told source.old) (L.rest lines.old) (L.readable lines.old) request
         (O.takes_all out.old) (E.takes_all err.old) result) }
+    ensures asks { IfSome (request_asked (texts_of words.entry.now)) (λ request.
+        AsksOnce request (S.asked source.old) (S.asked source.new)) }
 {
     match parse(alloc, words) {
         Ok(Some(request)) => run_request(rt, alloc, &request, source, lines, store, out, err),
@@ -73,6 +75,7 @@ fn run_request<R: Host, S: Source, L: Lines, W: Store, O: Output, E: Output>(
         (W.stored store.old) (W.stored store.new) result }
     ensures stops { HasReason (S.told source.old) (L.rest lines.old) (L.readable lines.old)
         (request_of request.now) (O.takes_all out.old) (E.takes_all err.old) result }
+    ensures asks { AsksOnce (request_of request.now) (S.asked source.old) (S.asked source.new) }
 {
     match request {
         Request::Task(files, Task::Live(options)) => {
@@ -97,10 +100,12 @@ pub fn command<S: Source, O: Output, E: Output>(
     ensures does { IfSome (request_asked (texts_of words.entry.now)) (λ request.
         Does (S.told source.old) request (O.takes_all out.old) (E.takes_all err.old)
         (seen O.Output E.Output out.old err.old) (seen O.Output E.Output out.new err.new) result) }
-    ensures answers { Answers mx_app (texts_of words.entry.now) (O.takes_all out.old)
+    ensures answers { HelpsOrRefuses mx_app (texts_of words.entry.now) (O.takes_all out.old)
         (seen O.Output E.Output out.old err.old) (seen O.Output E.Output out.new err.new) result }
     ensures other { AskNothing (texts_of words.entry.now) → Declines
         (seen O.Output E.Output out.old err.old) (seen O.Output E.Output out.new err.new) result }
+    ensures asks { IfSome (request_asked (texts_of words.entry.now)) (λ request.
+        AsksOnce request (S.asked source.old) (S.asked source.new)) }
 {
     match parse(alloc, words) {
         Ok(Some(request)) => carry_out(alloc, &request, source, out, err),
@@ -116,9 +121,10 @@ fn carry_out<S: Source, O: Output, E: Output>(
     out: &mut O,
     err: &mut E,
 ) -> u8
-    ensures { Does (S.told source.old) (request_of request.now)
+    ensures does { Does (S.told source.old) (request_of request.now)
         (O.takes_all out.old) (E.takes_all err.old)
         (seen O.Output E.Output out.old err.old) (seen O.Output E.Output out.new err.new) result }
+    ensures asks { AsksOnce (request_of request.now) (S.asked source.old) (S.asked source.new) }
 {
     match request {
         Request::Task(files, task) => do_task(alloc, files, task, source, out, err),
@@ -135,9 +141,11 @@ fn do_task<S: Source, O: Output, E: Output>(
     out: &mut O,
     err: &mut E,
 ) -> u8
-    ensures { DoesTask (S.told source.old) (files_of files.now) (task_of task.now)
+    ensures does { DoesTask (S.told source.old) (files_of files.now) (task_of task.now)
         (O.takes_all out.old) (E.takes_all err.old)
         (seen O.Output E.Output out.old err.old) (seen O.Output E.Output out.new err.new) result }
+    ensures asks { (S.asked source.new ≡ S.asked source.old)
+        ⊎ AsksTask (files_of files.now) (task_of task.now) (S.asked source.old) (S.asked source.new) }
 {
     match *task {
         Task::Check { has_asks, is_json } => {

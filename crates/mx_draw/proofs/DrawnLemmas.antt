@@ -25,7 +25,7 @@ use Rattle.mx_draw.specs.Walk.{StepperState, at_first}
 use Rattle.mx_draw.specs.Runs.{after_placed, after_run, next_of, or_stay, ran, schedule_of}
 use Rattle.mx_draw.specs.Drawn.{drawn_events, drawn_file, parcels_in}
 use Rattle.mx_draw.proofs.RunLemmas.{placed, played_run}
-use Rattle.mx_scripts.specs.Played.{events_of, AreReadable, IsNumbered}
+use Rattle.mx_scripts.specs.Played.{events_of, AreReadable, HasSmallNumber}
 use Rattle.mx_scripts.proofs.PlayedLemmas.{noted}
 use Rattle.mx_scripts.proofs.ReadLemmas.{read_back}
 
@@ -35,11 +35,11 @@ word_small : (g : Lcg) → word g < 2 ^ 32
 word_small g = or_lt 32 _ _ (omega (arith, div-le_self, mod-lt)) (mod-lt _ (omega arith))
 
 module _ (nodes registers : ℕ) where
-  either : (b : Bool) (x y : Event) → IsNumbered x → IsNumbered y → IsNumbered (if b then x else y)
+  either : (b : Bool) (x y : Event) → HasSmallNumber x → HasSmallNumber y → HasSmallNumber (if b then x else y)
   either true x y first second = first
   either false x y first second = second
 
-  event_is_numbered : (k : ℕ) (g : Lcg) → IsNumbered (event_by k nodes registers g)
+  event_is_numbered : (k : ℕ) (g : Lcg) → HasSmallNumber (event_by k nodes registers g)
   event_is_numbered k g =
       let value : word (drawing.after_words 2 g) < 2 ^ 64 = omega (arith, word_small (drawing.after_words 2 g)) in
       let number : word g < 2 ^ 64 = omega (arith, word_small g) in
@@ -60,20 +60,20 @@ module _ (nodes registers : ℕ) where
 
 module _ {H S M : Type 0} (core : Core H S M) where
   abbrev AreNumbered : List Event → Type 0
-  AreNumbered es = (e : Event) → IsIn e es → IsNumbered e
+  AreNumbered es = (e : Event) → IsIn e es → HasSmallNumber e
 
   module _ (g : ClusterState S M) where
-    stay_numbered : (e : Event) (w : Result (ClusterState S M) StepFault) → step_of core g e ≡ w → IsNumbered e → AreNumbered (events_of g.trace)
+    stay_numbered : (e : Event) (w : Result (ClusterState S M) StepFault) → step_of core g e ≡ w → HasSmallNumber e → AreNumbered (events_of g.trace)
         → AreNumbered (events_of (or_stay g w).trace)
     stay_numbered e (Err fault) is h before = before
     stay_numbered e (Ok new) is h before = λ x in_new.
         elim (in_append x (events_of g.trace) (e ∷ []) (subst (λ (es : List Event). IsIn x es) (noted core g new e is) in_new)) [
           | inl old ↦ before x old
-          | inr (inl same) ↦ subst (λ (y : Event). IsNumbered y) (sym same) h
+          | inr (inl same) ↦ subst (λ (y : Event). HasSmallNumber y) (sym same) h
           | inr (inr none) ↦ absurd none
         ]
 
-    placed_numbered : (o : Option Event) → IfSome o IsNumbered → AreNumbered (events_of g.trace) → AreNumbered (events_of (after_placed core g o).trace)
+    placed_numbered : (o : Option Event) → IfSome o HasSmallNumber → AreNumbered (events_of g.trace) → AreNumbered (events_of (after_placed core g o).trace)
     placed_numbered None h before = before
     placed_numbered (Some e) h before = stay_numbered e (step_of core g e) refl h before
 
@@ -114,7 +114,7 @@ module _ {H S M : Type 0} (core : Core H S M) where
         let each : (k : ℕ) → length g.sent - 1 - k < 2 ^ 64 = λ k. omega (arith, sent) in
         ran_numbered steps s.after next few
         (placed_numbered g s.event
-        (placed IsNumbered (length g.sent) each (drawn nodes registers w.words) (event_is_numbered nodes registers (word w.words % 16) (drawing.after_words 1 w.words)))
+        (placed HasSmallNumber (length g.sent) each (drawn nodes registers w.words) (event_is_numbered nodes registers (word w.words % 16) (drawing.after_words 1 w.words)))
         before)
 
 -- ---- by each algorithm

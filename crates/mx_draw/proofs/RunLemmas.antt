@@ -17,7 +17,7 @@ use Rattle.mx_explorer.specs.Place.{place_of}
 use Rattle.mx_explorer.proofs.DrawnEvents.{event_is_drawn}
 use Rattle.mx_driver.specs.Runs.{at_rest}
 use Rattle.mx_cli.specs.declared.request.Conditions.{Conditions}
-use Rattle.mx_scripts.specs.Played.{IsPlayed, Plays}
+use Rattle.mx_scripts.specs.Played.{IsPlayed, StaysPlayed}
 use Rattle.mx_scripts.proofs.PlayedLemmas.{played_at_rest, plays_step}
 use Rattle.mx_draw.specs.Walk.{StepperState, at_first, looked}
 use Rattle.mx_draw.specs.Runs.{after_placed, after_run, next_of, or_stay, ran}
@@ -49,16 +49,16 @@ module _ {H S M : Type 0} (core : Core H S M) (nodes registers : ℕ) where
   -- ---- where they lead
 
   plays_or_stay : (g : ClusterState S M) (e : Event) (s : Result (ClusterState S M) StepFault) → step_of core g e ≡ s → IsDrawn nodes registers e
-      → Plays core nodes registers g (or_stay g s)
+      → StaysPlayed core nodes registers g (or_stay g s)
   plays_or_stay g e (Err f) is over = λ start played. played
   plays_or_stay g e (Ok new) is over = plays_step core nodes registers g new e is over
 
-  plays_after : (g : ClusterState S M) (o : Option Event) → IfSome o (IsDrawn nodes registers) → Plays core nodes registers g (after_placed core g o)
+  plays_after : (g : ClusterState S M) (o : Option Event) → IfSome o (IsDrawn nodes registers) → StaysPlayed core nodes registers g (after_placed core g o)
   plays_after g None over = λ start played. played
   plays_after g (Some e) over = plays_or_stay g e (step_of core g e) refl over
 
   plays_ran : (conditions : Option Conditions) (steps : ℕ) (w : StepperState) (g : ClusterState S M) → 0 < nodes → 0 < registers
-      → Plays core nodes registers g (ran core conditions nodes registers steps w g)
+      → StaysPlayed core nodes registers g (ran core conditions nodes registers steps w g)
   unfolding ran
   plays_ran conditions zero w g n r = λ start played. played
   plays_ran conditions (suc steps) w g n r = λ start played.
@@ -68,8 +68,8 @@ module _ {H S M : Type 0} (core : Core H S M) (nodes registers : ℕ) where
 
   -- the same of a run that may have failed
   pub plays_if : {A E : Type 0} (conditions : Option Conditions) (steps : ℕ) (w : StepperState) (g new : ClusterState S M) (r : Result A E) → 0 < nodes → 0 < registers
-      → OnOk r (ran core conditions nodes registers steps w g ≡ new) → OnOk r (Plays core nodes registers g new)
-  plays_if conditions steps w g new (Ok done) some few is = subst (λ (x : ClusterState S M). Plays core nodes registers g x) is (plays_ran conditions steps w g some few)
+      → OnOk r (ran core conditions nodes registers steps w g ≡ new) → OnOk r (StaysPlayed core nodes registers g new)
+  plays_if conditions steps w g new (Ok done) some few is = subst (λ (x : ClusterState S M). StaysPlayed core nodes registers g x) is (plays_ran conditions steps w g some few)
   plays_if conditions steps w g new (Err fault) some few is = tt
 
   module _ (conditions : Option Conditions) where

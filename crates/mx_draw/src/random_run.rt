@@ -1,7 +1,7 @@
 //! A random run of a number of steps.
 
 ghost use Rattle.std.specs.Prelude.{◌≡◌, ◌<◌, ◌≤◌, length, OnOk};
-ghost use Rattle.mx_scripts.specs.Played.{Plays};
+ghost use Rattle.mx_scripts.specs.Played.{StaysPlayed};
 ghost use Rattle.mx_draw.specs.Walk.{at_first, state_of};
 ghost use Rattle.mx_draw.specs.Reads.{AddsNoVainRead};
 ghost use Rattle.mx_draw.specs.Runs.{after_placed, after_run, next_of, ran};
@@ -22,7 +22,7 @@ pub fn run<C: Exclusion>(
     drawn: &RandomRun,
 ) -> Result<(), AllocError>
     ensures ran { OnOk result (after_run C.core plan.now drawn.now cluster.old ≡ cluster.new) }
-    ensures plays { OnOk result (Plays C.core (length plan.now.nodes) (length plan.now.registers)
+    ensures plays { OnOk result (StaysPlayed C.core (length plan.now.nodes) (length plan.now.registers)
         cluster.old cluster.new) }
     // a walk adds no read that is refused for a gap to a trace without one
     ensures reads { OnOk result

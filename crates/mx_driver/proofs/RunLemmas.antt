@@ -24,7 +24,7 @@ use Rattle.mx_io.specs.declared.output.OutputFault.{OutputFault}
 use Rattle.mx_io.specs.declared.output.OutputFault.TheVariants as output_fault
 use Rattle.mx_cli.proofs.OutputLemmas.{appends_more, some_keeps}
 use Rattle.mx_driver.specs.Runs.{AllNameNodes, NamesNodes, StopsAt, Texts, after_texts, at_rest, report_from, stepped}
-use Rattle.mx_driver.specs.Sinks.{IsTold, Tells}
+use Rattle.mx_driver.specs.Sinks.{IsTold, SinkTells}
 use Rattle.mx_io.specs.Outputs.{refused_by}
 use Rattle.mx_cli.specs.Printing.{AppendsSome, Course, End, IsReport, Prints, Report, ShowsOne, Sight, comes_to, course_of, ends, has_fault, refused_on, stop_of, whole}
 
@@ -163,7 +163,7 @@ members_at_rest {H} {S} {M} core p shape n g e count =
 
 -- ---- what a sink was told
 
-module _ {K H S M : Type 0} (core : Core H S M) (tells : Tells K S M) (es : List Event) (k : ℕ) (g : ClusterState S M) (sink last : K) where
+module _ {K H S M : Type 0} (core : Core H S M) (tells : SinkTells K S M) (es : List Event) (k : ℕ) (g : ClusterState S M) (sink last : K) where
   -- an event, and then the rest
   pub told_more : (d : Event) → k < length es → IsTold core tells k g (get_or es k d ∷ drop (k + 1) es) sink last → IsTold core tells k g (drop k es) sink last
   told_more d lt told = subst (λ (l : List Event). IsTold core tells k g l sink last) (sym (drop_more es k d lt)) told

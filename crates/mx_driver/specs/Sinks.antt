@@ -44,18 +44,18 @@ replay_lines p = record {
 -- ---- what a sink is told
 
 -- what a sink becomes by an event, which leads from one cluster to the next, and at the end
-pub record Tells (K S M : Type 0) : Type 1 where
+pub record SinkTells (K S M : Type 0) : Type 1 where
   pub heard : K → ℕ → ClusterState S M → ClusterState S M → K → Type 0
   pub closed : K → ClusterState S M → K → Type 0
 
 -- nothing is said of what a sink becomes, or (below) that it stays the same
-abbrev pub anything : {K S M : Type 0} → Tells K S M
+abbrev pub anything : {K S M : Type 0} → SinkTells K S M
 anything = record { heard = λ _ _ _ _ _. Unit {0}; closed = λ _ _ _. Unit {0} }
 
-abbrev pub same : {K S M : Type 0} → Tells K S M
+abbrev pub same : {K S M : Type 0} → SinkTells K S M
 same = record { heard = λ sink _ _ _ told. told ≡ sink; closed = λ sink _ told. told ≡ sink }
 
-module _ {K H S M : Type 0} (core : Core H S M) (tells : Tells K S M) where
+module _ {K H S M : Type 0} (core : Core H S M) (tells : SinkTells K S M) where
   -- the sink is told of each of these events once, in order, the first with index k, and then of
   -- the end; so it becomes `last`
   abbrev pub IsTold : ℕ → ClusterState S M → List Event → K → K → Type 0
@@ -66,9 +66,9 @@ module _ {K H S M : Type 0} (core : Core H S M) (tells : Tells K S M) where
 
 -- the same, for each algorithm
 pub record TellsBy (K : Type 0) : Type 1 where
-  pub ricart : Tells K RicartNode RicartMsg
-  pub maekawa : Tells K MaekawaNode MaekawaMsg
-  pub raymond : Tells K RaymondNode RaymondMsg
+  pub ricart : SinkTells K RicartNode RicartMsg
+  pub maekawa : SinkTells K MaekawaNode MaekawaMsg
+  pub raymond : SinkTells K RaymondNode RaymondMsg
 
 -- the sink is told of a run of these events from the cluster of a plan, at rest, and of its end
 abbrev pub IsToldBy : {K : Type 0} → TellsBy K → Fields → Shape → List Event → K → K → Type 0

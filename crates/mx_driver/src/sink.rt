@@ -5,7 +5,7 @@ ghost use Rattle.mx_network.specs.Step.{ClusterState};
 ghost use Rattle.mx_trace.specs.declared.outcome.Entry.{Entry};
 ghost use Rattle.mx_plan.specs.Fields.{Fields};
 ghost use Rattle.mx_driver.specs.Runs.{Texts};
-ghost use Rattle.mx_driver.specs.Sinks.{Tells, anything};
+ghost use Rattle.mx_driver.specs.Sinks.{SinkTells, anything};
 
 use mx_network::{Cluster, Entry};
 use mx_nodelaws::Exclusion;
@@ -33,7 +33,7 @@ pub trait Sink<R: Running> {
     ghost texts: { Self → Fields → Texts R.Core R.Core.Msg };
 
     // what the sink becomes by the events of a run of a plan, and at the end
-    ghost tells: { Fields → Tells Self R.Core R.Core.Msg } = { λ _. anything };
+    ghost tells: { Fields → SinkTells Self R.Core R.Core.Msg } = { λ _. anything };
 
     /// Appends the text of the newest event of a run. The event has this index, and sent the
     /// parcels from the number `before` on.

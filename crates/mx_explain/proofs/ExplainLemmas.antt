@@ -11,7 +11,7 @@ use Rattle.mx_io.specs.declared.output.OutputFault.{OutputFault}
 use Rattle.mx_io.specs.declared.output.OutputFault.TheVariants as output_fault
 use Rattle.mx_cli.specs.Frames.{IsReportOf, end_for, report_for}
 use Rattle.mx_cli.specs.Printing.{Course, End, Prints, Report, ShowsOne, Sight, comes_to, course_of, has_fault, has_line, has_status, is_refused, is_short, null_output, refused_on, stop_of}
-use Rattle.mx_cli.specs.Reading.{IsPlanOf}
+use Rattle.mx_cli.specs.Reading.{IsPlanTold}
 use Rattle.mx_cli.specs.declared.stop.Stop.{Stop}
 use Rattle.mx_cli.specs.declared.stop.Stop.TheVariants as stop
 use Rattle.mx_cli.proofs.FrameLemmas.{prints_as}
@@ -33,7 +33,7 @@ same_report true p text r (inr h) = subst (λ (q : Report). q ≡ report_for tru
 
 module _ (b : Bool) (plan text : Option Telling) where
   -- they were read
-  pub text_runs : (p : Fields) (bytes : Text) (res : Result ℕ Stop) → IsPlanOf plan p → IfSome text (λ telling. telling ≡ Some bytes) → Prints (IsTextReport b p bytes) null_output null_output res
+  pub text_runs : (p : Fields) (bytes : Text) (res : Result ℕ Stop) → IsPlanTold plan p → IfSome text (λ telling. telling ≡ Some bytes) → Prints (IsTextReport b p bytes) null_output null_output res
       → Prints (IsReportOf (IsTextReport b) All b plan text) null_output null_output res
   text_runs p bytes res read fetched h =
       prints_as (IsTextReport b p bytes) (IsReportOf (IsTextReport b) All b plan text) (λ r is. inr (p, bytes, r, read, fetched, is, same_report b p bytes r is)) null_output null_output res h

@@ -4,7 +4,7 @@ use Rattle.std.proofs.lemmas.Bool.Decides.{nat_tests}
 use Rattle.mx_plan.specs.Text.{Text}
 use Rattle.mx_lines.specs.Escapes.{ArePrintable, IsPrintable, shown}
 use Rattle.mx_lines.proofs.EscapeLemmas.{ArePrintable-append, shown-printable}
-use Rattle.mx_explain.specs.Reports.{AreLines, AreShown, IsLine, IsReport, has_colon, last_line, line_after, line_text, lines_text, nothing_at_fault, report_text}
+use Rattle.mx_explain.specs.Reports.{AreLines, AreShown, IsReportLine, IsReportText, has_colon, last_line, line_after, line_text, lines_text, nothing_at_fault, report_text}
 
 -- ---- lines
 
@@ -19,9 +19,9 @@ has_colon-after (x ∷ a) b = ap (λ t. (x == 58) || t) (has_colon-after a b) �
 colon-printable : IsPrintable 58
 colon-printable = (omega arith, λ e. omega arith)
 
-is_line : (file said : Text) → IsLine (line_text file said)
+is_line : (file said : Text) → IsReportLine (line_text file said)
 is_line file said =
-    subst IsLine (sym (append_assoc (shown file) (58 ∷ []) (shown said))) (record {
+    subst IsReportLine (sym (append_assoc (shown file) (58 ∷ []) (shown said))) (record {
       printable = ArePrintable-append (shown file) (58 ∷ shown said) (shown-printable file) (colon-printable, shown-printable said);
       colon = has_colon-after (shown file) (shown said);
     })
@@ -36,11 +36,11 @@ lines_text-append (x ∷ xs) ys = ap (λ t. x ++ 10 ∷ t) (lines_text-append xs
 
 -- ---- reports
 
-pub report_empty : (text : Text) → text ≡ [] → IsReport text
+pub report_empty : (text : Text) → text ≡ [] → IsReportText text
 report_empty text e = record { lines = []; each = tt; are = e }
 
 -- a line more
-pub report_longer : (old new file said : Text) → IsReport old → new ≡ old ++ (line_text file said ++ 10 ∷ []) → IsReport new
+pub report_longer : (old new file said : Text) → IsReportText old → new ≡ old ++ (line_text file said ++ 10 ∷ []) → IsReportText new
 report_longer old new file said r e = record {
   lines = r.lines ++ line_text file said ∷ [];
   each = AreLines-append r.lines (line_text file said ∷ []) r.each (is_line file said, tt);
@@ -102,13 +102,13 @@ ends_line ls p e =
     let last : line_after [] [] (lines_text ls) ≡ last_text [] ls = ap (λ x. line_after [] [] x) (sym (append-nil (lines_text ls))) ∙ line_after-lines [] ls [] p in
     last_text-not ls p (sym last ∙ e)
 
-pub report_well : (w : Bool) (text new : Text) → w ≡ true → IsReport text → new ≡ report_text text → (last_line new ≡ nothing_at_fault) ↔ (w ≡ true)
+pub report_well : (w : Bool) (text new : Text) → w ≡ true → IsReportText text → new ≡ report_text text → (last_line new ≡ nothing_at_fault) ↔ (w ≡ true)
 report_well true text new n r e =
     let ends = ap last_line (e ∙ ap (λ t. t ++ (nothing_at_fault ++ 10 ∷ [])) r.are) ∙ ends_nothing r.lines r.each in
     (λ q. refl, λ q. ends)
 report_well false text new n r e = absurd (let bad : false ≡ true = n in cc)
 
-pub report_at_fault : (w : Bool) (text : Text) → w ≡ false → IsReport text → (last_line text ≡ nothing_at_fault) ↔ (w ≡ true)
+pub report_at_fault : (w : Bool) (text : Text) → w ≡ false → IsReportText text → (last_line text ≡ nothing_at_fault) ↔ (w ≡ true)
 report_at_fault true text n r = absurd (let bad : true ≡ false = n in cc)
 report_at_fault false text n r =
     (λ q. absurd (ends_line r.lines r.each (sym (ap last_line r.are) ∙ q)), λ q. absurd (let bad : false ≡ true = q in cc))
@@ -153,10 +153,10 @@ nothing-printable : ArePrintable nothing_at_fault
 unfolding tests test
 nothing-printable = from_tests nothing_at_fault refl
 
-pub shown_well : (text new : Text) → IsReport text → new ≡ report_text text → AreShown new
+pub shown_well : (text new : Text) → IsReportText text → new ≡ report_text text → AreShown new
 shown_well text new r e =
     subst AreShown (sym (e ∙ ap (λ t. t ++ (nothing_at_fault ++ 10 ∷ [])) r.are))
     (AreShown-lines r.lines (nothing_at_fault ++ 10 ∷ []) r.each (AreShown-line nothing_at_fault (10 ∷ []) nothing-printable (inl refl, tt)))
 
-pub shown_at_fault : (text : Text) → IsReport text → AreShown text
+pub shown_at_fault : (text : Text) → IsReportText text → AreShown text
 shown_at_fault text r = subst AreShown (sym (r.are ∙ sym (append-nil (lines_text r.lines)))) (AreShown-lines r.lines [] r.each tt)

@@ -10,7 +10,7 @@ use Rattle.mx_cli.specs.Requests.{text_of}
 use Rattle.mx_driver.specs.Commands.{IsCheck, IsReplay}
 use Rattle.mx_scripts.specs.Printed.{IsScript}
 use Rattle.mx_explain.specs.Reports.{AreShown, last_line, nothing_at_fault}
-use Rattle.mx_explain.specs.declared.explanation.Asked.{Asked}
+use Rattle.mx_explain.specs.declared.explanation.ExplainedFiles.{ExplainedFiles}
 
 -- ---- what is explained
 
@@ -32,7 +32,7 @@ IsExplained told plan None is_script = IsReportFor (IsCheck false false) told (a
 IsExplained told plan (Some second) is_script =
     IsReportFor (IsTextReport is_script) told (both (plan, second) is_script)
 
-abbrev pub IsAsked : (Text → Option Telling) → Asked → Report → Type 0
+abbrev pub IsAsked : (Text → Option Telling) → ExplainedFiles → Report → Type 0
 IsAsked told asked = IsExplained told asked.plan.now (text_of asked.second) asked.is_script
 
 -- the names for the lines of faults
@@ -67,7 +67,7 @@ IsToldOf is_short r = ⊥
 
 -- an explanation of one of these reports
 abbrev pub IsExplanation : (Report → Type 0) → Report → Type 0
-IsExplanation IsReport told = (r : Report) × IsReport r × IsToldOf (comes_to r.end) told
+IsExplanation IsReportText told = (r : Report) × IsReportText r × IsToldOf (comes_to r.end) told
 
 -- the promise of `explain`: an explanation was printed, with the status and the line of the check,
 -- the replay or the script; or memory ran out or an output refused

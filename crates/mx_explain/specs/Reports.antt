@@ -11,13 +11,13 @@ has_colon [] = false
 has_colon (b ∷ bs) = (b == 58) || has_colon bs
 
 -- the text of a line is printable, and has a colon
-pub record IsLine (text : Text) : Type 0 where
+pub record IsReportLine (text : Text) : Type 0 where
   pub printable : ArePrintable text
   pub colon : has_colon text ≡ true
 
 abbrev pub AreLines : List Text → Type 0
 AreLines [] = Unit {0}
-AreLines (l ∷ ls) = IsLine l × AreLines ls
+AreLines (l ∷ ls) = IsReportLine l × AreLines ls
 
 -- each line, and a line feed after it
 abbrev pub lines_text : List Text → Text
@@ -31,7 +31,7 @@ line_text file message = shown file ++ codes ":" ++ shown message
 -- ---- reports
 
 -- the text of a report is lines
-pub record IsReport (text : Text) : Type 0 where
+pub record IsReportText (text : Text) : Type 0 where
   pub lines : List Text
   pub each : AreLines lines
   pub are : text ≡ lines_text lines

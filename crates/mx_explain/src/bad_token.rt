@@ -1,18 +1,19 @@
 //! Where a text stops being JSON.
 
-use crate::location::Part;
-use crate::report::Report;
+use crate::location::FilePart;
+use crate::report::FaultReport;
 use arrayvec::ArrayVec;
 use json::{Scratch, Value, is_valid};
 use std::alloc::{AllocError, Global};
 
-const MAX_DEPTH: usize = 127;
+/// How many brackets may be open at a time: `serde_json` reads no text that nests deeper.
+const MAX_OPEN: usize = 127;
 
 const STRING: &str =
     "a text in one line without control characters, each \\ of which begins an escape of a whole character";
 
 #[derive(Clone, Copy)]
-enum Cause {
+enum BadToken {
     Expected(&'static str),
     Is(&'static str),
     /// The text ends before what opens at this byte is closed.
@@ -20,7 +21,10 @@ enum Cause {
 }
 
 /// Reports the first token by which a text is not JSON. Returns whether there is one.
-pub(crate) fn report_bad_token(report: &mut Report, part: &Part<'_>) -> Result<bool, AllocError> {
+pub(crate) fn report_bad_token(
+    report: &mut FaultReport,
+    part: &FilePart<'_>,
+) -> Result<bool, AllocError> {
     let alloc = report.alloc();
     let end = match str::from_utf8(part.text) {
         Ok(text) => text.len(),
@@ -30,19 +34,19 @@ pub(crate) fn report_bad_token(report: &mut Report, part: &Part<'_>) -> Result<b
     let (offset, cause) = match first_bad_token(alloc, text)? {
         Some((offset, cause)) if end == part.text.len() || offset < end => (offset, cause),
         None if end == part.text.len() => return Ok(false),
-        _ => (text.len(), Cause::Is("found bytes that are not UTF-8")),
+        _ => (text.len(), BadToken::Is("found bytes that are not UTF-8")),
     };
     let mut message = String::from_str(alloc, " not JSON: ")?;
     match cause {
-        Cause::Expected(expected) => {
+        BadToken::Expected(expected) => {
             write!(message, "expected {expected}, found: ")?;
             let line = rest_of(text, offset).lines().next().unwrap_or("");
             for character in line.chars().take(24) {
                 message.push(character)?;
             }
         }
-        Cause::Is(words) => message.push_str(words)?,
-        Cause::Cut(opened) => {
+        BadToken::Is(words) => message.push_str(words)?,
+        BadToken::Cut(opened) => {
             let opened = part.location(opened);
             write!(
                 message,
@@ -72,15 +76,15 @@ enum Next {
 #[derive(Drop)]
 struct Scanner {
     next: Next,
-    /// The brackets that are open and their bytes, the outermost first.
-    open: ArrayVec<(u8, usize), MAX_DEPTH>,
+    /// Each open bracket with the offset at which it stands, the outermost first.
+    open: ArrayVec<(u8, usize), MAX_OPEN>,
 }
 
 /// Returns the first token that does not fit and its byte. Each has a byte or more, which bounds
 /// the loop.
-fn first_bad_token(alloc: Global, text: &str) -> Result<Option<(usize, Cause)>, AllocError> {
+fn first_bad_token(alloc: Global, text: &str) -> Result<Option<(usize, BadToken)>, AllocError> {
     if text.starts_with("\u{feff}") {
-        return Ok(Some((0, Cause::Is("found a byte order mark"))));
+        return Ok(Some((0, BadToken::Is("found a byte order mark"))));
     }
     let mut scratch = Scratch::new(alloc);
     let mut scanner = Scanner {
@@ -96,7 +100,7 @@ fn first_bad_token(alloc: Global, text: &str) -> Result<Option<(usize, Cause)>, 
         match scanner.take(token, is_value, offset) {
             Ok(_) if token.is_empty() => return Ok(None),
             Ok(next) => scanner.next = next,
-            Err(Cause::Cut(opened)) => return Ok(Some((text.len(), Cause::Cut(opened)))),
+            Err(BadToken::Cut(opened)) => return Ok(Some((text.len(), BadToken::Cut(opened)))),
             Err(cause) => return Ok(Some((offset, cause))),
         }
         offset = offset.saturating_add(token.len());
@@ -139,7 +143,7 @@ fn ends_word(character: char) -> bool {
 impl Scanner {
     /// Takes the token at the byte `offset`, an empty one at the end of the text. Returns what may
     /// come next.
-    fn take(&mut self, token: &str, is_value: bool, offset: usize) -> Result<Next, Cause> {
+    fn take(&mut self, token: &str, is_value: bool, offset: usize) -> Result<Next, BadToken> {
         match (token, self.next) {
             ("", _) => self.end(),
             ("{", Next::Value | Next::ValueOrSquare) => self.open(b'{', offset, Next::KeyOrCurly),
@@ -164,22 +168,22 @@ impl Scanner {
         }
     }
 
-    fn end(&self) -> Result<Next, Cause> {
+    fn end(&self) -> Result<Next, BadToken> {
         match (self.open.as_slice().last(), self.next) {
-            (Some((_, opened)), _) => Err(Cause::Cut(*opened)),
+            (Some((_, opened)), _) => Err(BadToken::Cut(*opened)),
             (None, Next::AfterValue) => Ok(Next::AfterValue),
-            _ => Err(Cause::Is("the text ends here, expected a value")),
+            _ => Err(BadToken::Is("the text ends here, expected a value")),
         }
     }
 
-    fn open(&mut self, bracket: u8, offset: usize, next: Next) -> Result<Next, Cause> {
+    fn open(&mut self, bracket: u8, offset: usize, next: Next) -> Result<Next, BadToken> {
         match self.open.try_push((bracket, offset)) {
             Ok(()) => Ok(next),
-            Err(_) => Err(Cause::Is("brackets nest deeper than 127 here")),
+            Err(_) => Err(BadToken::Is("brackets nest deeper than 127 here")),
         }
     }
 
-    fn close(&mut self, bracket: u8) -> Result<Next, Cause> {
+    fn close(&mut self, bracket: u8) -> Result<Next, BadToken> {
         if self.innermost() != Some(bracket) {
             return Err(self.misfit());
         }
@@ -192,8 +196,8 @@ impl Scanner {
         Some(*bracket)
     }
 
-    fn misfit(&self) -> Cause {
-        Cause::Expected(match (self.next, self.innermost()) {
+    fn misfit(&self) -> BadToken {
+        BadToken::Expected(match (self.next, self.innermost()) {
             (Next::Value, _) => "a value",
             (Next::ValueOrSquare, _) => "a value or ]",
             (Next::Key, _) => "a key in double quotes",
@@ -207,20 +211,20 @@ impl Scanner {
 }
 
 /// Returns why a string at the byte `offset` is no value: it is not closed, or malformed.
-fn bad_string(token: &str, offset: usize) -> Cause {
+fn bad_string(token: &str, offset: usize) -> BadToken {
     let bytes = token.as_bytes();
     if string_end(bytes).is_some() || bytes.iter().any(|byte| *byte < 32) {
-        Cause::Expected(STRING)
+        BadToken::Expected(STRING)
     } else {
-        Cause::Cut(offset)
+        BadToken::Cut(offset)
     }
 }
 
 /// Returns what may come after a string or a word, unless it is a number too large for an `f64`.
-fn after_value(token: &str) -> Result<Next, Cause> {
+fn after_value(token: &str) -> Result<Next, BadToken> {
     let number: Value<'_, Global> = Value::Number(token);
     match number.as_f64() {
-        Some(value) if value.is_infinite() => Err(Cause::Is("found a number that is too large")),
+        Some(value) if value.is_infinite() => Err(BadToken::Is("found a number that is too large")),
         _ => Ok(Next::AfterValue),
     }
 }

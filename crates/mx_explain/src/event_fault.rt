@@ -1,16 +1,16 @@
 //! What is wrong in a list of events.
 
-use crate::json_report::{JsonReport, Wrong, read_value};
-use crate::location::Part;
+use crate::json_report::{JsonReport, WrongSpot, read_value};
+use crate::location::FilePart;
 use crate::notes::Notes;
 use crate::plan_fault::{NODE, NUMBER, wrong_word};
-use crate::report::{Report, ReportResult};
+use crate::report::{FaultReport, ReportResult};
 use crate::script_lines::script_begin;
 use crate::spot::Spot;
 use json::{Error, Scratch, Value};
 use mx_cli::{Fault, split_line};
 use mx_events::{ArgumentKind, EventKind};
-use mx_lines::{FirstWords, Listed, Meant, Names, meant_by};
+use mx_lines::{FirstWords, KnownNames, Listed, Meant, meant_by};
 use mx_plan::{Place, Plan, PlanFault};
 use std::alloc::{AllocError, Global};
 
@@ -21,8 +21,8 @@ const SCRIPT: &str =
 
 /// Reports the refused events of a list, and its fault, if it has one.
 pub(crate) fn explain_events(
-    report: &mut Report,
-    part: Part<'_>,
+    report: &mut FaultReport,
+    part: FilePart<'_>,
     plan: &Plan,
     notes: &Notes,
 ) -> ReportResult {
@@ -47,12 +47,12 @@ pub(crate) fn explain_events(
             add_unsent(&mut report, events.item(k as usize).item(1), notes.sent)
         }
         Fault::BadText(PlanFault::NotPlan(Place::Event(1_000_000))) => {
-            report.add_wrong(&Wrong::of(events, "at most 1000000 events"))
+            report.add_wrong(&WrongSpot::of(events, "at most 1000000 events"))
         }
         Fault::BadText(
             PlanFault::NotPlan(Place::Event(k)) | PlanFault::UnknownName(Place::Event(k)),
         ) => add_event(&mut report, events.item(k as usize), plan),
-        _ => report.add_wrong(&Wrong::of(events, EVENTS)),
+        _ => report.add_wrong(&WrongSpot::of(events, EVENTS)),
     }
 }
 
@@ -83,7 +83,7 @@ fn has_outcome(value: &Value<'_>) -> bool {
     }
 }
 
-fn add_trace(report: &mut Report, part: &Part<'_>) -> ReportResult {
+fn add_trace(report: &mut FaultReport, part: &FilePart<'_>) -> ReportResult {
     let alloc = report.alloc();
     let text = format!(in alloc;
         " events: a trace stands here, which `mx judge` reads, expected {EVENTS}"
@@ -98,7 +98,7 @@ fn add_unsent(report: &mut JsonReport<'_>, parcel: Spot<'_, '_>, sent: u64) -> R
         Some(last) => write!(expected, "there are {sent}, from 0 to {last}")?,
         None => expected.push_str("there is none yet")?,
     }
-    report.add_wrong(&Wrong::of(parcel, expected.as_str()))
+    report.add_wrong(&WrongSpot::of(parcel, expected.as_str()))
 }
 
 /// Adds the first value that is wrong in an event, in the order of the text.
@@ -106,7 +106,7 @@ fn add_event(report: &mut JsonReport<'_>, event: Spot<'_, '_>, plan: &Plan) -> R
     let alloc = report.alloc();
     let Some(count) = event.len().checked_sub(1) else {
         let expected = "an array of a word and its arguments, as [\"ask\",NODE]";
-        return report.add_wrong(&Wrong::of(event, expected));
+        return report.add_wrong(&WrongSpot::of(event, expected));
     };
     let Some(kind) = EventKind::of_word(event.item(0).text()) else {
         return add_word(report, event.item(0));
@@ -134,12 +134,12 @@ fn wrong_argument<'w, 'a>(
     kind: ArgumentKind,
     nodes: &'w [&'w str],
     registers: &'w [&'w str],
-) -> Option<Wrong<'w, 'a>> {
+) -> Option<WrongSpot<'w, 'a>> {
     match kind {
         ArgumentKind::Node => wrong_word(spot, NODE, nodes),
         ArgumentKind::Register => wrong_word(spot, "a register of the plan", registers),
         _ if spot.value.and_then(Value::as_u64).is_some() => None,
-        _ => Some(Wrong::of(spot, NUMBER)),
+        _ => Some(WrongSpot::of(spot, NUMBER)),
     }
 }
 
@@ -149,7 +149,7 @@ fn add_word(report: &mut JsonReport<'_>, spot: Spot<'_, '_>) -> ReportResult {
     let mut expected = format!(in alloc; "{}", Listed(known.as_slice()))?;
     expected.write(Meant(meant_by(spot.text(), known.as_slice())))?;
     let (expected, known) = (expected.as_str(), known.as_slice());
-    report.add_wrong(&Wrong {
+    report.add_wrong(&WrongSpot {
         spot,
         expected,
         known,

@@ -7,9 +7,9 @@ ghost use Rattle.mx_cli.specs.Words.{names_of};
 ghost use Rattle.mx_driver.specs.Commands.{IsCheck, IsReplay};
 ghost use Rattle.mx_explain.specs.Explained.{IsAsked, IsReportFor, IsTextReport};
 
-use crate::explanation::Asked;
+use crate::explanation::ExplainedFiles;
 use crate::notes::Notes;
-use mx_cli::{Files, Named, Names, Stop, fetch_both, run_files, stop_for};
+use mx_cli::{FileNames, Files, Named, Stop, fetch_both, run_files, stop_for};
 use mx_driver::{Check, NullOutput, observe};
 use mx_io::Source;
 use mx_plan::{Needs, Plan, read_events};
@@ -20,7 +20,7 @@ use std::alloc::Global;
 /// that takes all texts.
 pub(crate) fn run<S: Source>(
     alloc: Global,
-    asked: &Asked<'_>,
+    asked: &ExplainedFiles<'_>,
     source: &mut S,
     notes: &mut Notes,
 ) -> Result<u8, Stop>
@@ -28,7 +28,7 @@ pub(crate) fn run<S: Source>(
 {
     match asked.second {
         Some(second) => {
-            let names = Names {
+            let names = FileNames {
                 plan: asked.plan,
                 events: second,
             };
@@ -51,7 +51,7 @@ fn check<S: Source>(alloc: Global, plan: &str, source: &mut S) -> Result<u8, Sto
 
 fn run_both<S: Source>(
     alloc: Global,
-    names: &Names<'_>,
+    names: &FileNames<'_>,
     is_script: bool,
     source: &mut S,
     notes: &mut Notes,

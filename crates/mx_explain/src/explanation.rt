@@ -11,24 +11,24 @@ use crate::cached_source::CachedSource;
 use crate::explained_run::run;
 use crate::files::print_files;
 use crate::notes::Notes;
-use mx_cli::{Names, Stop, close};
+use mx_cli::{FileNames, Stop, close};
 use mx_io::{Output, Source};
 use std::alloc::Global;
 
 /// What is explained: the plan of this name; or its events or its script, if `second` names them.
 #[derive(Clone, Copy)]
-pub(crate) struct Asked<'a> {
+pub(crate) struct ExplainedFiles<'a> {
     pub(crate) plan: &'a str,
     pub(crate) second: Option<&'a str>,
     pub(crate) is_script: bool,
 }
 
-impl<'a> Asked<'a> {
+impl<'a> ExplainedFiles<'a> {
     /// Returns the names for the lines of faults. The plan's name stands in for a missing one.
-    pub(crate) fn names(&self) -> Names<'a>
+    pub(crate) fn names(&self) -> FileNames<'a>
         ensures { names_of result ≡ names_in self.now.plan.now (text_of self.now.second) }
     {
-        Names {
+        FileNames {
             plan: self.plan,
             events: self.second.unwrap_or(self.plan),
         }
@@ -51,7 +51,7 @@ pub fn explain<S: Source, O: Output, E: Output>(
         (O.takes_all out.old) (E.takes_all err.old)
         (seen O.Output E.Output out.old err.old) (seen O.Output E.Output out.new err.new) result }
 {
-    let asked = Asked {
+    let asked = ExplainedFiles {
         plan,
         second,
         is_script,
@@ -64,7 +64,7 @@ pub fn explain<S: Source, O: Output, E: Output>(
 /// files. Returns how it ended, or why printing failed.
 fn run_and_explain<S: Source, O: Output>(
     alloc: Global,
-    asked: &Asked<'_>,
+    asked: &ExplainedFiles<'_>,
     source: &mut S,
     out: &mut O,
 ) -> Result<u8, Stop>

@@ -6,11 +6,11 @@ ghost use Rattle.mx_explain.specs.Explained.{IsToldOf, is_told};
 ghost use Rattle.mx_explain.specs.Reports.{AreShown, last_line, nothing_at_fault};
 
 use crate::event_fault::explain_events;
-use crate::explanation::Asked;
-use crate::location::Part;
+use crate::explanation::ExplainedFiles;
+use crate::location::FilePart;
 use crate::notes::Notes;
 use crate::plan_fault::explain_plan;
-use crate::report::{Report, ReportResult};
+use crate::report::{FaultReport, ReportResult};
 use crate::script_lines::explain_lines;
 use mx_cli::{Stop, are_dashes, split_line};
 use mx_io::{Output, Refusal, Source};
@@ -21,7 +21,7 @@ use std::alloc::{AllocError, Global};
 /// well, these are warnings alone, and that nothing is at fault. Prints nothing if memory runs out.
 pub(crate) fn print_files<S: Source, O: Output>(
     alloc: Global,
-    asked: &Asked<'_>,
+    asked: &ExplainedFiles<'_>,
     notes: &Notes,
     ended: Result<u8, Stop>,
     source: &mut S,
@@ -31,6 +31,7 @@ pub(crate) fn print_files<S: Source, O: Output>(
         (sight O.Output out.old) (sight O.Output out.new) result }
 {
     if !is_told(&ended) {
+        // the run printed nothing, so no output refused: memory ran out
         return Err(Stop::Memory);
     }
     let text = explanation(alloc, asked, notes, ended.is_ok(), source)?;
@@ -50,7 +51,7 @@ fn is_told(ended: &Result<u8, Stop>) -> bool
 
 fn explanation<S: Source>(
     alloc: Global,
-    asked: &Asked<'_>,
+    asked: &ExplainedFiles<'_>,
     notes: &Notes,
     is_well: bool,
     source: &mut S,
@@ -59,7 +60,7 @@ fn explanation<S: Source>(
     ensures last { IfOk result (λ text. (last_line (string_bytes text) ≡ nothing_at_fault)
         ↔ (is_well ≡ true)) }
 {
-    let mut report = Report::new(alloc);
+    let mut report = FaultReport::new(alloc);
     explain_files(&mut report, asked, notes, source)?;
     report.into_text(is_well)
 }
@@ -67,8 +68,8 @@ fn explanation<S: Source>(
 /// Explains a plan, and what comes with it, if that is named: another file, or what stands below
 /// the first line of standard input, which then is the plan.
 fn explain_files<S: Source>(
-    report: &mut Report,
-    asked: &Asked<'_>,
+    report: &mut FaultReport,
+    asked: &ExplainedFiles<'_>,
     notes: &Notes,
     source: &mut S,
 ) -> ReportResult {
@@ -79,9 +80,9 @@ fn explain_files<S: Source>(
     let is_one = are_dashes(&names) && asked.second.is_some();
     let (line, rest) = split_line(text.as_slice());
     let plan = if is_one { line } else { text.as_slice() };
-    match explain_plan(report, Part::of(names.plan, plan, 0))? {
+    match explain_plan(report, FilePart::of(names.plan, plan, 0))? {
         Some(plan) if is_one => {
-            let part = Part::of(names.events, rest, 1);
+            let part = FilePart::of(names.events, rest, 1);
             explain_second(report, asked, notes, &plan, part)
         }
         Some(plan) if asked.second.is_some() => explain_file(report, asked, notes, &plan, source),
@@ -90,8 +91,8 @@ fn explain_files<S: Source>(
 }
 
 fn explain_file<S: Source>(
-    report: &mut Report,
-    asked: &Asked<'_>,
+    report: &mut FaultReport,
+    asked: &ExplainedFiles<'_>,
     notes: &Notes,
     plan: &Plan,
     source: &mut S,
@@ -99,7 +100,7 @@ fn explain_file<S: Source>(
     let name = asked.names().events;
     match fetched(report, name, source)? {
         Some(text) => {
-            let part = Part::of(name, text.as_slice(), 0);
+            let part = FilePart::of(name, text.as_slice(), 0);
             explain_second(report, asked, notes, plan, part)
         }
         None => Ok(()),
@@ -107,11 +108,11 @@ fn explain_file<S: Source>(
 }
 
 fn explain_second(
-    report: &mut Report,
-    asked: &Asked<'_>,
+    report: &mut FaultReport,
+    asked: &ExplainedFiles<'_>,
     notes: &Notes,
     plan: &Plan,
-    part: Part<'_>,
+    part: FilePart<'_>,
 ) -> ReportResult {
     if !asked.is_script {
         return explain_events(report, part, plan, notes);
@@ -121,7 +122,7 @@ fn explain_second(
 }
 
 fn fetched<S: Source>(
-    report: &mut Report,
+    report: &mut FaultReport,
     name: &str,
     source: &mut S,
 ) -> Result<Option<Vec<u8>>, AllocError> {

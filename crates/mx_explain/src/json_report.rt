@@ -1,8 +1,8 @@
 //! The report on a text of JSON.
 
 use crate::bad_token::report_bad_token;
-use crate::location::Part;
-use crate::report::{Report, ReportResult};
+use crate::location::FilePart;
+use crate::report::{FaultReport, ReportResult};
 use crate::spot::Spot;
 use json::{Error, Scratch, Value};
 use mx_lines::{Nearest, Quoted, nearest};
@@ -12,8 +12,8 @@ use std::fmt::Display;
 
 /// Reads a text of JSON. If it is none, reports where it stops being JSON.
 pub(crate) fn read_value<'a>(
-    report: &mut Report,
-    part: &Part<'a>,
+    report: &mut FaultReport,
+    part: &FilePart<'a>,
     scratch: &'a mut Scratch,
 ) -> Result<Option<Value<'a>>, AllocError> {
     if report_bad_token(report, part)? {
@@ -29,22 +29,22 @@ pub(crate) fn read_value<'a>(
 /// The report on a text of JSON, by places in it.
 #[derive(Drop)]
 pub(crate) struct JsonReport<'r> {
-    pub(crate) report: &'r mut Report,
-    pub(crate) part: Part<'r>,
+    pub(crate) report: &'r mut FaultReport,
+    pub(crate) part: FilePart<'r>,
 }
 
 /// A place where something else is expected: one of the known words, if there are any.
 #[derive(Clone, Copy)]
-pub(crate) struct Wrong<'w, 'a> {
+pub(crate) struct WrongSpot<'w, 'a> {
     pub(crate) spot: Spot<'w, 'a>,
     pub(crate) expected: &'w str,
     pub(crate) known: &'w [&'w str],
 }
 
-impl<'w, 'a> Wrong<'w, 'a> {
+impl<'w, 'a> WrongSpot<'w, 'a> {
     pub(crate) fn of(spot: Spot<'w, 'a>, expected: &'w str) -> Self {
         let known: &[&str] = &[];
-        Wrong {
+        WrongSpot {
             spot,
             expected,
             known,
@@ -57,7 +57,7 @@ impl JsonReport<'_> {
         self.report.alloc()
     }
 
-    pub(crate) fn add_wrong(&mut self, wrong: &Wrong<'_, '_>) -> ReportResult {
+    pub(crate) fn add_wrong(&mut self, wrong: &WrongSpot<'_, '_>) -> ReportResult {
         let alloc = self.alloc();
         let (spot, expected) = (wrong.spot, wrong.expected);
         let nearest = Nearest(nearest(alloc, spot.text(), wrong.known)?);

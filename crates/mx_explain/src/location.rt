@@ -5,15 +5,15 @@ use std::fmt::Display;
 
 /// A text of a file. In the file, `above` lines come before the text.
 #[derive(Clone, Copy)]
-pub(crate) struct Part<'a> {
+pub(crate) struct FilePart<'a> {
     pub(crate) file: &'a str,
     pub(crate) text: &'a [u8],
     pub(crate) above: usize,
 }
 
-impl<'a> Part<'a> {
-    pub(crate) fn of(file: &'a str, text: &'a [u8], above: usize) -> Part<'a> {
-        Part { file, text, above }
+impl<'a> FilePart<'a> {
+    pub(crate) fn of(file: &'a str, text: &'a [u8], above: usize) -> FilePart<'a> {
+        FilePart { file, text, above }
     }
 
     pub(crate) fn location(&self, offset: usize) -> Location {

@@ -2,8 +2,8 @@
 
 ghost use Rattle.mx_driver.specs.Runs.{silent};
 
-use crate::location::Part;
-use crate::report::{MAX_LINES, Report, ReportResult};
+use crate::location::FilePart;
+use crate::report::{FaultReport, MAX_LINES, ReportResult};
 use crate::spot::offset_of;
 use mx_cli::Fault;
 use mx_driver::{Sink, stuck_in, stuck_nodes};
@@ -191,7 +191,11 @@ impl Notes {
         Ok(())
     }
 
-    pub(crate) fn add_warnings(&self, report: &mut Report, part: &Part<'_>) -> ReportResult {
+    pub(crate) fn add_warnings(
+        &self,
+        report: &mut FaultReport,
+        part: &FilePart<'_>,
+    ) -> ReportResult {
         for (k, text) in &self.refused {
             self.add_at_event(report, part, *k, text.as_str())?;
         }
@@ -204,8 +208,8 @@ impl Notes {
 
     fn add_at_event(
         &self,
-        report: &mut Report,
-        part: &Part<'_>,
+        report: &mut FaultReport,
+        part: &FilePart<'_>,
         k: u64,
         text: &str,
     ) -> ReportResult {
@@ -213,7 +217,11 @@ impl Notes {
         report.add_at(part, offset, text)
     }
 
-    pub(crate) fn explain_script(&self, report: &mut Report, part: &Part<'_>) -> ReportResult {
+    pub(crate) fn explain_script(
+        &self,
+        report: &mut FaultReport,
+        part: &FilePart<'_>,
+    ) -> ReportResult {
         for (number, text) in &self.refused {
             report.add_at(part, part.offset_of_line(*number), text.as_str())?;
         }

@@ -1,8 +1,8 @@
 //! What is wrong in a plan.
 
-use crate::json_report::{JsonReport, Wrong, read_value};
-use crate::location::Part;
-use crate::report::{MAX_LINES, Report, ReportResult};
+use crate::json_report::{JsonReport, WrongSpot, read_value};
+use crate::location::FilePart;
+use crate::report::{FaultReport, MAX_LINES, ReportResult};
 use crate::shape_fault::{add_cycle, add_shape};
 use crate::spot::{Spot, index_in, offset_of};
 use json::{Scratch, Value};
@@ -29,8 +29,8 @@ pub(crate) const NUMBER: &str = "a whole number of 64 bits without a sign";
 /// Reads a plan, and reports its first fault, and keys that no plan uses. Returns the plan if it
 /// has no fault.
 pub(crate) fn explain_plan(
-    report: &mut Report,
-    part: Part<'_>,
+    report: &mut FaultReport,
+    part: FilePart<'_>,
 ) -> Result<Option<Plan>, AllocError> {
     match read_plan(report.alloc(), part.text) {
         Ok(plan) => {
@@ -48,8 +48,8 @@ pub(crate) fn explain_plan(
 /// Reports the fault of a plan's text, if it has one, and keys that no plan uses. Returns whether
 /// the text is JSON.
 fn explain_text(
-    report: &mut Report,
-    part: Part<'_>,
+    report: &mut FaultReport,
+    part: FilePart<'_>,
     fault: Option<PlanFault>,
 ) -> Result<bool, AllocError> {
     let mut scratch = Scratch::new(report.alloc());
@@ -90,13 +90,13 @@ fn add_names(report: &mut JsonReport<'_>, list: Spot<'_, '_>, most: usize) -> Re
     let alloc = report.alloc();
     if list.len() == 0 || list.len() > most {
         let expected = format!(in alloc; "an array of 1 to {most} names")?;
-        return report.add_wrong(&Wrong::of(list, expected.as_str()));
+        return report.add_wrong(&WrongSpot::of(list, expected.as_str()));
     }
     for i in 0..list.len() {
         let name = list.item(i);
         if !is_name(name.text()) {
             let expected = "a name: 1 to 16 of letters, digits, _ and -";
-            return report.add_wrong(&Wrong::of(name, expected));
+            return report.add_wrong(&WrongSpot::of(name, expected));
         }
         if (0..i).any(|k| list.item(k).text() == name.text()) {
             let text = format!(in alloc; "duplicate name {}", Quoted(name.text()))?;
@@ -106,25 +106,25 @@ fn add_names(report: &mut JsonReport<'_>, list: Spot<'_, '_>, most: usize) -> Re
     Ok(())
 }
 
-fn wrong_at<'w, 'a>(plan: Spot<'w, 'a>, place: Place, nodes: &'w [&'w str]) -> Wrong<'w, 'a> {
+fn wrong_at<'w, 'a>(plan: Spot<'w, 'a>, place: Place, nodes: &'w [&'w str]) -> WrongSpot<'w, 'a> {
     match place {
-        Place::Algorithm => Wrong {
+        Place::Algorithm => WrongSpot {
             spot: plan.key("algorithm"),
             expected: "an algorithm: ricart, maekawa or raymond",
             known: &["ricart", "maekawa", "raymond"],
         },
-        Place::Sections => Wrong::of(plan.key("sections"), "a whole number, 1 to 1000000"),
-        Place::Origin => Wrong::of(plan.key("origin"), NUMBER),
+        Place::Sections => WrongSpot::of(plan.key("sections"), "a whole number, 1 to 1000000"),
+        Place::Origin => WrongSpot::of(plan.key("origin"), NUMBER),
         Place::Quorums => wrong_in_quorums(plan.key("quorums"), nodes),
         Place::Edges => wrong_in_edges(plan.key("edges"), nodes),
-        Place::Holder => Wrong {
+        Place::Holder => WrongSpot {
             spot: plan.key("holder"),
             expected: NODE,
             known: nodes,
         },
         _ => {
             let expected = "an object with algorithm, nodes, registers and sections";
-            Wrong::of(plan.named("the plan"), expected)
+            WrongSpot::of(plan.named("the plan"), expected)
         }
     }
 }
@@ -133,33 +133,33 @@ pub(crate) fn wrong_word<'w, 'a>(
     spot: Spot<'w, 'a>,
     expected: &'w str,
     known: &'w [&'w str],
-) -> Option<Wrong<'w, 'a>> {
+) -> Option<WrongSpot<'w, 'a>> {
     if index_in(spot.text(), known).is_some() {
         return None;
     }
-    Some(Wrong {
+    Some(WrongSpot {
         spot,
         expected,
         known,
     })
 }
 
-fn wrong_in_edges<'w, 'a>(edges: Spot<'w, 'a>, nodes: &'w [&'w str]) -> Wrong<'w, 'a> {
+fn wrong_in_edges<'w, 'a>(edges: Spot<'w, 'a>, nodes: &'w [&'w str]) -> WrongSpot<'w, 'a> {
     for k in 0..edges.len() {
         let edge = edges.item(k);
         if edge.len() != 2 {
-            return Wrong::of(edge, "an array of two nodes");
+            return WrongSpot::of(edge, "an array of two nodes");
         }
         if let Some(wrong) = wrong_in_nodes(edge, nodes) {
             return wrong;
         }
     }
-    Wrong::of(edges, "an array of edges, each an array of two nodes")
+    WrongSpot::of(edges, "an array of edges, each an array of two nodes")
 }
 
-fn wrong_in_nodes<'w, 'a>(list: Spot<'w, 'a>, nodes: &'w [&'w str]) -> Option<Wrong<'w, 'a>> {
+fn wrong_in_nodes<'w, 'a>(list: Spot<'w, 'a>, nodes: &'w [&'w str]) -> Option<WrongSpot<'w, 'a>> {
     let Some(Value::Array(_)) = list.value else {
-        return Some(Wrong::of(list, "an array of nodes"));
+        return Some(WrongSpot::of(list, "an array of nodes"));
     };
     for i in 0..list.len() {
         let wrong = wrong_word(list.item(i), NODE, nodes);
@@ -170,15 +170,15 @@ fn wrong_in_nodes<'w, 'a>(list: Spot<'w, 'a>, nodes: &'w [&'w str]) -> Option<Wr
     None
 }
 
-fn wrong_in_quorums<'w, 'a>(quorums: Spot<'w, 'a>, nodes: &'w [&'w str]) -> Wrong<'w, 'a> {
+fn wrong_in_quorums<'w, 'a>(quorums: Spot<'w, 'a>, nodes: &'w [&'w str]) -> WrongSpot<'w, 'a> {
     let Some(Value::Object(_)) = quorums.value else {
         let expected = "an object: {\"kind\":\"plane\"}, or of kind grid or listed";
-        return Wrong::of(quorums, expected);
+        return WrongSpot::of(quorums, expected);
     };
     match quorums.key("kind").text() {
         "grid" => wrong_in_grid(quorums),
         "listed" => wrong_in_sets(quorums.key("sets"), nodes),
-        _ => Wrong {
+        _ => WrongSpot {
             spot: quorums.key("kind"),
             expected: "a kind: plane, grid or listed",
             known: &["plane", "grid", "listed"],
@@ -186,18 +186,18 @@ fn wrong_in_quorums<'w, 'a>(quorums: Spot<'w, 'a>, nodes: &'w [&'w str]) -> Wron
     }
 }
 
-fn wrong_in_grid<'w, 'a>(quorums: Spot<'w, 'a>) -> Wrong<'w, 'a> {
+fn wrong_in_grid<'w, 'a>(quorums: Spot<'w, 'a>) -> WrongSpot<'w, 'a> {
     for side in [quorums.key("rows"), quorums.key("cols")] {
         match side.value.and_then(Value::as_u64) {
             Some(1..=21) => {}
-            _ => return Wrong::of(side, "a whole number, 1 to 21"),
+            _ => return WrongSpot::of(side, "a whole number, 1 to 21"),
         }
     }
     let expected = "such rows that rows times cols is the number of nodes";
-    Wrong::of(quorums.key("rows"), expected)
+    WrongSpot::of(quorums.key("rows"), expected)
 }
 
-fn wrong_in_sets<'w, 'a>(sets: Spot<'w, 'a>, nodes: &'w [&'w str]) -> Wrong<'w, 'a> {
+fn wrong_in_sets<'w, 'a>(sets: Spot<'w, 'a>, nodes: &'w [&'w str]) -> WrongSpot<'w, 'a> {
     let count = sets.len();
     for i in 0..count {
         if let (true, Some(wrong)) = (count == nodes.len(), wrong_in_nodes(sets.item(i), nodes)) {
@@ -205,7 +205,7 @@ fn wrong_in_sets<'w, 'a>(sets: Spot<'w, 'a>, nodes: &'w [&'w str]) -> Wrong<'w, 
         }
     }
     let expected = "an array with a set for each node, in the order of nodes";
-    Wrong::of(sets, expected)
+    WrongSpot::of(sets, expected)
 }
 
 /// Warns of keys that no plan uses: of the first `MAX_LINES`.

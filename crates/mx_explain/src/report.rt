@@ -3,7 +3,7 @@
 ghost use Rattle.std.specs.Prelude.{◌≡◌, ◌↔◌, ◌++◌, [], ◌∷◌, IfOk, OnErr, OnOk, true, string_bytes};
 ghost use Rattle.mx_explain.specs.Reports.{AddsLine, AreShown, last_line, line_text, nothing_at_fault, report_text};
 
-use crate::location::Part;
+use crate::location::FilePart;
 use mx_lines::add_escaped_text;
 use std::alloc::{AllocError, Global};
 use std::fmt::Display;
@@ -15,28 +15,28 @@ pub(crate) type ReportResult = Result<(), AllocError>;
 pub(crate) const MAX_LINES: usize = 20;
 
 #[derive(Drop)]
-pub(crate) struct Report {
+pub(crate) struct FaultReport {
     alloc: Global,
     text: String,
 }
 
-impl Model for Report {
+impl Model for FaultReport {
     ghost use Rattle.std.specs.Prelude.{string_bytes};
     ghost use Rattle.mx_plan.specs.Text.{Text};
-    ghost use Rattle.mx_explain.specs.Reports.{IsReport};
+    ghost use Rattle.mx_explain.specs.Reports.{IsReportText};
 
     ghost Value = { Text };
 
     ghost view = { λ r. string_bytes r.text };
 
-    ghost invariant = { λ r. IsReport (string_bytes r.text) };
+    ghost invariant = { λ r. IsReportText (string_bytes r.text) };
 }
 
-impl Report {
-    pub(crate) fn new(alloc: Global) -> Report
+impl FaultReport {
+    pub(crate) fn new(alloc: Global) -> FaultReport
         ensures { result ≡ [] }
     {
-        Report {
+        FaultReport {
             alloc,
             text: String::new(alloc),
         }
@@ -58,7 +58,7 @@ impl Report {
     /// Adds a line about the byte `offset` of a part. The message begins with a space.
     pub(crate) fn add_at<D: Display + Drop>(
         &mut self,
-        part: &Part<'_>,
+        part: &FilePart<'_>,
         offset: usize,
         message: D,
     ) -> ReportResult {

@@ -1,14 +1,18 @@
 //! What is wrong in the lines of a script.
 
-use crate::location::Part;
-use crate::report::{MAX_LINES, Report, ReportResult};
+use crate::location::FilePart;
+use crate::report::{FaultReport, MAX_LINES, ReportResult};
 use crate::spot::index_in;
 use mx_lines::{FirstWords, first_error, message, place_of_word, words_in};
 use mx_plan::Plan;
 use std::alloc::{AllocError, Global};
 
 /// Reports the first wrong word of each line of a script; of a text of JSON, that it is no script.
-pub(crate) fn explain_lines(report: &mut Report, part: &Part<'_>, plan: &Plan) -> ReportResult {
+pub(crate) fn explain_lines(
+    report: &mut FaultReport,
+    part: &FilePart<'_>,
+    plan: &Plan,
+) -> ReportResult {
     if let Some(offset) = json_begin(part.text) {
         return report.add_at(
             part,
@@ -66,8 +70,8 @@ fn ends_word(character: char) -> bool {
 /// Reports what is wrong in a line that begins at the byte `begin` of the part, if that is to be
 /// shown. Returns whether something is.
 fn report_line(
-    report: &mut Report,
-    part: &Part<'_>,
+    report: &mut FaultReport,
+    part: &FilePart<'_>,
     plan: &Plan,
     begin: usize,
     line: &[u8],

@@ -12,9 +12,9 @@ use Rattle.mx_cli.specs.declared.stop.Stop.TheVariants as stop
 use Rattle.mx_cli.proofs.FrameLemmas.{line_prints, memory_prints}
 use Rattle.mx_judge.specs.Faults.{IsFaultReport, IsMessageOf, trace_line}
 use Rattle.mx_judge.specs.Judged.{IsJudged, IsJudgement}
-use Rattle.mx_judge.specs.Listed.{Listed}
+use Rattle.mx_judge.specs.Listed.{ReadTrace}
 use Rattle.mx_judge.specs.Reasons.{reason_at, reason_of}
-use Rattle.mx_judge.specs.Traces.{Reads, place_word, trace_at}
+use Rattle.mx_judge.specs.Traces.{ReadsTrace, place_word, trace_at}
 use Rattle.mx_judge.specs.declared.faults.TraceFault.{TraceFault}
 use Rattle.mx_judge.specs.declared.faults.TraceFault.TheVariants as fault
 
@@ -35,27 +35,27 @@ reason_past p trace k broken past =
 
 module _ (j : Bool) (p : Fields) (text : Text) where
   -- a report on the trace that was read
-  pub judged_read : (word : Text) (t : Listed) → trace_at p text ≡ Ok t → word ≡ place_word text → (r : Report) → IsJudged j p word (Ok t) r → IsJudgement j p text r
+  pub judged_read : (word : Text) (t : ReadTrace) → trace_at p text ≡ Ok t → word ≡ place_word text → (r : Report) → IsJudged j p word (Ok t) r → IsJudgement j p text r
   judged_read word t read same r h =
-      subst (λ (x : Result Listed TraceFault). IsJudged j p (place_word text) x r) (sym read) (subst (λ (w : Text). IsJudged j p w (Ok t) r) same h)
+      subst (λ (x : Result ReadTrace TraceFault). IsJudged j p (place_word text) x r) (sym read) (subst (λ (w : Text). IsJudged j p w (Ok t) r) same h)
 
   -- a report on a text that lists no trace
   pub judged_fault : (bad : TraceFault) → trace_at p text ≡ Err bad → (r : Report) → IsFaultReport bad r → IsJudgement j p text r
-  judged_fault bad read r h = subst (λ (t : Result Listed TraceFault). IsJudged j p (place_word text) t r) (sym read) h
+  judged_fault bad read r h = subst (λ (t : Result ReadTrace TraceFault). IsJudged j p (place_word text) t r) (sym read) h
 
 -- the line of a fault, with a message after it
 abbrev pub HasFaultLine : TraceFault → Stop → Type 0
 HasFaultLine bad s = (message : Text) × IsMessageOf bad message × IsStopWith (trace_line bad message) s
 
 -- a trace is wanted that has a fault, or memory ran out
-pub fault_read : (wanted : Result Listed TraceFault) (bad : TraceFault) (s : Stop) → (wanted ≡ Err bad) ⊎ (bad ≡ fault.Memory) → HasFaultLine bad s → (bad ≡ fault.Memory → s ≡ stop.Memory)
-    → Reads wanted (Err s)
+pub fault_read : (wanted : Result ReadTrace TraceFault) (bad : TraceFault) (s : Stop) → (wanted ≡ Err bad) ⊎ (bad ≡ fault.Memory) → HasFaultLine bad s → (bad ≡ fault.Memory → s ≡ stop.Memory)
+    → ReadsTrace wanted (Err s)
 fault_read wanted bad s (inl read) line memory = inl (bad, line.0, read, line.1, line.2)
 fault_read wanted bad s (inr out) line memory = inr (memory out)
 
 -- a trace is wanted that is at fault, whose line is the report; or memory ran out
-pub stops : (IsReport : Report → Type 0) (wanted : Result Listed TraceFault) (o : Sight) (s : Stop) → ((bad : TraceFault) → wanted ≡ Err bad → (r : Report) → IsFaultReport bad r → IsReport r)
-    → Reads wanted (Err s) → Prints IsReport o o (Err s)
+pub stops : (IsReport : Report → Type 0) (wanted : Result ReadTrace TraceFault) (o : Sight) (s : Stop) → ((bad : TraceFault) → wanted ≡ Err bad → (r : Report) → IsFaultReport bad r → IsReport r)
+    → ReadsTrace wanted (Err s) → Prints IsReport o o (Err s)
 stops IsReport wanted o s told (inl known) =
     line_prints IsReport (trace_line known.0 known.1) o s (told known.0 known.2 (ends (has_line (trace_line known.0 known.1))) (known.1, known.3, refl)) known.4
 stops IsReport wanted o s told (inr out) = rw out (memory_prints IsReport o)

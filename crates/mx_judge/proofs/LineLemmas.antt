@@ -9,7 +9,7 @@ use Rattle.std.proofs.lemmas.List.Splits.{slice_split-cons_no, slice_split_first
 use Rattle.mx_plan.specs.Text.{Text}
 use Rattle.mx_plan.specs.Fields.{Fields}
 use Rattle.mx_judge.specs.Faults.{line_fault}
-use Rattle.mx_judge.specs.Listed.{Listed}
+use Rattle.mx_judge.specs.Listed.{ReadTrace}
 use Rattle.mx_judge.specs.Traces.{entries_from, go_on, line_item, lines_of, with_item}
 use Rattle.mx_judge.specs.declared.faults.ItemFault.{ItemFault}
 use Rattle.mx_judge.specs.declared.faults.TraceFault.{TraceFault}
@@ -59,9 +59,9 @@ first_line text =
 pub less_after : (text : Text) → length (before_first is_feed text) < length text → length (after_first is_feed text) < length text
 less_after text h = omega (arith, h, length-drop (position_or_len is_feed text + 1) text)
 
-module _ (p : Fields) (t : Listed) (k : ℕ) (rest : Text) where
+module _ (p : Fields) (t : ReadTrace) (k : ℕ) (rest : Text) where
   -- this trace, and the entries of the lines of the rest
-  abbrev pub from_lines : Result Listed TraceFault
+  abbrev pub from_lines : Result ReadTrace TraceFault
   from_lines = entries_from line_fault t k (map (line_item p) (lines_of rest))
 
   of_lines : (line : Text) (others : List Text) → lines_of rest ≡ line ∷ others
@@ -77,7 +77,7 @@ module _ (p : Fields) (t : Listed) (k : ℕ) (rest : Text) where
       ∙ ap (λ r. go_on line_fault k r (λ more. entries_from line_fault more (k + 1) (map (line_item p) first.0))) is
 
   -- the last line
-  pub lines_end : (more : Listed) → length (before_first is_feed rest) ≡ length rest
+  pub lines_end : (more : ReadTrace) → length (before_first is_feed rest) ≡ length rest
       → with_item k t (line_item p (before_first is_feed rest)) ≡ Ok more → from_lines ≡ Ok more
   unfolding entries_from
   lines_end more same is =
@@ -85,7 +85,7 @@ module _ (p : Fields) (t : Listed) (k : ℕ) (rest : Text) where
       ∙ ap (λ r. go_on line_fault k r (λ l. entries_from line_fault l (k + 1) [])) is
 
 -- a line that is followed by others
-pub lines_go_on : (p : Fields) (t more : Listed) (k : ℕ) (rest : Text) → length (before_first is_feed rest) < length rest
+pub lines_go_on : (p : Fields) (t more : ReadTrace) (k : ℕ) (rest : Text) → length (before_first is_feed rest) < length rest
     → with_item k t (line_item p (before_first is_feed rest)) ≡ Ok more → from_lines p t k rest ≡ from_lines p more (k + 1) (after_first is_feed rest)
 lines_go_on p t more k rest less is =
     of_lines p t k rest (before_first is_feed rest) (lines_of (after_first is_feed rest)) (more_lines rest less)

@@ -10,7 +10,7 @@ use Rattle.mx_plan.specs.Fields.{Fields}
 use Rattle.mx_format.specs.EventJson.{event_json}
 use Rattle.mx_format.specs.Lines.{each_text}
 use Rattle.mx_format.specs.Members.{node_member, number_member, number_start, word_member}
-use Rattle.mx_judge.specs.Listed.{Listed, sent_by}
+use Rattle.mx_judge.specs.Listed.{ReadTrace, sent_by}
 use Rattle.mx_judge.specs.Messages.{message_json}
 
 module _ (p : Fields) (k : ℕ) where
@@ -31,5 +31,5 @@ module _ (p : Fields) (k : ℕ) where
   entry_json e = entry_json_by e e.event e.outcome
 
 -- the line of the k-th entry of a trace, and those of the messages that it sends
-abbrev pub sending_json : Fields → Listed → ℕ → Entry → Text
+abbrev pub sending_json : Fields → ReadTrace → ℕ → Entry → Text
 sending_json p t k e = entry_json p k e ++ each_text (message_json p) (sent_by t k)

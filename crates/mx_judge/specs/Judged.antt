@@ -12,7 +12,7 @@ use Rattle.mx_format.specs.Lines.{texts_from}
 use Rattle.mx_format.specs.Members.{number_member, word_member, word_start}
 use Rattle.mx_judge.specs.EntryJson.{sending_json}
 use Rattle.mx_judge.specs.Faults.{IsFaultReport}
-use Rattle.mx_judge.specs.Listed.{Listed, place_of}
+use Rattle.mx_judge.specs.Listed.{ReadTrace, place_of}
 use Rattle.mx_judge.specs.Reasons.{entered_in, reason_for}
 use Rattle.mx_judge.specs.Traces.{place_word, trace_at}
 use Rattle.mx_judge.specs.declared.faults.TraceFault.{TraceFault}
@@ -35,7 +35,7 @@ counts_members trace =
     number_member (codes "events") (length trace)
     ++ number_member (codes "sections") (entered_in trace)
 
-module _ (word : Text) (t : Listed) (reason : Text) where
+module _ (word : Text) (t : ReadTrace) (reason : Text) where
   -- where the k-th event is, and why it breaks a rule
   abbrev pub reason_lines : Verdict → Text
   reason_lines Sound = []
@@ -63,14 +63,14 @@ module _ (word : Text) (t : Listed) (reason : Text) where
   judged_text is_json p verdict = if is_json then judged_json p verdict else judged_lines verdict
 
 -- what is printed of a trace with this verdict, if its places are called by this word
-abbrev pub judgement_text : Bool → Fields → Text → Listed → Verdict → Text
+abbrev pub judgement_text : Bool → Fields → Text → ReadTrace → Verdict → Text
 judgement_text is_json p word t verdict =
     judged_text word t (reason_for p t.entries verdict) is_json p verdict
 
 -- the counts, the line of the verdict and, if the trace is broken, why, with status 0 or 4; as
 -- JSON, an object for each event and each message, and one for the verdict. Or the line of the fault
 -- of a text that lists no trace
-abbrev pub IsJudged : Bool → Fields → Text → Result Listed TraceFault → Report → Type 0
+abbrev pub IsJudged : Bool → Fields → Text → Result ReadTrace TraceFault → Report → Type 0
 IsJudged is_json p word (Ok t) r =
     (verdict : Verdict) × IsVerdictOf t.entries verdict
     × IsWhole (judgement_text is_json p word t verdict) (verdict_status verdict) r

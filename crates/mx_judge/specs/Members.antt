@@ -62,5 +62,5 @@ and_then (Ok a) f = f a
 and_then (Err fault) f = Err fault
 
 -- the result is `wanted`, or memory ran out
-abbrev pub Answers : {T : Type 0} → Result T ItemFault → Result T ItemFault → Type 0
-Answers wanted r = (r ≡ wanted) ⊎ (r ≡ Err Memory)
+abbrev pub AnswersItem : {T : Type 0} → Result T ItemFault → Result T ItemFault → Type 0
+AnswersItem wanted r = (r ≡ wanted) ⊎ (r ≡ Err Memory)

@@ -10,19 +10,19 @@ use Rattle.mx_plan.specs.Text.{Text}
 use Rattle.mx_plan.specs.Fields.{Fields, node_of}
 use Rattle.mx_format.specs.Members.{node_member, number_member, number_start}
 use Rattle.mx_judge.specs.Members.{and_then, has_member, key_of, number_at, text_at}
-use Rattle.mx_judge.specs.declared.message.Parts.{Parts}
+use Rattle.mx_judge.specs.declared.message.MessageParts.{MessageParts}
 use Rattle.mx_judge.specs.declared.members.Member.{Member}
 use Rattle.mx_judge.specs.declared.members.Member.TheVariants as member
 use Rattle.mx_judge.specs.declared.faults.ItemFault.{ItemFault}
 use Rattle.mx_judge.specs.declared.faults.ItemFault.TheVariants.{Memory, Wrong}
 
 -- a message: its number, its nodes, its kind as a text of JSON, and what else it says
-pub record Sent : Type 0 where
+pub record SentMessage : Type 0 where
   pub parcel : ℕ
   pub from : ℕ
   pub to : ℕ
   pub kind : Text
-  pub parts : Parts
+  pub parts : MessageParts
 
 -- ---- reading
 
@@ -55,7 +55,7 @@ module _ (p : Fields) (d : Data) where
       (λ n. and_then (node_at member.Of) (λ i. Ok (Some (record { number = n; node = i }))))
       else Ok None
 
-  abbrev pub parts_at : Result Parts ItemFault
+  abbrev pub parts_at : Result MessageParts ItemFault
   parts_at =
       and_then stamp_at
       (λ s. and_then (optional_at member.Number d)
@@ -76,7 +76,7 @@ module _ (p : Fields) (d : Data) where
       }))))))))
 
   -- the message of an object that has `kind`
-  abbrev pub message_of : Result Sent ItemFault
+  abbrev pub message_of : Result SentMessage ItemFault
   message_of =
       and_then (number_at member.Parcel d)
       (λ k. and_then (node_at member.From)
@@ -97,19 +97,19 @@ stamp_json p None = []
 stamp_json p (Some stamp) =
     number_member (codes "stamp") stamp.number ++ node_member p (codes "of") stamp.node
 
-abbrev pub counts_json : Parts → Text
+abbrev pub counts_json : MessageParts → Text
 counts_json parts =
     part_json (codes "number") parts.number ++ part_json (codes "hop") parts.hop
     ++ part_json (codes "top") parts.top ++ part_json (codes "grant") parts.grant
     ++ part_json (codes "last") parts.last ++ part_json (codes "upto") parts.upto
 
 -- the members of a message up to its kind
-abbrev pub route_json : Fields → Sent → Text
+abbrev pub route_json : Fields → SentMessage → Text
 route_json p m =
     number_start (codes "parcel") m.parcel ++ node_member p (codes "from") m.from
     ++ node_member p (codes "to") m.to ++ (codes ",\"kind\":" ++ m.kind)
 
 -- the line of a message: its object
-abbrev pub message_json : Fields → Sent → Text
+abbrev pub message_json : Fields → SentMessage → Text
 message_json p m =
     route_json p m ++ stamp_json p m.parts.stamp ++ counts_json m.parts ++ codes "}\n"

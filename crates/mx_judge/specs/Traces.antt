@@ -13,9 +13,9 @@ use Rattle.mx_cli.specs.declared.stop.Stop.{Stop}
 use Rattle.mx_cli.specs.declared.stop.Stop.TheVariants as stop
 use Rattle.mx_judge.specs.Entries.{is_passed_over, item_of}
 use Rattle.mx_judge.specs.Faults.{IsMessageOf, line_fault, list_fault, trace_line}
-use Rattle.mx_judge.specs.Listed.{Listed, listed, nothing, with_message, with_one}
+use Rattle.mx_judge.specs.Listed.{ReadTrace, listed, nothing, with_message, with_one}
 use Rattle.mx_judge.specs.Members.{has_member}
-use Rattle.mx_judge.specs.Messages.{Sent}
+use Rattle.mx_judge.specs.Messages.{SentMessage}
 use Rattle.mx_judge.specs.declared.entry_reader.Item.{Item}
 use Rattle.mx_judge.specs.declared.entry_reader.Item.TheVariants.{Event, Message}
 use Rattle.mx_judge.specs.declared.faults.ItemFault.{ItemFault}
@@ -25,18 +25,18 @@ use Rattle.mx_judge.specs.declared.faults.TraceFault.TheVariants.{NotJson, Plan,
 use Rattle.mx_judge.specs.declared.trace.Trace.{Trace}
 
 -- `wanted` is this fault, or the fault is that memory ran out
-abbrev pub Refuses : {T : Type 0} → Result T ItemFault → ItemFault → Type 0
-Refuses wanted fault = (wanted ≡ Err fault) ⊎ (fault ≡ item.Memory)
+abbrev pub RefusesItem : {T : Type 0} → Result T ItemFault → ItemFault → Type 0
+RefusesItem wanted fault = (wanted ≡ Err fault) ⊎ (fault ≡ item.Memory)
 
 -- the result has the trace or the fault that is wanted, or memory ran out
-abbrev pub Gives : Result Listed TraceFault → Result Trace TraceFault → Type 0
-Gives wanted (Ok trace) = wanted ≡ Ok (listed trace)
-Gives wanted (Err fault) = (wanted ≡ Err fault) ⊎ (fault ≡ Memory)
+abbrev pub GivesTrace : Result ReadTrace TraceFault → Result Trace TraceFault → Type 0
+GivesTrace wanted (Ok trace) = wanted ≡ Ok (listed trace)
+GivesTrace wanted (Err fault) = (wanted ≡ Err fault) ⊎ (fault ≡ Memory)
 
 -- the result has the trace that is wanted; or the line of the fault that is wanted, or memory ran out
-abbrev pub Reads : Result Listed TraceFault → Result Trace Stop → Type 0
-Reads wanted (Ok trace) = wanted ≡ Ok (listed trace)
-Reads wanted (Err end) =
+abbrev pub ReadsTrace : Result ReadTrace TraceFault → Result Trace Stop → Type 0
+ReadsTrace wanted (Ok trace) = wanted ≡ Ok (listed trace)
+ReadsTrace wanted (Err end) =
     ((fault : TraceFault) × (message : Text) × (wanted ≡ Err fault) × IsMessageOf fault message
     × IsStopWith (trace_line fault message) end)
     ⊎ (end ≡ stop.Memory)
@@ -59,31 +59,31 @@ line_item p line =
     else option_map_or (item_of p) (value_of line) (Err item.NotJson)
 
 -- this trace, and then the entry of the k-th line or item; a fault, if there are too many
-abbrev pub with_entry : ℕ → Listed → Entry → Result Listed ItemFault
+abbrev pub with_entry : ℕ → ReadTrace → Entry → Result ReadTrace ItemFault
 with_entry k t entry =
     if nat_lt (length t.entries) MAX_EVENTS then Ok (with_one k t entry) else Err item.TooMany
 
 -- this trace, whose newest entry sends this message too; a fault, if it has no entry
-abbrev pub with_sent : Listed → Sent → Result Listed ItemFault
+abbrev pub with_sent : ReadTrace → SentMessage → Result ReadTrace ItemFault
 with_sent t message =
     if length t.entries == 0 then Err item.NoSender else Ok (with_message t message)
 
 -- this trace, and then what the k-th line or item has, if it has something
-abbrev pub with_item : ℕ → Listed → Result (Option Item) ItemFault → Result Listed ItemFault
+abbrev pub with_item : ℕ → ReadTrace → Result (Option Item) ItemFault → Result ReadTrace ItemFault
 with_item k t (Ok None) = Ok t
 with_item k t (Ok (Some (Event entry))) = with_entry k t entry
 with_item k t (Ok (Some (Message message))) = with_sent t message
 with_item k t (Err fault) = Err fault
 
 -- continues if the k-th item had no fault; otherwise returns the fault with this number
-abbrev pub go_on : (ℕ → ItemFault → TraceFault) → ℕ → Result Listed ItemFault
-    → (Listed → Result Listed TraceFault) → Result Listed TraceFault
+abbrev pub go_on : (ℕ → ItemFault → TraceFault) → ℕ → Result ReadTrace ItemFault
+    → (ReadTrace → Result ReadTrace TraceFault) → Result ReadTrace TraceFault
 go_on name k (Ok t) f = f t
 go_on name k (Err fault) f = Err (name k fault)
 
 -- this trace, and then the entries of these items, the first with the number k; or the first fault
-unfoldable pub entries_from : (ℕ → ItemFault → TraceFault) → Listed → ℕ
-    → List (Result (Option Item) ItemFault) → Result Listed TraceFault
+unfoldable pub entries_from : (ℕ → ItemFault → TraceFault) → ReadTrace → ℕ
+    → List (Result (Option Item) ItemFault) → Result ReadTrace TraceFault
 entries_from name t k [] = Ok t
 entries_from name t k (i ∷ items) =
     go_on name k (with_item k t i) (λ more. entries_from name more (k + 1) items)
@@ -92,11 +92,11 @@ entries_from name t k (i ∷ items) =
 abbrev pub lines_of : Text → List Text
 lines_of text = slice_split (λ b. b == 10) text
 
-abbrev pub lines_at : Fields → Text → Result Listed TraceFault
+abbrev pub lines_at : Fields → Text → Result ReadTrace TraceFault
 lines_at p text = entries_from line_fault nothing 1 (map (line_item p) (lines_of text))
 
 -- the trace in a text that is an array of JSON
-abbrev pub array_at : Fields → Text → Result Listed TraceFault
+abbrev pub array_at : Fields → Text → Result ReadTrace TraceFault
 array_at p text =
     option_map_or (λ d. entries_from list_fault nothing 1 (map (item_of p) (list_in d)))
     (value_of text) (Err NotJson)
@@ -124,7 +124,7 @@ is_plan text = option_map_or is_plan_object (value_of text) false
 
 -- the trace in a text: in an array, if the text starts with one, and otherwise in lines; a fault, if
 -- the text is a plan
-abbrev pub trace_at : Fields → Text → Result Listed TraceFault
+abbrev pub trace_at : Fields → Text → Result ReadTrace TraceFault
 trace_at p text =
     if begins_array text then array_at p text
     else if is_plan text then Err Plan

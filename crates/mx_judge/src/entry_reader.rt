@@ -4,7 +4,7 @@ ghost use Rattle.std.specs.Prelude.{◌≡◌, map};
 ghost use Rattle.serde_json.specs.View.{view};
 ghost use Rattle.mx_plan.specs.Values.{list_in};
 ghost use Rattle.mx_judge.specs.Entries as spec;
-ghost use Rattle.mx_judge.specs.Members.{Answers};
+ghost use Rattle.mx_judge.specs.Members.{AnswersItem};
 
 use crate::faults::ItemFault;
 use crate::members::{Member, has_member, number_at, text_at};
@@ -26,7 +26,7 @@ pub(crate) enum Item {
 
 #[tactic(auto, unfolding(crate::specs::Entries::item_of))]
 pub(crate) fn item_in(alloc: Global, plan: &Plan, value: &Value) -> Result<Option<Item>, ItemFault>
-    ensures { Answers (spec.item_of plan.now (view value.now)) result }
+    ensures { AnswersItem (spec.item_of plan.now (view value.now)) result }
 {
     if has_member(value, "act") {
         let room = Boxed::new(alloc, Receipt::default())?;

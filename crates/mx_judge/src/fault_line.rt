@@ -14,12 +14,12 @@ use std::fmt;
 
 /// The line of a fault, with the message after it.
 #[derive(Drop)]
-struct FaultLine {
+struct TraceFaultLine {
     fault: TraceFault,
     message: String,
 }
 
-impl fmt::Display for FaultLine {
+impl fmt::Display for TraceFaultLine {
     ghost output = { λ line. Some (trace_line line.fault (string_bytes line.message)) };
 
     fn fmt<W: fmt::Write>(&self, f: &mut fmt::Formatter<W>) -> fmt::Result {
@@ -37,7 +37,7 @@ pub(crate) fn stop_at(alloc: Global, plan: &Plan, text: &[u8], fault: TraceFault
         return Stop::Memory;
     }
     match message_of(alloc, plan, text, fault) {
-        Ok(message) => stop_with(alloc, FaultLine { fault, message }),
+        Ok(message) => stop_with(alloc, TraceFaultLine { fault, message }),
         Err(_) => Stop::Memory,
     }
 }

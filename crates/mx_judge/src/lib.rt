@@ -18,7 +18,7 @@ mod wrong_member;
 
 pub use judge_command::Judge;
 pub use judgement::{clause_word, judgement_of};
-pub use message::{Message, Parts};
+pub use message::{Message, MessageParts};
 pub use reasons::reason_for;
 pub use trace::Trace;
 pub use trace_reader::{place_word, trace_in};

@@ -2,7 +2,7 @@
 
 ghost use Rattle.std.specs.Prelude.{◌≡◌, ◌++◌, OnOk, codes, string_bytes};
 ghost use Rattle.serde_json.specs.View.{view};
-ghost use Rattle.mx_judge.specs.Members.{Answers};
+ghost use Rattle.mx_judge.specs.Members.{AnswersItem};
 ghost use Rattle.mx_judge.specs.Messages as spec;
 
 use crate::faults::ItemFault;
@@ -17,7 +17,7 @@ use std::marker::Model;
 
 /// What a message says beside its kind: the request that it is about, and numbers.
 #[derive(Clone, Copy)]
-pub struct Parts {
+pub struct MessageParts {
     pub stamp: Option<Stamp>,
     pub number: Option<u64>,
     pub hop: Option<u64>,
@@ -36,14 +36,14 @@ pub struct Message {
     pub to: NodeId,
     /// The kind as a text of JSON, in quotes.
     pub kind: String,
-    pub parts: Parts,
+    pub parts: MessageParts,
 }
 
 impl Model for Message {
     ghost use Rattle.std.specs.Prelude.{string_bytes};
-    ghost use Rattle.mx_judge.specs.Messages.{Sent};
+    ghost use Rattle.mx_judge.specs.Messages.{SentMessage};
 
-    ghost Value = { Sent };
+    ghost Value = { SentMessage };
 
     ghost view = { λ m. record {
       parcel = m.parcel;
@@ -56,7 +56,7 @@ impl Model for Message {
 
 /// Reads the message in an object that has `kind`.
 pub(crate) fn message_in(alloc: Global, plan: &Plan, value: &Value) -> Result<Message, ItemFault>
-    ensures { Answers (spec.message_of plan.now (view value.now)) result }
+    ensures { AnswersItem (spec.message_of plan.now (view value.now)) result }
 {
     let parcel = number_at(value, Member::Parcel)?;
     let from = node_at(plan, value, Member::From)?;
@@ -79,10 +79,10 @@ fn node_at(plan: &Plan, value: &Value, member: Member) -> Result<NodeId, ItemFau
         .ok_or(ItemFault::Wrong(member))
 }
 
-fn parts_at(plan: &Plan, value: &Value) -> Result<Parts, ItemFault>
+fn parts_at(plan: &Plan, value: &Value) -> Result<MessageParts, ItemFault>
     ensures { result ≡ spec.parts_at plan.now (view value.now) }
 {
-    Ok(Parts {
+    Ok(MessageParts {
         stamp: stamp_at(plan, value)?,
         number: optional_at(value, Member::Number)?,
         hop: optional_at(value, Member::Hop)?,
@@ -160,7 +160,7 @@ fn add_stamp(plan: &Plan, stamp: Option<Stamp>, text: &mut String) -> Result<(),
     add_word("of", name_of(plan, stamp.node), text)
 }
 
-fn add_counts(parts: &Parts, text: &mut String) -> Result<(), AllocError>
+fn add_counts(parts: &MessageParts, text: &mut String) -> Result<(), AllocError>
     ensures { OnOk result (string_bytes text.new
         ≡ string_bytes text.old ++ spec.counts_json parts.now) }
 {

@@ -7,7 +7,7 @@ ghost use Rattle.mx_plan.specs.Values.{value_of};
 ghost use Rattle.mx_judge.specs.Entries.{item_of};
 ghost use Rattle.mx_judge.specs.Faults.{line_fault, list_fault};
 ghost use Rattle.mx_judge.specs.Listed.{listed, nothing};
-ghost use Rattle.mx_judge.specs.Members.{Answers};
+ghost use Rattle.mx_judge.specs.Members.{AnswersItem};
 ghost use Rattle.mx_judge.specs.Traces as spec;
 
 use crate::entry_reader::{Item, is_passed_over, item_in, items_in};
@@ -28,7 +28,7 @@ use std::alloc::{AllocError, Global};
 ///
 /// Returns the line of the first fault, and `Memory` if memory runs out.
 pub fn trace_in(alloc: Global, plan: &Plan, text: &[u8]) -> Result<Trace, Stop>
-    ensures { spec.Reads (spec.trace_at plan.now text.now) result }
+    ensures { spec.ReadsTrace (spec.trace_at plan.now text.now) result }
 {
     match read_trace(alloc, text, plan) {
         Ok(trace) => Ok(trace),
@@ -44,7 +44,7 @@ pub fn place_word(text: &[u8]) -> &'static str
 }
 
 fn read_trace(alloc: Global, text: &[u8], plan: &Plan) -> Result<Trace, TraceFault>
-    ensures { spec.Gives (spec.trace_at plan.now text.now) result }
+    ensures { spec.GivesTrace (spec.trace_at plan.now text.now) result }
 {
     if begins_array(text) {
         return read_array(alloc, text, plan);
@@ -111,7 +111,7 @@ fn is_blank_line(line: &[u8]) -> bool
 }
 
 fn read_array(alloc: Global, text: &[u8], plan: &Plan) -> Result<Trace, TraceFault>
-    ensures { spec.Gives (spec.array_at plan.now text.now) result }
+    ensures { spec.GivesTrace (spec.array_at plan.now text.now) result }
 {
     match parse(alloc, text) {
         Ok(value) => read_items(alloc, items_in(&value), plan),
@@ -121,7 +121,7 @@ fn read_array(alloc: Global, text: &[u8], plan: &Plan) -> Result<Trace, TraceFau
 }
 
 fn read_items(alloc: Global, items: &[Value], plan: &Plan) -> Result<Trace, TraceFault>
-    ensures { spec.Gives
+    ensures { spec.GivesTrace
         (spec.entries_from list_fault nothing 1 (map (item_of plan.now) (map view items.now)))
         result }
 {
@@ -136,7 +136,7 @@ fn read_items(alloc: Global, items: &[Value], plan: &Plan) -> Result<Trace, Trac
 }
 
 fn read_lines(alloc: Global, text: &[u8], plan: &Plan) -> Result<Trace, TraceFault>
-    ensures { spec.Gives (spec.lines_at plan.now text.now) result }
+    ensures { spec.GivesTrace (spec.lines_at plan.now text.now) result }
 {
     let mut trace = Trace::new(alloc);
     let mut rest = text;
@@ -156,7 +156,7 @@ fn read_lines(alloc: Global, text: &[u8], plan: &Plan) -> Result<Trace, TraceFau
 
 #[tactic(auto, unfolding(crate::specs::Traces::line_item))]
 fn line_in(alloc: Global, plan: &Plan, line: &[u8]) -> Result<Option<Item>, ItemFault>
-    ensures { Answers (spec.line_item plan.now line.now) result }
+    ensures { AnswersItem (spec.line_item plan.now line.now) result }
 {
     if is_blank_line(line) {
         return Ok(None);
@@ -191,7 +191,7 @@ fn add_item(
 ) -> Result<(), ItemFault>
     ensures ok { OnOk result
         (spec.with_item number (listed trace.old) item ≡ Ok (listed trace.new)) }
-    ensures err { IfErr result (spec.Refuses (spec.with_item number (listed trace.old) item)) }
+    ensures err { IfErr result (spec.RefusesItem (spec.with_item number (listed trace.old) item)) }
 {
     match item? {
         None => Ok(()),

@@ -9,7 +9,7 @@ use crate::members::Member;
 use crate::outcome_reader::{CAUSES, word_of_done};
 use json::{Error, Scratch, Value};
 use mx_events::EventKind;
-use mx_lines::{FirstWords, Listed, Names, Nearest, Quoted, add_escaped_text, nearest};
+use mx_lines::{FirstWords, KnownNames, Listed, Nearest, Quoted, add_escaped_text, nearest};
 use mx_plan::Plan;
 use std::alloc::{AllocError, Global};
 use std::fmt;

@@ -4,7 +4,7 @@ ghost use Rattle.mx_lines.specs.Names.{texts_of};
 
 use crate::errors::{Expected, LineError, LineFault, OwnWord, refuse};
 use crate::line::{Line, ScriptLine, read_line};
-use crate::names::Names;
+use crate::names::KnownNames;
 use crate::numbers::number_of;
 use mx_stamps::NodeId;
 
@@ -42,7 +42,7 @@ pub enum SessionCommand {
 /// # Errors
 ///
 /// Returns the first wrong word, as `read_line` does.
-pub fn read_command<N: Names>(names: &N, words: &[&str]) -> Result<SessionCommand, LineError>
+pub fn read_command<N: KnownNames>(names: &N, words: &[&str]) -> Result<SessionCommand, LineError>
     ensures { result ≡ command_of (N.known names.now) (texts_of words.now) }
 {
     let Some((first, arguments)) = words.split_first() else {
@@ -97,7 +97,7 @@ fn is_end(text: &str) -> bool
     text == "end" || text == "quit" || text == "exit"
 }
 
-fn own_command<N: Names>(
+fn own_command<N: KnownNames>(
     names: &N,
     word: OwnWord,
     arguments: &[&str],
@@ -133,7 +133,7 @@ fn alone(word: OwnWord) -> Result<SessionCommand, LineError>
     }
 }
 
-fn shown<N: Names>(names: &N, name: &str) -> Result<SessionCommand, LineError>
+fn shown<N: KnownNames>(names: &N, name: &str) -> Result<SessionCommand, LineError>
     ensures { result ≡ shown (N.known names.now) name.now }
 {
     match names.node_named(name) {

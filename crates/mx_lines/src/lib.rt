@@ -24,7 +24,7 @@ pub use messages::{
     FirstWords, Listed, Meant, Nearest, Quoted, meant_by, message, message_of_line,
     message_of_unknown_node,
 };
-pub use names::Names;
+pub use names::KnownNames;
 pub use numbers::number_of;
 pub use orders::{LinkChange, Order, Scope};
 pub use sides::{Side, Sides};

@@ -3,7 +3,7 @@ ghost use Rattle.mx_lines.specs.Lines.{expects, line_of, repeated, times_of};
 ghost use Rattle.mx_lines.specs.Names.{texts_of};
 
 use crate::errors::{Expected, LineError, LineFault, refuse};
-use crate::names::Names;
+use crate::names::KnownNames;
 use crate::numbers::number_of;
 use crate::orders::{Order, order_at};
 use mx_stamps::MAX_EVENTS;
@@ -32,7 +32,7 @@ pub enum ScriptLine {
 /// Returns the first wrong word, from the left. A wrong number of arguments goes before a wrong
 /// argument, as an error of the word that takes the arguments; but after `times`, a wrong number
 /// goes before a missing line.
-pub fn read_line<N: Names>(names: &N, words: &[&str]) -> Result<ScriptLine, LineError>
+pub fn read_line<N: KnownNames>(names: &N, words: &[&str]) -> Result<ScriptLine, LineError>
     ensures { result ≡ line_of (N.known names.now) (texts_of words.now) }
 {
     let Some((first, rest)) = words.split_first() else {
@@ -57,7 +57,7 @@ fn expects(words: &[&str]) -> Result<ScriptLine, LineError>
     Ok(ScriptLine::Expects)
 }
 
-fn repeated<N: Names>(names: &N, words: &[&str]) -> Result<ScriptLine, LineError>
+fn repeated<N: KnownNames>(names: &N, words: &[&str]) -> Result<ScriptLine, LineError>
     ensures { result ≡ repeated (N.known names.now) (texts_of words.now) }
 {
     let Some((count, order)) = words.split_first() else {
@@ -82,7 +82,7 @@ fn times_of(text: &str) -> Result<u64, LineError>
 }
 
 /// The first wrong word of a line, if one is wrong.
-pub fn first_error<N: Names>(names: &N, words: &[&str]) -> Option<LineError>
+pub fn first_error<N: KnownNames>(names: &N, words: &[&str]) -> Option<LineError>
     ensures some { IfSome result
         (λ error. line_of (N.known names.now) (texts_of words.now) ≡ Err error) }
     ensures none { IfNone result (IsOk (line_of (N.known names.now) (texts_of words.now))) }

@@ -6,7 +6,7 @@ ghost use Rattle.mx_lines.specs.Escapes.{ArePrintable};
 use crate::edits::nearest;
 use crate::errors::{Expected, LineError, LineFault, OwnWord};
 use crate::escapes::add_escaped_text;
-use crate::names::Names;
+use crate::names::KnownNames;
 use crate::verbs::Verb;
 use crate::words::before_comment;
 use mx_events::{ArgumentKind, EVENT_KINDS, EventKind};
@@ -83,7 +83,7 @@ impl FirstWords {
 }
 
 /// Returns the message about the wrong word of a line with these words. It begins with a space.
-pub fn message<N: Names>(
+pub fn message<N: KnownNames>(
     alloc: Global,
     names: &N,
     first_words: FirstWords,

@@ -7,7 +7,7 @@ use mx_stamps::NodeId;
 use std::alloc::{AllocError, Global};
 
 /// The names of nodes and registers, each numbered from 0.
-pub trait Names {
+pub trait KnownNames {
     ghost known: { Self → Known };
 
     /// The node of this name.
@@ -25,7 +25,7 @@ pub trait Names {
     fn register_names(&self, alloc: Global) -> Result<Vec<&str>, AllocError>;
 }
 
-impl Names for Plan {
+impl KnownNames for Plan {
     ghost use Rattle.mx_lines.specs.Names.{known_of};
 
     ghost known = { known_of };

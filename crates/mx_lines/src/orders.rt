@@ -3,7 +3,7 @@ ghost use Rattle.mx_lines.specs.Orders.{argument_at, number_at, order_at, order_
 ghost use Rattle.mx_lines.specs.Names.{texts_of};
 
 use crate::errors::{Expected, LineError, LineFault, refuse};
-use crate::names::Names;
+use crate::names::KnownNames;
 use crate::numbers::number_of;
 use crate::sides::{Sides, sides_of};
 use crate::verbs::{Verb, verb_of, verb_of_all};
@@ -58,7 +58,7 @@ pub enum LinkChange {
     Heal,
 }
 
-pub(crate) fn order_at<N: Names>(
+pub(crate) fn order_at<N: KnownNames>(
     names: &N,
     place: usize,
     word: &str,
@@ -76,7 +76,7 @@ pub(crate) fn order_at<N: Names>(
     order_before(names, place, word, arguments)
 }
 
-fn order_before<N: Names>(
+fn order_before<N: KnownNames>(
     names: &N,
     place: usize,
     word: &str,
@@ -94,7 +94,7 @@ fn order_before<N: Names>(
     }
 }
 
-fn order_of<N: Names>(
+fn order_of<N: KnownNames>(
     names: &N,
     place: usize,
     word: &str,
@@ -109,7 +109,7 @@ fn order_of<N: Names>(
     }
 }
 
-fn order_with<N: Names>(
+fn order_with<N: KnownNames>(
     names: &N,
     place: usize,
     verb: Verb,
@@ -188,7 +188,7 @@ fn order_between(verb: Verb, from: NodeId, to: NodeId) -> Order
     }
 }
 
-fn argument_at<N: Names>(
+fn argument_at<N: KnownNames>(
     names: &N,
     kind: ArgumentKind,
     place: usize,

@@ -5,7 +5,7 @@ ghost use Rattle.mx_lines.specs.Names.{texts_of};
 ghost use Rattle.mx_lines.specs.Sides.{all_put, crosses, is_bar, nobody, put_named, put_node, put_on, side_of, sides_at, sides_of};
 
 use crate::errors::{Expected, LineError, LineFault, refuse};
-use crate::names::Names;
+use crate::names::KnownNames;
 use mx_stamps::NodeId;
 
 const NODES: usize = 21;
@@ -57,7 +57,7 @@ impl Sides {
 }
 
 /// Reads the words after `partition`, whose place in the line is `place`.
-pub(crate) fn sides_of<N: Names>(
+pub(crate) fn sides_of<N: KnownNames>(
     names: &N,
     place: usize,
     words: &[&str],
@@ -84,7 +84,7 @@ fn is_bar(word: &str) -> bool
     word == "|"
 }
 
-fn sides_at<N: Names>(
+fn sides_at<N: KnownNames>(
     names: &N,
     place: usize,
     words: &[&str],
@@ -102,7 +102,7 @@ fn sides_at<N: Names>(
 }
 
 /// Puts the nodes that the words name on a side. `place` is that of the first word.
-fn all_put<N: Names>(
+fn all_put<N: KnownNames>(
     names: &N,
     side: Side,
     place: usize,
@@ -118,7 +118,7 @@ fn all_put<N: Names>(
     Ok(sides)
 }
 
-fn put_named<N: Names>(
+fn put_named<N: KnownNames>(
     names: &N,
     side: Side,
     place: usize,

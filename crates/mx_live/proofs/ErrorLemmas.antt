@@ -13,7 +13,7 @@ use Rattle.mx_raymond.specs.Step.{raymond_core}
 use Rattle.mx_cli.specs.declared.request.LiveOptions.{LiveOptions}
 use Rattle.mx_cli.specs.declared.stop.Stop.{Stop}
 use Rattle.mx_cli.specs.declared.stop.Stop.TheVariants as stop
-use Rattle.mx_cli.specs.Reading.{IsPlanOf, Reads}
+use Rattle.mx_cli.specs.Reading.{IsPlanTold, Reads}
 use Rattle.mx_cli.proofs.OutputLemmas.{Keeps-refl}
 use Rattle.mx_io.specs.Outputs.{Held}
 use Rattle.mx_io.specs.Told.{Telling}
@@ -25,7 +25,7 @@ use Rattle.mx_live.specs.declared.live_error.LiveError.TheVariants.{Plan, TooFew
 use Rattle.mx_live.specs.LiveErrors.{Fails, HasNone, InVain, InVainBy, IsWhy, RunsInVain, unread_error}
 use Rattle.mx_live.specs.Shown.{live_text}
 use Rattle.mx_live.specs.Together.{ComeOf, HaveSections}
-use Rattle.mx_live.specs.Lives.{Ends, Fits, Halts, Prints, Shows}
+use Rattle.mx_live.specs.Lives.{Ends, Fits, Halts, PrintsLive, ShowsLive}
 
 -- a worker that is not done has spent its turns, or was not let in
 why_of : (ended : Worked) (error : LiveError) → IsWhy ended error → (error ≡ TurnsSpent) ⊎ (error ≡ GateShut)
@@ -44,7 +44,7 @@ vain_by (planned.Raymond tree) p orders error vain = vain_of raymond_core tree p
 module _ (takes : Bool) (told : Option Telling) (request : LiveOptions) where
   -- what an error says
   abbrev pub Halted : Held → Held → LiveError → Type 0
-  Halted old new error = Halts takes told request error × Prints told request error old new
+  Halted old new error = Halts takes told request error × PrintsLive told request error old new
 
   -- a plan that was not read
   pub plan_halts : (stopped : Stop) (held : Held) → IfSome told (λ telling. Reads telling (Err stopped)) → Halted held held (unread_error stopped)
@@ -54,7 +54,7 @@ module _ (takes : Bool) (told : Option Telling) (request : LiveOptions) where
   plan_halts stop.Memory held read = (tt, inl (Keeps-refl held))
 
   -- threads that ran in vain
-  pub vain_halts : (p : Fields) (error : LiveError) (held : Held) → IsPlanOf told p → Fits request p → HasNone p request error → Halted held held error
+  pub vain_halts : (p : Fields) (error : LiveError) (held : Held) → IsPlanTold told p → Fits request p → HasNone p request error → Halted held held error
   vain_halts p error held read fits (inl vain) = elim (vain_by p.shape p request error vain) [
     | inl is ↦ subst (λ h. Halted held held h) (sym is) ((p, read, fits, subst (λ h. InVain p request h) is vain), Keeps-refl held)
     | inr is ↦ subst (λ h. Halted held held h) (sym is) ((p, read, fits, subst (λ h. InVain p request h) is vain), Keeps-refl held)
@@ -63,17 +63,17 @@ module _ (takes : Bool) (told : Option Telling) (request : LiveOptions) where
   vain_halts p error held read fits (inr (inr is)) = subst (λ h. Halted held held h) (sym is) ((p, read, fits), Keeps-refl held)
 
   -- an output that did not take what was printed
-  pub output_halts : (error : LiveError) (old new : Held) → Fails takes error → Keeps old new ⊎ Shows told request old new → Halted old new error
+  pub output_halts : (error : LiveError) (old new : Held) → Fails takes error → Keeps old new ⊎ ShowsLive told request old new → Halted old new error
   output_halts error old new (inl fails) whole = subst (λ h. Halted old new h) (sym fails.0) (fails.1, whole)
   output_halts error old new (inr is) whole = subst (λ h. Halted old new h) (sym is) (tt, whole)
 
   -- the end of a run that came to none
-  pub none_ends : (p : Fields) (r : Result (Unit {0}) LiveError) (error why : LiveError) (held : Held) (kept_back : Bool) → r ≡ Err error → error ≡ why → IsPlanOf told p → Fits request p → HasNone p request why → Ends takes told request held held kept_back r
+  pub none_ends : (p : Fields) (r : Result (Unit {0}) LiveError) (error why : LiveError) (held : Held) (kept_back : Bool) → r ≡ Err error → error ≡ why → IsPlanTold told p → Fits request p → HasNone p request why → Ends takes told request held held kept_back r
   none_ends p r error why held kept_back is from read fits none =
       subst (λ (x : Result (Unit {0}) LiveError). Ends takes told request held held kept_back x) (sym is) (subst (λ h. Halted held held h) (sym from) (vain_halts p why held read fits none))
 
   -- the end of a run that came to a journal, which was printed, or not
-  pub shown_ends : (p : Fields) (receipts : List Receipt) (journal : JournalState) (r : Result (Unit {0}) LiveError) (old new : Held) (kept_back : Bool) → IsPlanOf told p → Fits request p → ComeOf p request receipts journal → AreSerial receipts journal
+  pub shown_ends : (p : Fields) (receipts : List Receipt) (journal : JournalState) (r : Result (Unit {0}) LiveError) (old new : Held) (kept_back : Bool) → IsPlanTold told p → Fits request p → ComeOf p request receipts journal → AreSerial receipts journal
       → HaveSections (length p.nodes) request.sections receipts → OnOk r (Appends old new (live_text p (length receipts) journal)) → OnOk r (kept_back ≡ false) → IfErr r (Fails takes)
       → OnErr r (Keeps old new ⊎ Appends old new (live_text p (length receipts) journal)) → Ends takes told request old new kept_back r
   shown_ends p receipts journal (Ok done) old new kept_back plan fits come serial have ok passed err whole = ((p, receipts, journal, plan, fits, come, serial, have, ok), passed)
@@ -82,7 +82,7 @@ module _ (takes : Bool) (told : Option Telling) (request : LiveOptions) where
     | inr text ↦ inr (p, receipts, journal, plan, fits, come, serial, have, text)
   ])
 
-  print_whole : (error : LiveError) (old new : Held) → Prints told request error old new → Keeps old new ⊎ Shows told request old new
+  print_whole : (error : LiveError) (old new : Held) → PrintsLive told request error old new → Keeps old new ⊎ ShowsLive told request old new
   print_whole (Plan fault) old new prints = inl prints
   print_whole TooFewSections old new prints = inl prints
   print_whole TurnsSpent old new prints = inl prints
@@ -92,6 +92,6 @@ module _ (takes : Bool) (told : Option Telling) (request : LiveOptions) where
   print_whole NoThread old new prints = inl prints
 
   -- nothing was printed, or all
-  pub ends_whole : (r : Result (Unit {0}) LiveError) (old new : Held) (kept_back : Bool) → Ends takes told request old new kept_back r → Keeps old new ⊎ Shows told request old new
+  pub ends_whole : (r : Result (Unit {0}) LiveError) (old new : Held) (kept_back : Bool) → Ends takes told request old new kept_back r → Keeps old new ⊎ ShowsLive told request old new
   ends_whole (Ok done) old new kept_back ends = inr ends.0
   ends_whole (Err error) old new kept_back ends = print_whole error old new ends.1

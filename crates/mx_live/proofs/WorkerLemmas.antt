@@ -23,14 +23,14 @@ use Rattle.mx_stations.specs.Works.{IsWithin}
 use Rattle.mx_stations.proofs.Rounding.{rounds_kept, rounds_node, rounds_some}
 use Rattle.mx_cli.specs.declared.request.LiveOptions.{LiveOptions}
 use Rattle.mx_live.specs.Stations.{AreAtRest}
-use Rattle.mx_live.specs.declared.threads.Worker.{Worker}
+use Rattle.mx_live.specs.declared.threads.NodeWorker.{NodeWorker}
 use Rattle.mx_live.specs.Workers.{AreDone, AreLeft, HaveRun, IsLeft, stations_of, worker_of}
 use Rattle.mx_live.proofs.StationLemmas.{first_and_more, nil_is_no_more, there, unmapped, zip_at, zip_many}
 
 module _ {H S M : Type 0} (core : Core H S M) where
   -- what workers with these orders left
-  pub left_by : (orders : LiveOptions) (works : List (Worker (Station core) Climate)) (stations : List (Station core)) (left : List (Station core × Worked)) → works ≡ map (worker_of orders) stations
-      → AllZip (λ (w : Worker (Station core) Climate) ended. IsLeft core w.orders w.station ended) works left → AreLeft core orders stations left
+  pub left_by : (orders : LiveOptions) (works : List (NodeWorker (Station core) Climate)) (stations : List (Station core)) (left : List (Station core × Worked)) → works ≡ map (worker_of orders) stations
+      → AllZip (λ (w : NodeWorker (Station core) Climate) ended. IsLeft core w.orders w.station ended) works left → AreLeft core orders stations left
   left_by orders works [] [] same all = tt
   left_by orders [] [] (e ∷ left) same all = absurd all
   left_by orders (w ∷ works) [] (e ∷ left) same all = absurd (nil_is_no_more (sym same))
@@ -38,7 +38,7 @@ module _ {H S M : Type 0} (core : Core H S M) where
   left_by orders (w ∷ works) (s ∷ stations) [] same all = absurd all
   left_by orders (w ∷ works) (s ∷ stations) (e ∷ left) same all =
       let both = first_and_more same in (
-        subst (λ (x : Worker (Station core) Climate). IsLeft core x.orders x.station e) both.0 all.0,
+        subst (λ (x : NodeWorker (Station core) Climate). IsLeft core x.orders x.station e) both.0 all.0,
         left_by orders works stations left both.1 all.1,
       )
 

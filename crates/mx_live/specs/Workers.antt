@@ -13,7 +13,7 @@ use Rattle.mx_stations.specs.declared.worker.Worked.TheVariants.{Done, NotYet, G
 use Rattle.mx_stations.specs.Turns.{Station}
 use Rattle.mx_stations.specs.Running.{fresh}
 use Rattle.mx_stations.specs.Works.{WorksAtMost, WorksFor}
-use Rattle.mx_live.specs.declared.threads.Worker.{Worker}
+use Rattle.mx_live.specs.declared.threads.NodeWorker.{NodeWorker}
 use Rattle.mx_live.specs.Stations.{AreAtRest}
 
 -- the weather (the source of fates) of the links to node i, whose seed is `seed` plus i, modulo
@@ -23,7 +23,7 @@ weather_of seed i = record { words = generator_of ((seed + i) % 2 ^ 64); lost = 
 
 -- the worker of a station, with these orders and with the weather of its own links
 abbrev pub worker_of : {S M : Type 0} → LiveOptions → Post (MemberState S) (Parcel M)
-    → Worker (Post (MemberState S) (Parcel M)) Climate
+    → NodeWorker (Post (MemberState S) (Parcel M)) Climate
 worker_of orders station =
     record {
       station = station;

@@ -13,4 +13,4 @@ pub use live_command::{live, run_live};
 pub use live_error::{LiveError, report_error};
 pub use live_text::add_journal;
 pub use node_runs::{gather_left, run_stations, stations_in};
-pub use threads::Ended;
+pub use threads::LeftStation;

@@ -1,17 +1,17 @@
 //! The command `live`: runs the nodes of a plan in threads, prints their merged journal, and
 //! returns the exit status.
 
-ghost use Rattle.std.specs.Prelude.{◌≡◌, ◌⊎◌, Option, false, length, IfErr, IfSome, OnErr, OnOk};
+ghost use Rattle.std.specs.Prelude.{◌≡◌, ◌⊎◌, ◌∷◌, [], Option, false, length, IfErr, IfSome, OnErr, OnOk};
 ghost use Rattle.std.specs.Io.KnownBytes.{Appends, Keeps};
 ghost use Rattle.mx_cli.specs.Table.{mx_app};
 ghost use Rattle.mx_cli.specs.Words.{texts_of};
 ghost use Rattle.mx_cli.specs.Requests.{AskNothing, request_asked, request_of};
-ghost use Rattle.mx_cli.specs.Reports.{Answers, Declines, seen};
-ghost use Rattle.mx_io.specs.Told.{Telling};
+ghost use Rattle.mx_cli.specs.Reports.{Declines, HelpsOrRefuses, seen};
+ghost use Rattle.mx_io.specs.Told.{Asks, Telling};
 ghost use Rattle.mx_live.specs.LiveErrors.{Fails};
 ghost use Rattle.mx_live.specs.Shown.{live_text};
-ghost use Rattle.mx_cli.specs.Reading.{IsPlanOf};
-ghost use Rattle.mx_live.specs.Lives.{Ends, Lives, LivesAs};
+ghost use Rattle.mx_cli.specs.Reading.{IsPlanTold};
+ghost use Rattle.mx_live.specs.Lives.{AsksLive, Ends, Lives, LivesAs};
 ghost use Rattle.mx_live.specs.Progress.{TellsProgress};
 
 use crate::live_error::{LiveError, report_error, unread_error};
@@ -39,10 +39,12 @@ pub fn live<R: Host, S: Source, O: Output, E: Output>(
     ensures lives { IfSome (request_asked (texts_of words.entry.now)) (λ request.
         LivesAs (S.told source.old) request (O.takes_all out.old) (E.takes_all err.old)
         (seen O.Output E.Output out.old err.old) (seen O.Output E.Output out.new err.new) result) }
-    ensures answers { Answers mx_app (texts_of words.entry.now) (O.takes_all out.old)
+    ensures answers { HelpsOrRefuses mx_app (texts_of words.entry.now) (O.takes_all out.old)
         (seen O.Output E.Output out.old err.old) (seen O.Output E.Output out.new err.new) result }
     ensures other { AskNothing (texts_of words.entry.now) → Declines
         (seen O.Output E.Output out.old err.old) (seen O.Output E.Output out.new err.new) result }
+    ensures asks { IfSome (request_asked (texts_of words.entry.now)) (λ request.
+        AsksLive request (S.asked source.old) (S.asked source.new)) }
 {
     match parse(alloc, words) {
         Ok(Some(request)) => carry_out(rt, alloc, &request, source, out, err),
@@ -59,9 +61,10 @@ fn carry_out<R: Host, S: Source, O: Output, E: Output>(
     out: &mut O,
     err: &mut E,
 ) -> u8
-    ensures { LivesAs (S.told source.old) (request_of request.now)
+    ensures lives { LivesAs (S.told source.old) (request_of request.now)
         (O.takes_all out.old) (E.takes_all err.old)
         (seen O.Output E.Output out.old err.old) (seen O.Output E.Output out.new err.new) result }
+    ensures asks { AsksLive (request_of request.now) (S.asked source.old) (S.asked source.new) }
 {
     match request {
         Request::Task(files, Task::Live(options)) => {
@@ -85,6 +88,7 @@ pub fn run_live<R: Host, S: Source, O: Output, E: Output>(
     ensures lives { Lives (O.takes_all out.old) (E.takes_all err.old)
         (S.told source.old plan.now) plan.now options.now
         (seen O.Output E.Output out.old err.old) (seen O.Output E.Output out.new err.new) result }
+    ensures asks { Asks (S.asked source.old) (S.asked source.new) (plan.now ∷ []) }
 {
     match live_and_show(rt, alloc, plan, options, source, out, err) {
         Ok(()) => 0,
@@ -106,6 +110,7 @@ fn live_and_show<R: Host, S: Source, O: Output, E: Output>(
     ensures progress { TellsProgress options.now.progress
         (E.written err.old) (E.written err.new) }
     ensures stays { E.takes_all err.new ≡ E.takes_all err.old }
+    ensures asks { Asks (S.asked source.old) (S.asked source.new) (plan.now ∷ []) }
 {
     match fetch_plan(alloc, source, plan, Needs::All) {
         Ok(plan) => live_plan(rt, alloc, &plan, options, out, err),
@@ -121,7 +126,7 @@ fn live_plan<R: Host, O: Output, E: Output>(
     out: &mut O,
     err: &mut E,
 ) -> Result<(), LiveError>
-    ensures ends { (told : Option Telling) → IsPlanOf told plan.now
+    ensures ends { (told : Option Telling) → IsPlanTold told plan.now
         → Ends (O.takes_all out.old) told options.now
         (O.written out.old) (O.written out.new) (O.keeps_back out.new) result }
     ensures progress { TellsProgress options.now.progress

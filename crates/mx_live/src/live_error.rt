@@ -3,7 +3,7 @@
 ghost use Rattle.std.specs.Prelude.{◌≡◌, Some};
 ghost use Rattle.mx_live.specs.LiveErrors.{ReportsError, error_line, error_status, unread_error};
 
-use mx_cli::{Fault, FaultLine, Names, Stop, report_memory, write_line};
+use mx_cli::{Fault, FaultLine, FileNames, Stop, report_memory, write_line};
 use mx_io::{Output, OutputFault};
 use mx_jobs::StartFault;
 use std::alloc::{AllocError, Global};
@@ -119,7 +119,7 @@ fn fault_line<'a>(fault: Fault, plan: &'a str) -> FaultLine<'a>
     ensures plan { result.names.plan.now ≡ plan.now }
     ensures events { result.names.events.now ≡ plan.now }
 {
-    let names = Names { plan, events: plan };
+    let names = FileNames { plan, events: plan };
     FaultLine { fault, names }
 }
 

@@ -11,7 +11,7 @@ ghost use Rattle.mx_live.specs.Workers.{AreDone, AreLeft, stations_of};
 
 use crate::live_error::LiveError;
 use crate::progress::report_if_asked;
-use crate::threads::{Ended, join_all, start_all};
+use crate::threads::{LeftStation, join_all, start_all};
 use mx_cli::LiveOptions;
 use mx_io::Output;
 use mx_jobs::Host;
@@ -117,7 +117,7 @@ pub fn run_stations<C: Exclusion + Send + 'static, R: Host, E: Output>(
     stations: Vec<Station<C>>,
     options: &LiveOptions,
     err: &mut E,
-) -> Result<Vec<Ended<C>>, LiveError>
+) -> Result<Vec<LeftStation<C>>, LiveError>
 where
     C::Msg: Send + 'static,
     C::Shape: Send + 'static,
@@ -136,7 +136,10 @@ where
 
 /// Gathers the journals and receipts of the stations that the workers left, if all workers are
 /// done. Otherwise returns the error of the first worker that is not done.
-pub fn gather_left<C: Exclusion>(alloc: Global, left: Vec<Ended<C>>) -> Result<Gathered, LiveError>
+pub fn gather_left<C: Exclusion>(
+    alloc: Global,
+    left: Vec<LeftStation<C>>,
+) -> Result<Gathered, LiveError>
     requires { OfOneTable (stations_of left.items) }
     ensures serial { IfOk result (λ all. AreSerial all.receipts.items all.journal) }
     ensures done { IfOk result (λ all. AreDone left.items) }
@@ -155,7 +158,7 @@ pub fn gather_left<C: Exclusion>(alloc: Global, left: Vec<Ended<C>>) -> Result<G
 
 fn only_stations<C: Exclusion>(
     alloc: Global,
-    left: Vec<Ended<C>>,
+    left: Vec<LeftStation<C>>,
 ) -> Result<Vec<Station<C>>, AllocError>
     ensures { IfOk result (λ all. all.items ≡ stations_of left.items) }
 {

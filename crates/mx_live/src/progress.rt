@@ -3,7 +3,7 @@
 ghost use Rattle.std.specs.Prelude.{◌≡◌, ℕ, Some};
 ghost use Rattle.mx_live.specs.Progress.{Progresses, TellsProgress, progress_line};
 
-use crate::threads::Workers;
+use crate::threads::NodeWorkers;
 use mx_cli::write_line;
 use mx_io::Output;
 use mx_nodelaws::Exclusion;
@@ -33,7 +33,7 @@ pub(crate) fn report_if_asked<C: Exclusion, K: Clock, R, E: Output>(
     alloc: Global,
     asked: bool,
     watch: Option<Watch<C>>,
-    workers: &Workers<C, R>,
+    workers: &NodeWorkers<C, R>,
     err: &mut E,
 )
     ensures progress { TellsProgress asked (E.written err.old) (E.written err.new) }
@@ -53,7 +53,7 @@ fn report_progress<C: Exclusion, K: Clock, R, E: Output>(
     clock: &K,
     alloc: Global,
     watch: &Watch<C>,
-    workers: &Workers<C, R>,
+    workers: &NodeWorkers<C, R>,
     err: &mut E,
 )
     ensures progress { (shown : ℕ) × Progresses shown (E.written err.old) (E.written err.new) }
@@ -70,7 +70,7 @@ fn report_progress<C: Exclusion, K: Clock, R, E: Output>(
 }
 
 /// Waits for a second, or until all workers have ended. Returns whether they have.
-fn is_over<C: Exclusion, K: Clock, R>(clock: &K, workers: &Workers<C, R>) -> bool {
+fn is_over<C: Exclusion, K: Clock, R>(clock: &K, workers: &NodeWorkers<C, R>) -> bool {
     for _look in 0..LOOKS_A_SECOND {
         if workers.has_ended() {
             return true;

@@ -22,23 +22,23 @@ const LOST: u16 = 16;
 const DOUBLED: u16 = 16;
 
 /// What a worker leaves: its station, and how it ended.
-pub type Ended<C> = (Station<C>, Worked);
+pub type LeftStation<C> = (Station<C>, Worked);
 
 /// A station and its orders, with the fates of the parcels to its node.
 #[derive(Drop)]
-pub(crate) struct Worker<S, F> {
+pub(crate) struct NodeWorker<S, F> {
     station: S,
     orders: LiveOptions,
     fates: F,
 }
 
-impl<C: Exclusion, F: Fates + Drop> Work<Ended<C>> for Worker<Station<C>, F> {
+impl<C: Exclusion, F: Fates + Drop> Work<LeftStation<C>> for NodeWorker<Station<C>, F> {
     ghost use Rattle.mx_live.specs.Workers.{IsLeft};
 
     ghost leads = { λ worker ended. IsLeft C.core worker.orders worker.station ended };
 
-    fn run<R: Wait + Clock>(self, gate: &StartGate<R>) -> Ended<C> {
-        let Worker {
+    fn run<R: Wait + Clock>(self, gate: &StartGate<R>) -> LeftStation<C> {
+        let NodeWorker {
             station,
             orders,
             fates,
@@ -54,7 +54,7 @@ impl<C: Exclusion, F: Fates + Drop> Work<Ended<C>> for Worker<Station<C>, F> {
     }
 }
 
-pub(crate) type Workers<C, R> = ThreadGroup<Ended<C>, Worker<Station<C>, Weather>, R>;
+pub(crate) type NodeWorkers<C, R> = ThreadGroup<LeftStation<C>, NodeWorker<Station<C>, Weather>, R>;
 
 fn weather_at(seed: u64, node: NodeId) -> Weather
     ensures { result ≡ weather_of seed node }
@@ -70,7 +70,7 @@ pub(crate) fn start_all<C: Exclusion + Send + 'static, R: Host>(
     nodes: u8,
     stations: Vec<Station<C>>,
     orders: LiveOptions,
-) -> Result<Workers<C, R>, AllocError>
+) -> Result<NodeWorkers<C, R>, AllocError>
 where
     C::Msg: Send + 'static,
     C::Shape: Send + 'static,
@@ -80,7 +80,7 @@ where
     let mut group = ThreadGroup::new(rt, alloc, nodes, stations.len())?;
     for station in stations {
         let fates = weather_at(orders.seed, station.node());
-        let worker = Worker {
+        let worker = NodeWorker {
             station,
             orders,
             fates,
@@ -93,8 +93,8 @@ where
 /// Waits until all workers have ended. If one got no thread, returns why, and drops what they left.
 pub(crate) fn join_all<C: Exclusion + Send + 'static, R: Host>(
     rt: &R,
-    workers: Workers<C, R>,
-) -> Result<Vec<Ended<C>>, StartFault>
+    workers: NodeWorkers<C, R>,
+) -> Result<Vec<LeftStation<C>>, StartFault>
 where
     C::Msg: Send + 'static,
     C::Shape: Send + 'static,

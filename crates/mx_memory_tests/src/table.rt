@@ -111,6 +111,7 @@ pub(crate) const TABLE: [(&str, Call, &[Row]); 48] = [
     ("Member::receive", Receive, &PARCELS),
     ("Member::deliver", Deliver, &KNOWN),
     ("Member::receive", Receive, &KNOWN),
+    // room and a merge are asked of the cluster that the call before them left
     ("Cluster::step", Step, &[ELEVEN]),
     ("Cluster::make_room", MakeRoom, &[Nothing]),
     ("Cluster::merged", Merged, &[Nothing]),

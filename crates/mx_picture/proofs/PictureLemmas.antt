@@ -18,8 +18,8 @@ use Rattle.mx_driver.specs.Jobs.{run_by}
 use Rattle.mx_driver.specs.Viewed.{IsFound, node_in}
 use Rattle.mx_picture.specs.declared.opening.Frame.{Frame}
 use Rattle.mx_picture.specs.Drawn.{IsPage, IsPicture, names_text, opening_line, trace_title}
-use Rattle.mx_picture.specs.Pictures.{IsDrawn, IsPictured, IsPicturedBy, IsRunDrawn, IsRunDrawnOn, IsUnknown, part_on}
-use Rattle.mx_picture.specs.declared.part.Part.{Part as Shown}
+use Rattle.mx_picture.specs.Pictures.{DrawsEvents, IsPictured, IsPicturedBy, IsRunDrawn, IsRunDrawnOn, IsUnknown, part_on}
+use Rattle.mx_picture.specs.declared.part.ShownPart.{ShownPart as Shown}
 
 -- a text to which each part of a page was appended
 pub page_is : (title : Text) (frame : Frame) (body t t1 t2 t3 t4 : Text) → t ≡ [] → t1 ≡ t ++ opening_line frame → t2 ≡ t1 ++ title
@@ -47,22 +47,22 @@ never_refused r (inr shown) = let bad : true ≡ false = shown.2.0 in cc
 
 module _ (p : Fields) (es : List Event) where
   -- a run that ends well
-  pub run_drawn : (r : Report) (status : ℕ) (picture : Text) → Prints (IsReport r) null_output null_output (Ok status) → IsPicture p (length es) picture → IsDrawn p es r.end (whole picture 0)
-  run_drawn r status picture h is = subst (λ (end : End). IsDrawn p es end (whole picture 0)) (sym (silent_end r (has_status status) h.shows)) (picture, is, refl)
+  pub run_drawn : (r : Report) (status : ℕ) (picture : Text) → Prints (IsReport r) null_output null_output (Ok status) → IsPicture p (length es) picture → DrawsEvents p es r.end (whole picture 0)
+  run_drawn r status picture h is = subst (λ (end : End). DrawsEvents p es end (whole picture 0)) (sym (silent_end r (has_status status) h.shows)) (picture, is, refl)
 
   module _ (o : Sight) where
     -- a fault that is known
-    pub fault_drawn : (end : End) (fault : Fault) → end ≡ has_fault fault → Prints (IsDrawn p es end) o o (Err (stop.Fault fault))
-    fault_drawn end fault is = fault_prints (IsDrawn p es end) fault o (subst (λ (e : End). IsDrawn p es e (ends (has_fault fault))) (sym is) refl)
+    pub fault_drawn : (end : End) (fault : Fault) → end ≡ has_fault fault → Prints (DrawsEvents p es end) o o (Err (stop.Fault fault))
+    fault_drawn end fault is = fault_prints (DrawsEvents p es end) fault o (subst (λ (e : End). DrawsEvents p es e (ends (has_fault fault))) (sym is) refl)
 
     -- a run that stops
-    pub run_stops : (r : Report) (s : Stop) → Prints (IsReport r) null_output null_output (Err s) → Prints (IsDrawn p es r.end) o o (Err s)
+    pub run_stops : (r : Report) (s : Stop) → Prints (IsReport r) null_output null_output (Err s) → Prints (DrawsEvents p es r.end) o o (Err s)
     run_stops r (stop.Fault fault) h = fault_drawn r.end fault (silent_end r (has_fault fault) h.shows)
     run_stops r (stop.Line line) h =
-        line_prints (IsDrawn p es r.end) (string_bytes line) o (stop.Line line)
-        (subst (λ (e : End). IsDrawn p es e (ends (has_line (string_bytes line)))) (sym (silent_end r (has_line (string_bytes line)) h.shows)) refl) refl
+        line_prints (DrawsEvents p es r.end) (string_bytes line) o (stop.Line line)
+        (subst (λ (e : End). DrawsEvents p es e (ends (has_line (string_bytes line)))) (sym (silent_end r (has_line (string_bytes line)) h.shows)) refl) refl
     run_stops r stop.Writer h = absurd (never_refused r h.shows)
-    run_stops r stop.Memory h = memory_prints (IsDrawn p es r.end) o
+    run_stops r stop.Memory h = memory_prints (DrawsEvents p es r.end) o
 
 -- what holds of a part holds where a node was found, or none was named
 module _ (Is : Option (Option ℕ) → Type 0) (part : Part) (only_letters : Bool) (shown : Shown) where
@@ -81,7 +81,7 @@ module _ (P : Report → Type 0) (p : Fields) (name : Option Text) (o : Sight) w
 
 module _ (part : Part) (p : Fields) (es : List Event) where
   -- part of a run is drawn
-  pub part_drawn : (only_letters : Bool) (shown : Shown) → option_map (part_on part only_letters) (node_in p part.node) ≡ Some shown → (r : Report) → IsDrawn p es (run_by p p.shape es).end r
+  pub part_drawn : (only_letters : Bool) (shown : Shown) → option_map (part_on part only_letters) (node_in p part.node) ≡ Some shown → (r : Report) → DrawsEvents p es (run_by p p.shape es).end r
       → IsRunDrawn part p es r
   part_drawn only_letters shown is r h =
       with_part (λ n. IsRunDrawnOn p es n r) part only_letters shown (λ node. h) (node_in p part.node) is

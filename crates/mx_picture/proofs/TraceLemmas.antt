@@ -10,13 +10,13 @@ use Rattle.mx_explorer.specs.declared.verdict.Clause.{Clause}
 use Rattle.mx_explorer.specs.declared.verdict.Verdict.{Verdict}
 use Rattle.mx_explorer.specs.declared.verdict.Verdict.TheVariants.{Broken}
 use Rattle.mx_judge.specs.Faults.{IsFaultReport}
-use Rattle.mx_judge.specs.Listed.{Listed, place_of}
+use Rattle.mx_judge.specs.Listed.{ReadTrace, place_of}
 use Rattle.mx_judge.specs.Reasons.{reason_at, reason_for}
 use Rattle.mx_judge.specs.Traces.{place_word, trace_at}
-use Rattle.mx_picture.specs.Marks.{Mark, marked_by, why_text}
+use Rattle.mx_picture.specs.Marks.{EventMark, marked_by, why_text}
 use Rattle.mx_picture.specs.Pictures.{IsUnknown, part_on}
 use Rattle.mx_picture.specs.TracePictures.{IsTraceDrawn, IsTracePictured, IsTracePicturedBy, IsTraceShown}
-use Rattle.mx_picture.specs.declared.part.Part.{Part as Shown}
+use Rattle.mx_picture.specs.declared.part.ShownPart.{ShownPart as Shown}
 use Rattle.mx_picture.proofs.PictureLemmas.{with_part}
 
 -- what holds of the value of a result, or of its error
@@ -29,9 +29,9 @@ module _ {T E : Type 0} (P : T → Type 0) (Q : E → Type 0) (x : Result T E) w
 
 module _ (p : Fields) (text : Text) where
   -- a report on the trace that was read
-  pub drawn_read : (word : Text) (t : Listed) → trace_at p text ≡ Ok t → word ≡ place_word text → (r : Report) → IsTraceShown p word t r → IsTraceDrawn p text r
+  pub drawn_read : (word : Text) (t : ReadTrace) → trace_at p text ≡ Ok t → word ≡ place_word text → (r : Report) → IsTraceShown p word t r → IsTraceDrawn p text r
   drawn_read word t read same r h =
-      match_ok (λ (t : Listed). IsTraceShown p (place_word text) t r) (λ fault. IsFaultReport fault r) (trace_at p text) t read (subst (λ (w : Text). IsTraceShown p w t r) same h)
+      match_ok (λ (t : ReadTrace). IsTraceShown p (place_word text) t r) (λ fault. IsFaultReport fault r) (trace_at p text) t read (subst (λ (w : Text). IsTraceShown p w t r) same h)
 
   module _ (part : Part) where
     -- part of a trace is drawn
@@ -43,10 +43,10 @@ module _ (p : Fields) (text : Text) where
     unknown r none is = subst (λ (n : Option (Option ℕ)). IsTracePicturedBy n p text r) (sym none) is
 
 -- the mark of a broken trace, from the parts of its text
-pub marked_is : (p : Fields) (word : Text) (t : Listed) (k : ℕ) (clause : Clause) (verdict : Verdict) (why : Text) (place : ℕ) (reason : Text) → verdict ≡ Broken k clause
+pub marked_is : (p : Fields) (word : Text) (t : ReadTrace) (k : ℕ) (clause : Clause) (verdict : Verdict) (why : Text) (place : ℕ) (reason : Text) → verdict ≡ Broken k clause
     → why ≡ why_text clause word place reason → place ≡ place_of t k → reason ≡ reason_for p t.entries verdict → Some (record { index = k; why = why }) ≡ marked_by p word t verdict
 marked_is p word t k clause verdict why place reason broken is there given =
-    let mark : Text → Option Mark = λ s. Some (record { index = k; why = s }) in
+    let mark : Text → Option EventMark = λ s. Some (record { index = k; why = s }) in
     let known : reason ≡ reason_at p t.entries k clause = subst (λ (v : Verdict). reason ≡ reason_for p t.entries v) broken given in
     let whole = is ∙ ap (λ (n : ℕ). why_text clause word n reason) there ∙ ap (λ (s : Text). why_text clause word (place_of t k) s) known in
     subst (λ (v : Verdict). mark why ≡ marked_by p word t v) (sym broken) (ap mark whole)

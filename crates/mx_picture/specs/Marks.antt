@@ -8,14 +8,14 @@ use Rattle.mx_explorer.specs.declared.verdict.Clause.{Clause}
 use Rattle.mx_explorer.specs.declared.verdict.Verdict.{Verdict}
 use Rattle.mx_explorer.specs.declared.verdict.Verdict.TheVariants.{Sound, Broken}
 use Rattle.mx_driver.specs.VerdictLines.{clause_text}
-use Rattle.mx_judge.specs.Listed.{Listed, place_of}
+use Rattle.mx_judge.specs.Listed.{ReadTrace, place_of}
 use Rattle.mx_judge.specs.Reasons.{reason_at}
 use Rattle.mx_picture.specs.declared.marked.Marked.{Marked}
-use Rattle.mx_picture.specs.declared.part.Part.{Part}
+use Rattle.mx_picture.specs.declared.part.ShownPart.{ShownPart}
 
 -- ---- events shown
 
-abbrev pub shows_index : Part → ℕ → Bool
+abbrev pub shows_index : ShownPart → ℕ → Bool
 shows_index part k = nat_le part.from k && nat_le k part.to
 
 -- all nodes are shown, or only this one
@@ -30,22 +30,22 @@ shows_event shown (Some node) = shows_node shown node
 
 -- the k-th event is shown; it may be near, which is to send or deliver a parcel from or to a
 -- shown node
-abbrev pub is_shown : Part → ℕ → Event → Bool → Bool
+abbrev pub is_shown : ShownPart → ℕ → Event → Bool → Bool
 is_shown part k event is_near =
     shows_index part k && (is_near || shows_event part.node (node_of event))
 
 -- ---- the event that is marked
 
 -- the index of an event, and why it is marked
-pub record Mark : Type 0 where
+pub record EventMark : Type 0 where
   pub index : ℕ
   pub why : Text
 
-abbrev pub mark_of : Marked → Mark
+abbrev pub mark_of : Marked → EventMark
 mark_of marked = record { index = marked.index; why = string_bytes marked.why }
 
 -- why the k-th event is marked, if it is
-abbrev pub why_at : ℕ → Mark → Option Text
+abbrev pub why_at : ℕ → EventMark → Option Text
 why_at k mark = if mark.index == k then Some mark.why else None
 
 -- which rule an event breaks, by its name, its place in the text of the trace, and why it breaks
@@ -58,7 +58,7 @@ abbrev pub why_text : Clause → Text → ℕ → Text → Text
 why_text clause = why_of (clause_text clause)
 
 -- the mark of a trace with this verdict: the first event that breaks a rule
-abbrev pub marked_by : Fields → Text → Listed → Verdict → Option Mark
+abbrev pub marked_by : Fields → Text → ReadTrace → Verdict → Option EventMark
 marked_by p word t Sound = None
 marked_by p word t (Broken k clause) =
     Some

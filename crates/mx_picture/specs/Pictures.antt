@@ -12,7 +12,7 @@ use Rattle.mx_cli.specs.declared.stop.Stop.{Stop}
 use Rattle.mx_driver.specs.Jobs.{run_by}
 use Rattle.mx_driver.specs.Viewed.{IsFound, IsUnknownLine, node_in}
 use Rattle.mx_picture.specs.Drawn.{IsPicture}
-use Rattle.mx_picture.specs.declared.part.Part.{Part as Shown}
+use Rattle.mx_picture.specs.declared.part.ShownPart.{ShownPart as Shown}
 
 -- the part that is shown: of this node, or of all
 abbrev pub part_on : Part → Bool → Option ℕ → Shown
@@ -31,14 +31,14 @@ abbrev pub IsUnknown : Report → Type 0
 IsUnknown r = (line : Text) × IsUnknownLine line × (r ≡ ends (has_line line))
 
 -- a picture of these events and status 0, if they end well; else their end alone
-abbrev pub IsDrawn : Fields → List Event → End → Report → Type 0
-IsDrawn p es (has_status status) r =
+abbrev pub DrawsEvents : Fields → List Event → End → Report → Type 0
+DrawsEvents p es (has_status status) r =
     (picture : Text) × IsPicture p (length es) picture × IsWhole picture 0 r
-IsDrawn p es end r = r ≡ ends end
+DrawsEvents p es end r = r ≡ ends end
 
 -- the same of a replay of these events, of a node that the plan has, or of all
 abbrev pub IsRunDrawnOn : Fields → List Event → Option (Option ℕ) → Report → Type 0
-IsRunDrawnOn p es (Some _) r = IsDrawn p es (run_by p p.shape es).end r
+IsRunDrawnOn p es (Some _) r = DrawsEvents p es (run_by p p.shape es).end r
 IsRunDrawnOn p es None r = IsUnknown r
 
 abbrev pub IsRunDrawn : Part → Fields → List Event → Report → Type 0

@@ -9,14 +9,14 @@ use Rattle.mx_cli.specs.Requests.{Part}
 use Rattle.mx_driver.specs.Viewed.{node_in}
 use Rattle.mx_judge.specs.Faults.{IsFaultReport}
 use Rattle.mx_judge.specs.Judged.{IsVerdictOf, judgement_text}
-use Rattle.mx_judge.specs.Listed.{Listed}
+use Rattle.mx_judge.specs.Listed.{ReadTrace}
 use Rattle.mx_judge.specs.Traces.{place_word, trace_at}
 use Rattle.mx_picture.specs.Drawn.{IsTracePicture}
 use Rattle.mx_picture.specs.Pictures.{IsUnknown}
 
 -- the picture of a trace, whose title has what `judge` prints of the trace, with the status of its
 -- verdict
-abbrev pub IsTraceShown : Fields → Text → Listed → Report → Type 0
+abbrev pub IsTraceShown : Fields → Text → ReadTrace → Report → Type 0
 IsTraceShown p word t r =
     (verdict : Verdict) × IsVerdictOf t.entries verdict × (picture : Text)
     × IsTracePicture p (judgement_text false p word t verdict) picture

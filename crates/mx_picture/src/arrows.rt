@@ -24,7 +24,7 @@ const LONG_NODES: u8 = 6;
 
 /// What of a parcel's arrow is drawn. It is dashed if the parcel was delivered before.
 #[derive(Clone, Copy, PartialEq)]
-pub(crate) enum End {
+pub(crate) enum ArrowEnd {
     /// All, to the delivery this many pixels down.
     Whole { is_repeat: bool, down: u64 },
     /// The start: the delivery is not shown.
@@ -37,11 +37,11 @@ pub(crate) enum End {
     Open,
 }
 
-impl End {
+impl ArrowEnd {
     /// Returns whether a delivered parcel's arrow is long or begins in a row that is not shown.
     pub(crate) fn is_far(self, route: Route) -> bool {
         match self {
-            End::Whole { down, .. } => {
+            ArrowEnd::Whole { down, .. } => {
                 down >= LONG || route.from.get().abs_diff(route.to.get()) >= LONG_NODES
             }
             _ => true,
@@ -57,7 +57,7 @@ pub(crate) struct Arrow {
     pub(crate) flight: u64,
     pub(crate) route: Route,
     pub(crate) y: u64,
-    pub(crate) end: End,
+    pub(crate) end: ArrowEnd,
     /// The title, escaped.
     pub(crate) title: String,
 }
@@ -69,9 +69,9 @@ impl Arrow {
         let Route { from, to, .. } = self.route;
         let x = columns.x_of(from).saturating_add(SHIFT);
         let (to, end, down) = match (self.end, self.route.side()) {
-            (End::Loss { down }, Side::Left) => (from, x.saturating_sub(ASIDE), down),
-            (End::Loss { down }, Side::Right) => (from, x.saturating_add(ASIDE), down),
-            (End::Whole { down, .. }, _) => (to, columns.x_of(to).saturating_add(SHIFT), down),
+            (ArrowEnd::Loss { down }, Side::Left) => (from, x.saturating_sub(ASIDE), down),
+            (ArrowEnd::Loss { down }, Side::Right) => (from, x.saturating_add(ASIDE), down),
+            (ArrowEnd::Whole { down, .. }, _) => (to, columns.x_of(to).saturating_add(SHIFT), down),
             _ => (to, columns.x_of(to).saturating_add(SHIFT), 0),
         };
         let aside = if end == x { BOW } else { 0 };
@@ -95,7 +95,7 @@ impl Arrow {
     pub(crate) fn add_to(&self, columns: &Columns, text: &mut String) -> Result<(), AllocError> {
         self.add_path(columns, text)?;
         let tag = match self.end {
-            End::Loss { .. } => "g",
+            ArrowEnd::Loss { .. } => "g",
             _ => "path",
         };
         write!(text, "<title>{}</title></{tag}>\n", self.title)
@@ -109,24 +109,25 @@ impl Arrow {
         let to = columns.x_of(self.route.to);
         let y = self.y;
         let again = match self.end {
-            End::Whole { is_repeat, .. } | End::Delivery { is_repeat } if is_repeat => " again",
+            ArrowEnd::Whole { is_repeat, .. } | ArrowEnd::Delivery { is_repeat } if is_repeat =>
+                " again",
             _ => "",
         };
         match self.end {
-            End::Whole { down, .. } => {
+            ArrowEnd::Whole { down, .. } => {
                 write!(text, "<path class=\"{class}{again}\" d=\"M{from} {y}")?;
                 add_way(from, to, down, text)?;
                 write!(text, "\" marker-end=\"url(#{class})\">")
             }
-            End::Sending | End::Open => write!(
+            ArrowEnd::Sending | ArrowEnd::Open => write!(
                 text,
                 "<path class=\"{class}\" d=\"M{from} {y}l{aside}{ASIDE} {ROW}\">"
             ),
-            End::Delivery { .. } => write!(
+            ArrowEnd::Delivery { .. } => write!(
                 text,
                 "<path class=\"{class}{again}\" d=\"M{to} {y}m{back}{ASIDE}-{ROW}l{aside}{ASIDE} {ROW}\" marker-end=\"url(#{class})\">"
             ),
-            End::Loss { down } => {
+            ArrowEnd::Loss { down } => {
                 write!(
                     text,
                     "<g class=\"lost\"><path d=\"M{from} {y}l{aside}{ASIDE} {down}\"/>"

@@ -5,14 +5,14 @@ ghost use Rattle.mx_cli.specs.Printing.{Prints, sight};
 ghost use Rattle.mx_cli.specs.Requests.{part_of};
 ghost use Rattle.mx_driver.specs.Jobs.{run_by};
 ghost use Rattle.mx_driver.specs.Runs.{AllNameNodes};
-ghost use Rattle.mx_picture.specs.Pictures.{IsDrawn, IsPartOf, IsPictured, IsRunDrawn};
+ghost use Rattle.mx_picture.specs.Pictures.{DrawsEvents, IsPartOf, IsPictured, IsRunDrawn};
 ghost use Rattle.mx_scripts.specs.Printed.{IsOnScript};
 
 use crate::drawing::Drawing;
 use crate::losses::Losses;
 use crate::opening::Title;
 use crate::page::page_of;
-use crate::part::Part;
+use crate::part::ShownPart;
 use mx_cli::{Command, PicturePart, Stop, print};
 use mx_driver::{node_in, observe};
 use mx_io::Output;
@@ -108,11 +108,11 @@ pub(crate) fn part_of(
     plan: &Plan,
     named: &PicturePart<'_>,
     only_letters: bool,
-) -> Result<Part, Stop>
+) -> Result<ShownPart, Stop>
     ensures { IsPartOf plan.now (part_of named.now) only_letters result }
 {
     match node_in(alloc, plan, named.node) {
-        Ok(node) => Ok(Part {
+        Ok(node) => Ok(ShownPart {
             from: named.from,
             to: named.to,
             node,
@@ -125,13 +125,13 @@ pub(crate) fn part_of(
 fn print_picture<O: Output>(
     alloc: Global,
     plan: &Plan,
-    part: &Part,
+    part: &ShownPart,
     events: &[Event],
     losses: Losses,
     out: &mut O,
 ) -> Result<u8, Stop>
     requires { AllNameNodes (length plan.now.nodes) events.now }
-    ensures prints { Prints (IsDrawn plan.now events.now
+    ensures prints { Prints (DrawsEvents plan.now events.now
         (run_by plan.now plan.now.shape events.now).end)
         (sight O.Output out.old) (sight O.Output out.new) result }
 {

@@ -3,9 +3,9 @@
 ghost use Rattle.mx_driver.specs.Runs.{silent};
 
 use crate::losses::{Loss, Losses};
-use crate::part::Part;
-use crate::rows::{Rows, Step};
-use crate::sent::{Source, find_all};
+use crate::part::ShownPart;
+use crate::rows::{PictureRows, Step};
+use crate::sent::{Drawable, find_all};
 use mx_driver::{Sink, newest};
 use mx_format::Letter;
 use mx_network::{Cluster, Event};
@@ -15,7 +15,7 @@ use std::alloc::{AllocError, Global};
 
 #[derive(Drop)]
 pub(crate) struct Drawing<'a> {
-    pub(crate) rows: Rows<'a>,
+    pub(crate) rows: PictureRows<'a>,
     losses: Vec<Loss>,
     /// How many losses have been drawn.
     drawn: usize,
@@ -27,14 +27,14 @@ impl<'a> Drawing<'a> {
         plan: &'a Plan,
         events: &[Event],
         losses: Losses,
-        part: &Part,
+        part: &ShownPart,
     ) -> Result<Self, AllocError> {
         let Losses { list, mut fates } = losses;
         for event in events {
             fates.expect(event)?;
         }
         Ok(Drawing {
-            rows: Rows::new(alloc, plan, part, fates),
+            rows: PictureRows::new(alloc, plan, part, fates),
             losses: list,
             drawn: 0,
         })

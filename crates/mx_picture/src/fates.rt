@@ -28,7 +28,7 @@ pub(crate) enum Fate {
 
 /// What is known of the fates of parcels.
 #[derive(Drop)]
-pub(crate) struct Fates {
+pub(crate) struct KnownFates {
     /// By the numbers of parcels: `Arrives` or `Lost`.
     known: HashMap<u64, Fate>,
     /// For each link, the greatest flight that was delivered so far, or 0.
@@ -42,11 +42,11 @@ fn link(from: NodeId, to: NodeId) -> usize
     usize::from(from.get()) * usize::from(MAX_NODES) + usize::from(to.get())
 }
 
-impl Fates {
+impl KnownFates {
     pub(crate) fn new(alloc: Global) -> Self
         ensures { result.newest ≡ none_delivered }
     {
-        Fates {
+        KnownFates {
             known: HashMap::new(alloc),
             newest: [0; LINKS],
         }

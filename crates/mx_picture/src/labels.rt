@@ -119,7 +119,7 @@ impl Label {
 /// Texts as SVG, and how far they extend to the left and to the right of the first node's line, in
 /// pixels, without the gaps between texts and nodes.
 #[derive(Drop)]
-pub(crate) struct Texts {
+pub(crate) struct LabelTexts {
     pub(crate) svg: String,
     pub(crate) left: u64,
     pub(crate) right: u64,
@@ -127,9 +127,9 @@ pub(crate) struct Texts {
 
 impl Sheet {
     /// Returns the texts beside nodes, each on its side.
-    pub(crate) fn texts(&self, columns: &Columns) -> Result<Texts, AllocError> {
+    pub(crate) fn texts(&self, columns: &Columns) -> Result<LabelTexts, AllocError> {
         let mut sides = self.sides(columns)?;
-        let mut texts = Texts {
+        let mut texts = LabelTexts {
             svg: String::new(self.alloc),
             left: 0,
             right: 0,

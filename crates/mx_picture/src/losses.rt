@@ -1,6 +1,6 @@
 //! The parcels that a script loses.
 
-use crate::fates::Fates;
+use crate::fates::KnownFates;
 use mx_nodelaws::Exclusion;
 use mx_plan::Plan;
 use mx_scripts::{Recorder, SessionEvent, State};
@@ -18,14 +18,14 @@ pub(crate) struct Loss {
 #[derive(Drop)]
 pub(crate) struct Losses {
     pub(crate) list: Vec<Loss>,
-    pub(crate) fates: Fates,
+    pub(crate) fates: KnownFates,
 }
 
 impl Losses {
     pub(crate) fn new(alloc: Global) -> Self {
         Losses {
             list: Vec::new(alloc),
-            fates: Fates::new(alloc),
+            fates: KnownFates::new(alloc),
         }
     }
 }

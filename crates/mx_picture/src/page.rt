@@ -3,12 +3,12 @@
 ghost use Rattle.std.specs.Prelude.{string_bytes, IfOk};
 ghost use Rattle.mx_picture.specs.Drawn.{IsPage, title_text};
 
-use crate::arrows::End;
+use crate::arrows::ArrowEnd;
 use crate::columns::Columns;
-use crate::labels::Texts;
+use crate::labels::LabelTexts;
 use crate::legend::{LOSSES, Legend, MARKS, NOTHING, RUN, STYLES, TRACE};
 use crate::opening::{Frame, Title, algorithm_of, title_of};
-use crate::rows::Rows;
+use crate::rows::PictureRows;
 use crate::sheet::Sheet;
 use crate::text::width_of;
 use mx_explorer::Verdict;
@@ -51,7 +51,11 @@ struct Body {
 }
 
 /// Returns the page with this title, which has its lines from the second on, and these rows.
-pub(crate) fn page_of(plan: &Plan, title: &Title<'_>, rows: &Rows<'_>) -> Result<String, AllocError>
+pub(crate) fn page_of(
+    plan: &Plan,
+    title: &Title<'_>,
+    rows: &PictureRows<'_>,
+) -> Result<String, AllocError>
     ensures { IfOk result (λ page. IsPage (title_text plan.now title.now) (string_bytes page)) }
 {
     let alloc = rows.sheet.alloc;
@@ -65,7 +69,7 @@ pub(crate) fn page_of(plan: &Plan, title: &Title<'_>, rows: &Rows<'_>) -> Result
     Ok(text)
 }
 
-fn body_of(rows: &Rows<'_>, title: &Title<'_>) -> Result<Body, AllocError> {
+fn body_of(rows: &PictureRows<'_>, title: &Title<'_>) -> Result<Body, AllocError> {
     let sheet = &rows.sheet;
     let heading = heading_of(rows, title)?;
     let (legend, more) = legends_of(sheet, title);
@@ -87,7 +91,7 @@ fn body_of(rows: &Rows<'_>, title: &Title<'_>) -> Result<Body, AllocError> {
 
 /// Returns the positions of the nodes' lines. In a part of a run, only nodes that act or receive get
 /// a line, or all if there are none.
-fn columns_of(rows: &Rows<'_>) -> Columns {
+fn columns_of(rows: &PictureRows<'_>) -> Columns {
     let part = &rows.part;
     let sheet = &rows.sheet;
     let is_whole = part.from == 0 && part.to == u64::MAX && part.node.is_none();
@@ -108,7 +112,7 @@ fn legends_of(sheet: &Sheet, title: &Title<'_>) -> (&'static Legend, &'static Le
         Title::Trace(_, _) => (&RUN, &MARKS),
         Title::Run(_) => {
             let mut arrows = sheet.arrows.iter();
-            let has_losses = arrows.any(|arrow| matches!(arrow.end, End::Loss { .. }));
+            let has_losses = arrows.any(|arrow| matches!(arrow.end, ArrowEnd::Loss { .. }));
             (&RUN, if has_losses { &LOSSES } else { &NOTHING })
         }
     }
@@ -116,7 +120,7 @@ fn legends_of(sheet: &Sheet, title: &Title<'_>) -> (&'static Legend, &'static Le
 
 /// Returns the frame with room for these columns and texts, and for a head of this width. All lines
 /// end `bottom` pixels below the first row.
-fn frame_of(columns: &Columns, texts: &Texts, width: u64, bottom: u64) -> Frame {
+fn frame_of(columns: &Columns, texts: &LabelTexts, width: u64, bottom: u64) -> Frame {
     let left = texts.left.saturating_add(MARGIN).max(NAME);
     let left = left.saturating_add(INDICES);
     let names = columns.last.saturating_add(NAME);
@@ -138,7 +142,7 @@ fn heading_width(heading: &str) -> u64 {
 
 /// Returns the algorithm of a run, the number of nodes, the number of sections entered, the verdict
 /// on a trace, which part is shown, and whether that part is empty.
-fn heading_of(rows: &Rows<'_>, title: &Title<'_>) -> Result<String, AllocError> {
+fn heading_of(rows: &PictureRows<'_>, title: &Title<'_>) -> Result<String, AllocError> {
     let sheet = &rows.sheet;
     let mut text = String::new(sheet.alloc);
     match title {
@@ -160,7 +164,7 @@ fn heading_of(rows: &Rows<'_>, title: &Title<'_>) -> Result<String, AllocError> 
 }
 
 /// Appends to a heading which part is shown, and whether it is empty.
-fn add_part(rows: &Rows<'_>, text: &mut String) -> Result<(), AllocError> {
+fn add_part(rows: &PictureRows<'_>, text: &mut String) -> Result<(), AllocError> {
     let part = &rows.part;
     if part.from > 0 {
         write!(text, ", from event {}", part.from)?;
@@ -228,7 +232,11 @@ fn add_indices(sheet: &Sheet, frame: &Frame, text: &mut String) -> Result<(), Al
 }
 
 /// Appends the line of each node that is shown, with its name above and below.
-fn add_nodes(rows: &Rows<'_>, columns: &Columns, text: &mut String) -> Result<(), AllocError> {
+fn add_nodes(
+    rows: &PictureRows<'_>,
+    columns: &Columns,
+    text: &mut String,
+) -> Result<(), AllocError> {
     for node in rows.plan.node_ids() {
         if let Some(x) = columns.line_of(node) {
             let name = name_of(rows.plan, node);

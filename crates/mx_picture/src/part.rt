@@ -9,14 +9,14 @@ use mx_stamps::NodeId;
 /// The events from the index `from` to `to`, which is included, of all nodes or of one. Only
 /// letters and phases are shown if `only_letters`.
 #[derive(Clone, Copy)]
-pub(crate) struct Part {
+pub(crate) struct ShownPart {
     pub(crate) from: u64,
     pub(crate) to: u64,
     pub(crate) node: Option<NodeId>,
     pub(crate) only_letters: bool,
 }
 
-impl Part {
+impl ShownPart {
     pub(crate) fn has_index(&self, index: u64) -> bool
         ensures { result ≡ shows_index self.now index }
     {

@@ -1,12 +1,12 @@
 //! The rows of a picture: what is drawn of each event of a run or a trace.
 
-use crate::arrows::{Arrow, End};
-use crate::fates::{Fate, Fates};
+use crate::arrows::{Arrow, ArrowEnd};
+use crate::fates::{Fate, KnownFates};
 use crate::labels::{Side, Tone};
 use crate::letters::{is_drawn, is_original};
 use crate::marked::Marked;
-use crate::part::Part;
-use crate::sent::{Sent, Source};
+use crate::part::ShownPart;
+use crate::sent::{Drawable, Sent};
 use crate::shapes::DotKind;
 use crate::sheet::Sheet;
 use crate::text::escaped;
@@ -42,7 +42,7 @@ impl Step<'_> {
     }
 
     /// Returns whether the event delivers or sends a parcel of the part.
-    fn is_near(&self, part: &Part) -> bool {
+    fn is_near(&self, part: &ShownPart) -> bool {
         match &self.delivered {
             Some(sent) if part.has_parcel(sent) => true,
             _ => self.sent.iter().any(|sent| part.has_parcel(sent)),
@@ -52,9 +52,9 @@ impl Step<'_> {
 
 /// The rows of a picture.
 #[derive(Drop)]
-pub(crate) struct Rows<'a> {
+pub(crate) struct PictureRows<'a> {
     pub(crate) plan: &'a Plan,
-    pub(crate) part: Part,
+    pub(crate) part: ShownPart,
     pub(crate) sheet: Sheet,
     /// Whether these are the rows of a trace, in which a receipt has only its number.
     pub(crate) is_trace: bool,
@@ -65,9 +65,9 @@ pub(crate) struct Rows<'a> {
     has_skipped: bool,
 }
 
-impl<'a> Rows<'a> {
-    pub(crate) fn new(alloc: Global, plan: &'a Plan, part: &Part, fates: Fates) -> Self {
-        Rows {
+impl<'a> PictureRows<'a> {
+    pub(crate) fn new(alloc: Global, plan: &'a Plan, part: &ShownPart, fates: KnownFates) -> Self {
+        PictureRows {
             plan,
             part: *part,
             sheet: Sheet::new(alloc, fates),
@@ -79,7 +79,7 @@ impl<'a> Rows<'a> {
     }
 
     /// Draws an event, or takes note of it if it is not shown.
-    pub(crate) fn draw<S: Source>(
+    pub(crate) fn draw<S: Drawable>(
         &mut self,
         source: &S,
         step: &Step<'_>,
@@ -109,7 +109,7 @@ impl<'a> Rows<'a> {
 
     /// Takes note of an event that is left out. After the drawn part it changes no phase. Events that
     /// only `--letters` leaves out need no row with `..`.
-    fn omit<S: Source>(&mut self, source: &S, step: &Step<'_>) -> Result<(), AllocError> {
+    fn omit<S: Drawable>(&mut self, source: &S, step: &Step<'_>) -> Result<(), AllocError> {
         self.has_skipped |= !(self.part.only_letters && self.part.has_index(step.index));
         if let Some(node) = step.entry.event.node()
             && step.index <= self.part.to
@@ -200,7 +200,7 @@ impl<'a> Rows<'a> {
 
     /// Draws the delivery of a parcel: its arrow, and a dot and a text at the addressee. If it is not
     /// shown, draws only what is seen of the arrow.
-    fn draw_arrival<S: Source>(
+    fn draw_arrival<S: Drawable>(
         &mut self,
         source: &S,
         sent: &Sent,
@@ -226,7 +226,7 @@ impl<'a> Rows<'a> {
 
     /// Notes the parcels that an event sends. If the event is shown, draws those of the drawn part that
     /// are neither delivered nor lost, in one row.
-    fn draw_sent<S: Source>(
+    fn draw_sent<S: Drawable>(
         &mut self,
         source: &S,
         step: &Step<'_>,
@@ -239,7 +239,7 @@ impl<'a> Rows<'a> {
             let is_original = is_original(&step.entry.event, sent.is_letter);
             self.sheet.send(is_shown, is_original)?;
             if is_shown && !matches!(self.fate_of(sent), Fate::Arrives | Fate::Lost) {
-                self.add_arrow(source, sent, self.sheet.event, End::Open)?;
+                self.add_arrow(source, sent, self.sheet.event, ArrowEnd::Open)?;
                 first = first.or(Some(sent));
                 count = count.saturating_add(1);
             }
@@ -253,7 +253,7 @@ impl<'a> Rows<'a> {
 
     /// Draws the parcels that are lost after `place` events, in a row of their own. After the drawn
     /// part, only the start of an arrow is drawn, by this or by its delivery.
-    pub(crate) fn draw_lost<S: Source>(
+    pub(crate) fn draw_lost<S: Drawable>(
         &mut self,
         source: &S,
         lost: &[u64],
@@ -286,19 +286,19 @@ impl<'a> Rows<'a> {
     }
 
     /// Adds the arrow of a parcel, which begins at the height `y`.
-    fn add_arrow<S: Source>(
+    fn add_arrow<S: Drawable>(
         &mut self,
         source: &S,
         sent: &Sent,
         y: u64,
-        end: End,
+        end: ArrowEnd,
     ) -> Result<(), AllocError> {
         let route = sent.route;
         self.write_parcel(source, sent)?;
         let from = name_of(self.plan, route.from);
         let to = name_of(self.plan, route.to);
         let fate = match end {
-            End::Loss { .. } => ", lost",
+            ArrowEnd::Loss { .. } => ", lost",
             _ => "",
         };
         write!(self.label, " from {from} to {to}{fate}")?;
@@ -314,7 +314,7 @@ impl<'a> Rows<'a> {
     }
 
     /// Writes beside its sender what becomes of a parcel, and of `count` in all.
-    fn write_shared<S: Source>(
+    fn write_shared<S: Drawable>(
         &mut self,
         source: &S,
         sent: &Sent,
@@ -333,7 +333,7 @@ impl<'a> Rows<'a> {
     }
 
     /// Replaces the label by the number and the text of a parcel.
-    fn write_parcel<S: Source>(&mut self, source: &S, sent: &Sent) -> Result<(), AllocError> {
+    fn write_parcel<S: Drawable>(&mut self, source: &S, sent: &Sent) -> Result<(), AllocError> {
         self.label.clear();
         write!(self.label, "#{} ", sent.number)?;
         source.add_text(self.plan, sent.flight, &mut self.label)

@@ -18,7 +18,8 @@ pub(crate) struct Segment {
 }
 
 impl Segment {
-    fn across(&self, y: u64) -> u64 {
+    /// Returns the horizontal position of the line at the height `y`.
+    fn x_at(&self, y: u64) -> u64 {
         let down = self.bottom.saturating_sub(self.top).max(1);
         let part = y.saturating_sub(self.top);
         let aside = self.to.abs_diff(self.from).saturating_mul(part) / down;
@@ -38,8 +39,8 @@ impl Segment {
         if !is_near {
             return false;
         }
-        let above = self.across(rect.top.max(self.top));
-        let below = self.across(rect.bottom.min(self.bottom));
+        let above = self.x_at(rect.top.max(self.top));
+        let below = self.x_at(rect.bottom.min(self.bottom));
         above.min(below) <= rect.right && above.max(below) >= rect.left
     }
 }

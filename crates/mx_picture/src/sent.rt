@@ -53,7 +53,7 @@ pub(crate) struct Sent {
 }
 
 /// What is drawn: a run, or a trace.
-pub(crate) trait Source {
+pub(crate) trait Drawable {
     /// Returns the parcel of this flight, if it was sent.
     fn find(&self, flight: u64) -> Option<Sent>;
 
@@ -62,7 +62,7 @@ pub(crate) trait Source {
 }
 
 /// Returns the parcels of the flights from `from` on, up to the one before `to`.
-pub(crate) fn find_all<S: Source>(
+pub(crate) fn find_all<S: Drawable>(
     alloc: Global,
     source: &S,
     from: u64,
@@ -77,7 +77,7 @@ pub(crate) fn find_all<S: Source>(
     Ok(all)
 }
 
-impl<C: Exclusion> Source for Cluster<C>
+impl<C: Exclusion> Drawable for Cluster<C>
 where
     C::Msg: Letter,
 {
@@ -109,7 +109,7 @@ where
     }
 }
 
-impl Source for Trace {
+impl Drawable for Trace {
     fn find(&self, flight: u64) -> Option<Sent> {
         let message = self.messages.get(flight as usize)?;
         let style = match message.kind.as_str() {

@@ -2,10 +2,10 @@
 
 ghost use Rattle.std.specs.Prelude.{◌≤◌};
 
-use crate::arrows::{Arrow, End, ROW};
+use crate::arrows::{Arrow, ArrowEnd, ROW};
 use crate::bars::Bar;
 use crate::columns::Lanes;
-use crate::fates::Fates;
+use crate::fates::KnownFates;
 use crate::labels::{Label, Side, Tone};
 use crate::sent::Route;
 use crate::shapes::{Dot, DotKind};
@@ -48,7 +48,7 @@ pub(crate) struct Sheet {
     pub(crate) entered: u64,
     /// The parcels sent so far.
     pub(crate) flights: Vec<Flight>,
-    pub(crate) fates: Fates,
+    pub(crate) fates: KnownFates,
     /// The present phase of each node.
     phases: [Bar; MAX_NODES as usize],
     /// The nodes that act or receive.
@@ -76,7 +76,7 @@ pub(crate) struct Sheet {
 }
 
 impl Sheet {
-    pub(crate) fn new(alloc: Global, fates: Fates) -> Self {
+    pub(crate) fn new(alloc: Global, fates: KnownFates) -> Self {
         Sheet {
             alloc,
             y: 0,
@@ -214,39 +214,39 @@ impl Sheet {
         flight: u64,
         route: &Route,
         is_shown: bool,
-    ) -> Option<(u64, End)> {
+    ) -> Option<(u64, ArrowEnd)> {
         self.fates.deliver(flight, route);
         let flight = self.flights.get_mut(flight as usize)?;
         let is_repeat = flight.is_delivered;
         flight.is_delivered = true;
         let down = self.y.saturating_sub(flight.y);
         match (flight.is_shown, is_shown) {
-            (true, true) => Some((flight.y, End::Whole { is_repeat, down })),
-            (false, true) => Some((self.y, End::Delivery { is_repeat })),
-            (true, false) if !is_repeat => Some((flight.y, End::Sending)),
+            (true, true) => Some((flight.y, ArrowEnd::Whole { is_repeat, down })),
+            (false, true) => Some((self.y, ArrowEnd::Delivery { is_repeat })),
+            (true, false) if !is_repeat => Some((flight.y, ArrowEnd::Sending)),
             _ => None,
         }
     }
 
     /// Returns what is seen of the arrow of a parcel that is lost now, and where that begins, if the
     /// picture shows the sending. `is_shown` says whether it shows the loss.
-    pub(crate) fn fall(&self, flight: u64, is_shown: bool) -> Option<(u64, End)> {
+    pub(crate) fn fall(&self, flight: u64, is_shown: bool) -> Option<(u64, ArrowEnd)> {
         match self.flights.get(flight as usize) {
             Some(flight) if flight.is_shown && is_shown => {
                 let down = self.y.saturating_sub(flight.y);
-                Some((flight.y, End::Loss { down }))
+                Some((flight.y, ArrowEnd::Loss { down }))
             }
-            Some(flight) if flight.is_shown => Some((flight.y, End::Sending)),
+            Some(flight) if flight.is_shown => Some((flight.y, ArrowEnd::Sending)),
             _ => None,
         }
     }
 
     pub(crate) fn add_arrow(&mut self, arrow: Arrow) -> Result<(), AllocError> {
         match arrow.end {
-            End::Whole { .. } => self.arrows.push(arrow)?,
-            End::Loss { .. } => self.add_loss(arrow)?,
-            End::Open => self.open.push(arrow)?,
-            End::Sending | End::Delivery { .. } => self.pieces.push(arrow)?,
+            ArrowEnd::Whole { .. } => self.arrows.push(arrow)?,
+            ArrowEnd::Loss { .. } => self.add_loss(arrow)?,
+            ArrowEnd::Open => self.open.push(arrow)?,
+            ArrowEnd::Sending | ArrowEnd::Delivery { .. } => self.pieces.push(arrow)?,
         }
         Ok(())
     }

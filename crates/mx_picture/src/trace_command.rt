@@ -12,7 +12,7 @@ use crate::command::part_of;
 use crate::marked::marked_by;
 use crate::opening::Title;
 use crate::page::page_of;
-use crate::part::Part;
+use crate::part::ShownPart;
 use crate::trace_drawing::draw_trace;
 use mx_cli::{Command, PicturePart, Stop, print};
 use mx_driver::verdict_status;
@@ -47,7 +47,7 @@ impl Command for TracePicture<'_> {
 fn draw_text<O: Output>(
     alloc: Global,
     plan: &Plan,
-    part: &Part,
+    part: &ShownPart,
     text: &[u8],
     out: &mut O,
 ) -> Result<u8, Stop>
@@ -63,7 +63,7 @@ fn draw_text<O: Output>(
 fn print_trace<O: Output>(
     alloc: Global,
     plan: &Plan,
-    part: &Part,
+    part: &ShownPart,
     word: &str,
     trace: &Trace,
     out: &mut O,
@@ -81,7 +81,7 @@ fn print_trace<O: Output>(
 fn picture_of(
     alloc: Global,
     plan: &Plan,
-    part: &Part,
+    part: &ShownPart,
     word: &str,
     trace: &Trace,
     verdict: Verdict,

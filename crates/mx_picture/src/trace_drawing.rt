@@ -1,10 +1,10 @@
 //! Draws a trace: each event, with its messages.
 
-use crate::fates::Fates;
+use crate::fates::KnownFates;
 use crate::marked::Marked;
-use crate::part::Part;
-use crate::rows::{Rows, Step};
-use crate::sent::{Sent, Source, find_all};
+use crate::part::ShownPart;
+use crate::rows::{PictureRows, Step};
+use crate::sent::{Drawable, Sent, find_all};
 use mx_events::Event;
 use mx_judge::Trace;
 use mx_plan::Plan;
@@ -14,11 +14,11 @@ use std::collections::HashMap;
 pub(crate) fn draw_trace<'a>(
     alloc: Global,
     plan: &'a Plan,
-    part: &Part,
+    part: &ShownPart,
     trace: &Trace,
     marked: Option<Marked>,
-) -> Result<Rows<'a>, AllocError> {
-    let mut rows = Rows::new(alloc, plan, part, fates_of(alloc, trace)?);
+) -> Result<PictureRows<'a>, AllocError> {
+    let mut rows = PictureRows::new(alloc, plan, part, fates_of(alloc, trace)?);
     rows.is_trace = true;
     rows.marked = marked;
     let mut mail = Mail {
@@ -43,8 +43,8 @@ pub(crate) fn draw_trace<'a>(
 }
 
 /// Returns what becomes of the messages.
-fn fates_of(alloc: Global, trace: &Trace) -> Result<Fates, AllocError> {
-    let mut fates = Fates::new(alloc);
+fn fates_of(alloc: Global, trace: &Trace) -> Result<KnownFates, AllocError> {
+    let mut fates = KnownFates::new(alloc);
     for entry in &trace.entries {
         fates.expect(&entry.event)?;
     }

@@ -7,7 +7,7 @@ use Rattle.mx_trace.specs.declared.outcome.Entry.{Entry}
 use Rattle.mx_scripts.specs.Expectations.{IsMet, IsNotMet}
 use Rattle.mx_scripts.specs.declared.line_failure.LineFailure.{LineFailure}
 use Rattle.mx_scripts.specs.declared.line_failure.LineFailure.TheVariants as failure
-use Rattle.mx_play.specs.Executions.{CanRefuseOutcome, DoesOr, HasExpected, IsAsExpected, IsShown, Saved}
+use Rattle.mx_play.specs.Executions.{CanRefuseOutcome, DoesOr, HasExpected, IsAsExpected, Saved, ShowsOnly}
 use Rattle.mx_play.specs.Sessions.{SessionState}
 use Rattle.mx_play.specs.declared.input_fault.InputFault.{InputFault}
 use Rattle.mx_play.proofs.StoreLemmas.{Stores-nil}
@@ -24,7 +24,7 @@ module _ (text line : Text) (found trace : List Entry) where
 
 -- what a line with `expect` comes to
 pub executed_expect : {S M E : Type 0} (r : Result (Option InputFault) E) (line : Text) (a : SessionState S M) (text : Text) (s : Stored) → text ≡ [] → IfOk r (λ fault. HasExpected line a fault)
-    → IfOk r (λ fault. (saved : Saved) × Stores s s saved × DoesOr (IsAsExpected line a × IsShown [] a a text × (saved ≡ [])) (λ why. CanRefuseOutcome line a why × (saved ≡ [])) fault a a text)
+    → IfOk r (λ fault. (saved : Saved) × Stores s s saved × DoesOr (IsAsExpected line a × ShowsOnly [] a a text × (saved ≡ [])) (λ why. CanRefuseOutcome line a why × (saved ≡ [])) fault a a text)
 executed_expect (Ok None) line a text s empty x = ([], Stores-nil s, (x, record { same = refl; printed = empty }, refl))
 executed_expect (Ok (Some fault)) line a text s empty x = ([], Stores-nil s, ((x, refl), record { same = refl; printed = empty }))
 executed_expect (Err e) line a text s empty x = tt

@@ -4,6 +4,7 @@ pub mod SessionLemmas
 mod SessionLineLemmas
 mod TypedLemmas
 mod LinePlanLemmas
+mod FileLemmas
 pub mod StopLemmas
 pub mod PlaysLemmas
 mod ReportLemmas

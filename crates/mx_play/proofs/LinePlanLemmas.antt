@@ -6,7 +6,7 @@ use Rattle.mx_cli.specs.declared.stop.Stop.{Stop}
 use Rattle.mx_plan.specs.Text.{Text}
 use Rattle.mx_plan.specs.Fields.{Fields}
 use Rattle.mx_play.specs.Commands.{IsInputOf, ReadsInput}
-use Rattle.mx_play.specs.Lines.{AreLeft, IsFirst, ReadsNext, after_line, first_of, session_lines}
+use Rattle.mx_play.specs.Lines.{AreLeft, IsFirstLine, ReadsNext, after_line, first_of, session_lines}
 use Rattle.mx_play.specs.Played.{IsLinePlan}
 use Rattle.mx_play.specs.Reasons.{IsLineStated}
 use Rattle.mx_play.specs.Stops.{OnlyMemory}
@@ -18,7 +18,7 @@ use Rattle.mx_play.specs.declared.line_sources.TheConstants.{MAX_LINE}
 
 module _ (p : Fields) (lines rest : Option (List Text)) (buffer : Text) where
   -- a line was read
-  line_input : (of : Input) → IsFirst buffer lines rest → IsInputOf p buffer of buffer → ReadsInput p lines of buffer rest
+  line_input : (of : Input) → IsFirstLine buffer lines rest → IsInputOf p buffer of buffer → ReadsInput p lines of buffer rest
   line_input (input.Command command) x is = (buffer, is, x)
   line_input (input.Fault fault) x is = (buffer, is, x)
   line_input input.Eof x is = absurd is
@@ -40,7 +40,7 @@ module _ (rest : Option (List Text)) (buffer : Text) where
   abbrev Buffers : Option (List Text) → Type 0
   Buffers lines = IfSome lines (λ known. (first_of known ≡ buffer) × (rest ≡ Some (after_line known)))
 
-  of_first : (lines : Option (List Text)) → IsFirst buffer lines rest → Buffers lines
+  of_first : (lines : Option (List Text)) → IsFirstLine buffer lines rest → Buffers lines
   of_first None x = tt
   of_first (Some known) x = (ap first_of x.1, x.2 ∙ ap (λ (l : List Text). Some (after_line l)) (sym x.1))
 

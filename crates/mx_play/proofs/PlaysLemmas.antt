@@ -14,7 +14,7 @@ use Rattle.mx_driver.specs.Runs.{closing_text}
 use Rattle.mx_play.specs.Commands.{IsInputOf, ReadsInput, is_end}
 use Rattle.mx_play.specs.Executions.{Saved}
 use Rattle.mx_play.specs.Histories.{first_state}
-use Rattle.mx_play.specs.Lines.{IsFirst, lines_of}
+use Rattle.mx_play.specs.Lines.{IsFirstLine, lines_of}
 use Rattle.mx_play.specs.Plays.{ArePlayed, Does, IsPlayed, Plays, PlaysLine}
 use Rattle.mx_play.specs.Printed.{AreAsides, GetsAsides, GetsReport}
 use Rattle.mx_play.specs.Sessions.{IsSession, SessionState, at_start, line_events}
@@ -136,7 +136,7 @@ module _ {H S M : Type 0} (core : Core H S M) (letter_text : Fields → M → Te
     reports = Appends-nil o.err;
   }
 
-  some_line : (rest rest' : Option (List Text)) (of : Input) (buffer : Text) → ReadsInput p rest of buffer rest' → (of ≡ input.Eof → ⊥) → (line : Text) × IsInputOf p line of buffer × IsFirst line rest rest'
+  some_line : (rest rest' : Option (List Text)) (of : Input) (buffer : Text) → ReadsInput p rest of buffer rest' → (of ≡ input.Eof → ⊥) → (line : Text) × IsInputOf p line of buffer × IsFirstLine line rest rest'
   some_line rest rest' (input.Command command) buffer x some = x
   some_line rest rest' (input.Fault fault) buffer x some = x
   some_line rest rest' input.Eof buffer x some = absurd (some refl)
@@ -144,10 +144,10 @@ module _ {H S M : Type 0} (core : Core H S M) (letter_text : Fields → M → Te
   abbrev Leaves : List Text → Option (List Text) → Option (List Text) → Type 0
   Leaves done lines rest = IfSome lines (λ known. (left : List Text) × (rest ≡ Some left) × (known ≡ done ++ left))
 
-  first_left : (line : Text) (rest rest' : Option (List Text)) (left : List Text) → IsFirst line rest rest' → rest ≡ Some left → IsFirst line (Some left) rest'
-  first_left line rest rest' left x is = subst (λ (r : Option (List Text)). IsFirst line r rest') is x
+  first_left : (line : Text) (rest rest' : Option (List Text)) (left : List Text) → IsFirstLine line rest rest' → rest ≡ Some left → IsFirstLine line (Some left) rest'
+  first_left line rest rest' left x is = subst (λ (r : Option (List Text)). IsFirstLine line r rest') is x
 
-  next_left : (done : List Text) (line : Text) (lines rest rest' : Option (List Text)) → Leaves done lines rest → IsFirst line rest rest' → Leaves (done ++ line ∷ []) lines rest'
+  next_left : (done : List Text) (line : Text) (lines rest rest' : Option (List Text)) → Leaves done lines rest → IsFirstLine line rest rest' → Leaves (done ++ line ∷ []) lines rest'
   next_left done line None rest rest' x y = tt
   next_left done line (Some known) rest rest' x y =
       let first = first_left line rest rest' x.0 y x.1 in
@@ -155,7 +155,7 @@ module _ {H S M : Type 0} (core : Core H S M) (letter_text : Fields → M → Te
       (others, first.2, x.2 ∙ ap (λ (l : List Text). done ++ l) first.1 ∙ sym (append_assoc done (line ∷ []) others))
 
   -- all lines, if this one is the last that is read
-  with_last : (done : List Text) (line : Text) (lines rest rest' : Option (List Text)) → Leaves done lines rest → IsFirst line rest rest' → (others : List Text) × IfSome lines (λ known. done ++ line ∷ others ≡ known)
+  with_last : (done : List Text) (line : Text) (lines rest rest' : Option (List Text)) → Leaves done lines rest → IsFirstLine line rest rest' → (others : List Text) × IfSome lines (λ known. done ++ line ∷ others ≡ known)
   with_last done line None rest rest' x y = ([], tt)
   with_last done line (Some known) rest rest' x y =
       let first = first_left line rest rest' x.0 y x.1 in
@@ -178,7 +178,7 @@ module _ {H S M : Type 0} (core : Core H S M) (letter_text : Fields → M → Te
     module _ (c : SessionState S M) (o'' : Seen) (w'' : Stored) (fault : Option InputFault) (text : Text) (some : of ≡ input.Eof → ⊥)
         (does : (line : Text) → IsInputOf p line of buffer → (saved : Saved) × Stores w' w'' saved × Does core letter_text knows p shape line fault (is_end of) b c text saved)
         (printed : Appends m.out o''.out text) (reported : GetsReport number fault m.err o''.err) where
-      abbrev found : (line : Text) × IsInputOf p line of buffer × IsFirst line rest rest'
+      abbrev found : (line : Text) × IsInputOf p line of buffer × IsFirstLine line rest rest'
       found = some_line rest rest' of buffer reads some
 
       abbrev line : Text

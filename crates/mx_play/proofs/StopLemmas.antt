@@ -13,7 +13,7 @@ use Rattle.mx_cli.specs.Reports.{Seen}
 use Rattle.mx_cli.specs.declared.faults.Named.TheVariants.{Events}
 use Rattle.mx_play.specs.Lines.{ReadsNext, first_of}
 use Rattle.mx_play.specs.Reasons.{HasNoFault, IsLineStated, IsStated}
-use Rattle.mx_play.specs.Stops.{AreReadable, CountsDown, HaveNumbers, LeavesFewer, OnlyMemory}
+use Rattle.mx_play.specs.Stops.{AreReadableLines, CountsDown, HaveNumbers, LeavesFewer, OnlyMemory}
 use Rattle.mx_play.specs.declared.line_sources.LineRead.{LineRead}
 use Rattle.mx_play.specs.declared.line_sources.LineRead.TheVariants as read
 use Rattle.mx_play.specs.declared.line_sources.TheConstants.{MAX_LINE}
@@ -75,7 +75,7 @@ reads_on {P} first number (Some n) left x few y = subst (λ (l : Option ℕ). If
 pub script_numbers : (length : ℕ) → length < 2 ^ 63 → HaveNumbers 1 (Some length)
 script_numbers length few = omega (arith, few)
 
-pub rest_numbers : (length number : ℕ) (left : Option ℕ) → length < 2 ^ 63 → number ≤ 1 + length → AreReadable left → HaveNumbers number left
+pub rest_numbers : (length number : ℕ) (left : Option ℕ) → length < 2 ^ 63 → number ≤ 1 + length → AreReadableLines left → HaveNumbers number left
 rest_numbers length number None few le readable = readable
 rest_numbers length number (Some n) few le readable = omega (arith, few, le, readable)
 
@@ -96,18 +96,18 @@ script_memory (Some telling) r x y = fetched telling x.0 r x.1 y
 
 -- the first line
 
-few_after : (of : LineRead) (n : ℕ) (left : Option ℕ) → n < 2 ^ 62 → CountsDown n of left → AreReadable left
+few_after : (of : LineRead) (n : ℕ) (left : Option ℕ) → n < 2 ^ 62 → CountsDown n of left → AreReadableLines left
 few_after of n left few x = few_at of x where
-  few_in : (m : ℕ) → m ≤ n → left ≡ Some m → AreReadable left
-  few_in m le is = subst AreReadable (sym is) (omega (arith, few, le))
+  few_in : (m : ℕ) → m ≤ n → left ≡ Some m → AreReadableLines left
+  few_in m le is = subst AreReadableLines (sym is) (omega (arith, few, le))
 
-  few_at : (of : LineRead) → CountsDown n of left → AreReadable left
+  few_at : (of : LineRead) → CountsDown n of left → AreReadableLines left
   few_at read.Line y = few_in y.0 (let less = y.1 in omega (arith, less)) y.2
   few_at read.TooLong y = few_in y.0 (let less = y.1 in omega (arith, less)) y.2
   few_at read.End y = few_in y.0 y.1 y.2
   few_at read.Unreadable y = absurd y
 
-pub readable_after : (of : LineRead) (all left : Option ℕ) → AreReadable all → IfSome all (λ n. CountsDown n of left) → AreReadable left
+pub readable_after : (of : LineRead) (all left : Option ℕ) → AreReadableLines all → IfSome all (λ n. CountsDown n of left) → AreReadableLines left
 readable_after of None left few x = absurd few
 readable_after of (Some n) left few x = few_after of n left few x
 
@@ -122,7 +122,7 @@ too_long (Some known) rest buffer stated x =
     omega (arith, long, short)
 
 -- is there, and not too long
-pub no_other : (of : LineRead) (lines rest : Option (List Text)) (all left : Option ℕ) (buffer : Text) → (of ≡ read.TooLong) ⊎ (of ≡ read.Unreadable) → AreReadable all → IsLineStated lines
+pub no_other : (of : LineRead) (lines rest : Option (List Text)) (all left : Option ℕ) (buffer : Text) → (of ≡ read.TooLong) ⊎ (of ≡ read.Unreadable) → AreReadableLines all → IsLineStated lines
     → ReadsNext lines of buffer rest → IfSome all (λ n. CountsDown n of left) → ⊥
 no_other of lines rest all left buffer (inl is) few stated x y = too_long lines rest buffer stated (subst (λ (r : LineRead). ReadsNext lines r buffer rest) is x)
 no_other of lines rest None left buffer (inr is) few stated x y = few

@@ -9,7 +9,7 @@ use Rattle.mx_plan.specs.Text.{Text}
 use Rattle.mx_plan.specs.Fields.{Fields}
 use Rattle.mx_io.specs.Stored.{Stored, Stores}
 use Rattle.mx_play.specs.Commands.{IsSecondWord}
-use Rattle.mx_play.specs.Executions.{CanRefuseSave, DoesOr, HasExecuted, HasSaved, IsShown, Saved}
+use Rattle.mx_play.specs.Executions.{CanRefuseSave, DoesOr, HasExecuted, HasSaved, Saved, ShowsOnly}
 use Rattle.mx_play.specs.Printed.{saved_line}
 use Rattle.mx_play.specs.Sessions.{SessionState}
 use Rattle.mx_play.specs.SessionScripts.{session_script}
@@ -42,7 +42,7 @@ stores_none (Err e) D F s a b text x = tt
 pub executed_save : {S M E : Type 0} (r : Result (Option InputFault) E) (p : Fields) (a : SessionState S M) (lines : List DoneLine) (from word old new : Text) (s t : Stored) → lines ≡ a.lines → (IsUtf8 from → IsSecondWord from word) → old ≡ []
     → IfOk r (λ fault. (saved : Saved) × Stores s t saved × HasSaved fault p lines word saved old new)
     → IfOk r (λ fault. (saved : Saved) × Stores s t saved
-    × DoesOr ((word : Text) × (IsUtf8 from → IsSecondWord from word) × IsShown (saved_line word) a a new × (saved ≡ (word, session_script p a.lines) ∷ [])) (λ why. CanRefuseSave why × (saved ≡ [])) fault a a new)
+    × DoesOr ((word : Text) × (IsUtf8 from → IsSecondWord from word) × ShowsOnly (saved_line word) a a new × (saved ≡ (word, session_script p a.lines) ∷ [])) (λ why. CanRefuseSave why × (saved ≡ [])) fault a a new)
 executed_save (Ok None) p a lines from word old new s t same is empty x = (
   x.0,
   x.1,

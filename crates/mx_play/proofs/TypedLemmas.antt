@@ -6,7 +6,7 @@ use Rattle.std.specs.Io.KnownBytes.{Consumes, IsAtEnd, Keeps, prepend_known}
 use Rattle.std.proofs.KnownBytes.{Consumes-kept, Consumes-nil, Consumes-trans}
 use Rattle.mx_stamps.proofs.Lists.{append_nil}
 use Rattle.mx_plan.specs.Text.{Text}
-use Rattle.mx_play.specs.Lines.{IsFirst, ReadsNext, before_lines, lines_of}
+use Rattle.mx_play.specs.Lines.{IsFirstLine, ReadsNext, before_lines, lines_of}
 use Rattle.mx_play.specs.TypedLines.{AddsByte, Bytes, HasNoFeed, Holds, IsTaking, TakesByte, TakesOn, read_of}
 use Rattle.mx_play.specs.declared.line_sources.LineRead.{LineRead}
 use Rattle.mx_play.specs.declared.line_sources.LineRead.TheVariants.{End}
@@ -37,16 +37,16 @@ no_feed_more (a ∷ taken) b x y = (x.0, no_feed_more taken b x.1 y)
 
 -- ---- a line that was read
 
-held_read : (is_long : Bool) (buffer taken : Text) (lines rest : Option (List Text)) → Holds is_long buffer taken → IsFirst taken lines rest → ReadsNext lines (read_of is_long) buffer rest
+held_read : (is_long : Bool) (buffer taken : Text) (lines rest : Option (List Text)) → Holds is_long buffer taken → IsFirstLine taken lines rest → ReadsNext lines (read_of is_long) buffer rest
 held_read false buffer taken lines rest x first =
-    (subst (λ (l : Text). length l ≤ MAX_LINE) (sym x.0) x.1, subst (λ (l : Text). IsFirst l lines rest) (sym x.0) first)
+    (subst (λ (l : Text). length l ≤ MAX_LINE) (sym x.0) x.1, subst (λ (l : Text). IsFirstLine l lines rest) (sym x.0) first)
 held_read true buffer taken lines rest x first = (taken, x.1, first)
 
 abbrev lines_in : Bytes → Option (List Text)
 lines_in bytes = option_map lines_of bytes
 
 -- a line feed ends it
-feed_first : (first now new : Bytes) (taken : Text) → HasNoFeed taken → Consumes first now taken → Consumes now new (10 ∷ []) → IsFirst taken (lines_in first) (lines_in new)
+feed_first : (first now new : Bytes) (taken : Text) → HasNoFeed taken → Consumes first now taken → Consumes now new (10 ∷ []) → IsFirstLine taken (lines_in first) (lines_in new)
 feed_first None now new taken inner x feed = tt
 feed_first (Some all) None new taken inner x feed = absurd x
 feed_first (Some all) (Some left) None taken inner x feed = absurd feed
@@ -73,7 +73,7 @@ one_line : (taken : Text) → HasNoFeed taken → (taken ≡ [] → ⊥) → lin
 one_line [] inner some = absurd (some refl)
 one_line (b ∷ bs) inner some = last_line b bs inner
 
-end_first : (first now new : Bytes) (taken : Text) → HasNoFeed taken → (taken ≡ [] → ⊥) → Consumes first now taken → Keeps now new → IsAtEnd new → IsFirst taken (lines_in first) (lines_in new)
+end_first : (first now new : Bytes) (taken : Text) → HasNoFeed taken → (taken ≡ [] → ⊥) → Consumes first now taken → Keeps now new → IsAtEnd new → IsFirstLine taken (lines_in first) (lines_in new)
 end_first None now new taken inner some x same end = tt
 end_first (Some all) None new taken inner some x same end = absurd x
 end_first (Some all) (Some left) None taken inner some x same end = absurd same

@@ -12,7 +12,7 @@ use Rattle.mx_plan.specs.Text.{Text}
 use Rattle.mx_plan.specs.Fields.{Fields}
 use Rattle.mx_scripts.specs.Scripts.{IsOver}
 use Rattle.mx_scripts.specs.declared.line_failure.LineFailure.TheVariants.{WrongWord}
-use Rattle.mx_play.specs.Lines.{IsFirst}
+use Rattle.mx_play.specs.Lines.{IsFirstLine}
 use Rattle.mx_play.specs.declared.input_fault.InputFault.{InputFault}
 use Rattle.mx_play.specs.declared.input_fault.InputFault.TheVariants.{NotText, Line, TooLong, TooFew, NoUndo, Unwritten}
 use Rattle.mx_play.specs.declared.input.Input.{Input}
@@ -82,4 +82,4 @@ module _ (p : Fields) where
   abbrev pub ReadsInput : Option (List Text) → Input → Text → Option (List Text) → Type 0
   ReadsInput lines input.Eof buffer rest = IfSome lines (λ known. known ≡ [])
   ReadsInput lines of buffer rest =
-      (line : Text) × IsInputOf line of buffer × IsFirst line lines rest
+      (line : Text) × IsInputOf line of buffer × IsFirstLine line lines rest

@@ -31,7 +31,7 @@ abbrev pub Saved : Type 0
 Saved = List (Text × Text)
 
 -- nothing changed, and this was printed
-pub record IsShown {S M : Type 0} (what : Text) (old new : SessionState S M) (text : Text)
+pub record ShowsOnly {S M : Type 0} (what : Text) (old new : SessionState S M) (text : Text)
     : Type 0 where
   pub same : new ≡ old
   pub printed : text ≡ what
@@ -41,7 +41,7 @@ module _ {S M : Type 0} (Does : Type 0) (IsFaultOf : InputFault → Type 0) wher
   -- changed
   abbrev pub DoesOr : Option InputFault → SessionState S M → SessionState S M → Text → Type 0
   DoesOr None old new text = Does
-  DoesOr (Some fault) old new text = IsFaultOf fault × IsShown [] old new text
+  DoesOr (Some fault) old new text = IsFaultOf fault × ShowsOnly [] old new text
 
 module _ {S M : Type 0} (s : SessionState S M) where
   -- `undo` is refused with this fault: fewer lines were done
@@ -152,26 +152,26 @@ module _ {H S M : Type 0} (core : Core H S M) (letter_text : Fields → M → Te
   Executes (Does line) from old new text saved =
       IsDone core letter_text p line from old new text × (saved ≡ [])
   Executes Expects from old new text saved =
-      IsAsExpected from old × IsShown [] old new text × (saved ≡ [])
+      IsAsExpected from old × ShowsOnly [] old new text × (saved ≡ [])
   Executes (Undo count) from old new text saved =
       IsUndone core p shape count old new text × (saved ≡ [])
   Executes Redo from old new text saved = IsRedone core old new text × (saved ≡ [])
   Executes (Show to) from old new text saved =
-      IsShown (view_text core letter_text p knows to old.state) old new text × (saved ≡ [])
+      ShowsOnly (view_text core letter_text p knows to old.state) old new text × (saved ≡ [])
   Executes Events from old new text saved =
-      IsShown (file_text p (events_of old.state.cluster.trace)) old new text × (saved ≡ [])
+      ShowsOnly (file_text p (events_of old.state.cluster.trace)) old new text × (saved ≡ [])
   Executes Script from old new text saved =
-      IsShown (session_script p old.lines) old new text × (saved ≡ [])
+      ShowsOnly (session_script p old.lines) old new text × (saved ≡ [])
   Executes Save from old new text saved =
       (word : Text) × (IsUtf8 from → IsSecondWord from word)
-      × IsShown (saved_line word) old new text
+      × ShowsOnly (saved_line word) old new text
       × (saved ≡ (word, session_script p old.lines) ∷ [])
   Executes Mark from old new text saved =
       (word : Text) × (IsUtf8 from → IsSecondWord from word)
-      × IsShown (mark_line word) old new text × (saved ≡ [])
-  Executes Help from old new text saved = IsShown words_text old new text × (saved ≡ [])
-  Executes End from old new text saved = IsShown [] old new text × (saved ≡ [])
-  Executes Nothing from old new text saved = IsShown [] old new text × (saved ≡ [])
+      × ShowsOnly (mark_line word) old new text × (saved ≡ [])
+  Executes Help from old new text saved = ShowsOnly words_text old new text × (saved ≡ [])
+  Executes End from old new text saved = ShowsOnly [] old new text × (saved ≡ [])
+  Executes Nothing from old new text saved = ShowsOnly [] old new text × (saved ≡ [])
 
   -- a command that is refused saves nothing
   abbrev pub HasExecuted : Option InputFault → SessionCommand → Text → SessionState S M

@@ -5,6 +5,7 @@ pub mod Histories
 pub mod SessionScripts
 pub mod Views
 pub mod Lines
+pub mod AskedFiles
 pub mod Commands
 pub mod TypedLines
 pub mod Sessions

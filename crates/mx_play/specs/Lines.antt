@@ -25,17 +25,17 @@ after_line [] = []
 after_line (line ∷ lines) = lines
 
 -- if the lines are known, this line is the first of them, and the others are still to come
-abbrev pub IsFirst : Text → Option (List Text) → Option (List Text) → Type 0
-IsFirst line None rest = ⊤
-IsFirst line (Some lines) rest =
+abbrev pub IsFirstLine : Text → Option (List Text) → Option (List Text) → Type 0
+IsFirstLine line None rest = ⊤
+IsFirstLine line (Some lines) rest =
     (others : List Text) × (lines ≡ line ∷ others) × (rest ≡ Some others)
 
 -- the first of these lines was read into the buffer, or is too long; or the end was read, since
 -- there are no lines; or they could not be read
 abbrev pub ReadsNext : Option (List Text) → LineRead → Text → Option (List Text) → Type 0
-ReadsNext lines Line buffer rest = (length buffer ≤ MAX_LINE) × IsFirst buffer lines rest
+ReadsNext lines Line buffer rest = (length buffer ≤ MAX_LINE) × IsFirstLine buffer lines rest
 ReadsNext lines TooLong buffer rest =
-    (line : Text) × (MAX_LINE < length line) × IsFirst line lines rest
+    (line : Text) × (MAX_LINE < length line) × IsFirstLine line lines rest
 ReadsNext lines End buffer rest =
     (buffer ≡ []) × IfSome lines (λ known. (known ≡ []) × (rest ≡ Some []))
 ReadsNext lines Unreadable buffer rest = ⊤

@@ -12,7 +12,7 @@ use Rattle.mx_plan.specs.declared.shape.Shape.{Shape}
 use Rattle.mx_plan.specs.declared.shape.Shape.TheVariants.{Ricart, Maekawa, Raymond}
 use Rattle.mx_format.specs.LetterTexts.{ricart_text, maekawa_text, raymond_text}
 use Rattle.mx_cli.specs.Frames.{IsRunStatus}
-use Rattle.mx_cli.specs.Reading.{IsPlanOf, IsRead, is_dash}
+use Rattle.mx_cli.specs.Reading.{IsPlanTold, IsRead, is_dash}
 use Rattle.mx_cli.specs.Reports.{Seen}
 use Rattle.mx_io.specs.Stored.{Stored}
 use Rattle.mx_io.specs.Told.{Telling}
@@ -39,7 +39,7 @@ IsLinePlan (Some lines) p = IsRead (first_of lines) (Ok p)
 -- the plan was read: from the first of the lines that come, or from a source
 abbrev pub IsPlanBy : Bool → Option Telling → Option (List Text) → Fields → Type 0
 IsPlanBy true told lines p = IsLinePlan lines p
-IsPlanBy false told lines p = IsPlanOf told p
+IsPlanBy false told lines p = IsPlanTold told p
 
 -- the plan of this name was read; if that is the name of standard input, from the first of the
 -- lines that come

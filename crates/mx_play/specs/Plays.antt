@@ -12,7 +12,7 @@ use Rattle.mx_io.specs.Stored.{Stored, Stores}
 use Rattle.mx_driver.specs.Runs.{closing_text}
 use Rattle.mx_scripts.specs.Played.{AreOver}
 use Rattle.mx_play.specs.Commands.{AsksFor, HasFault, ends}
-use Rattle.mx_play.specs.Executions.{HasExecuted, IsShown, Saved}
+use Rattle.mx_play.specs.Executions.{HasExecuted, Saved, ShowsOnly}
 use Rattle.mx_play.specs.Histories.{events_in}
 use Rattle.mx_play.specs.Lines.{lines_of}
 use Rattle.mx_play.specs.Printed.{AreAsides, IsReported}
@@ -31,7 +31,7 @@ module _ {H S M : Type 0} (core : Core H S M) (letter_text : Fields → M → Te
       × HasExecuted core letter_text knows p shape fault command line old new text saved
       × (is_last ≡ ends command))
       ⊎ ((why : InputFault) × HasFault p line why × (fault ≡ Some why) × (is_last ≡ false)
-      × IsShown [] old new text × (saved ≡ []))
+      × ShowsOnly [] old new text × (saved ≡ []))
 
   -- what line k does and saves, and what the outputs get of it: standard output its text; standard
   -- error prompts, and then the line of its fault, if it has one

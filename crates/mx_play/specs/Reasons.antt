@@ -7,7 +7,7 @@ use Rattle.mx_cli.specs.declared.stop.Stop.TheVariants as stop
 use Rattle.mx_io.specs.Told.{Telling}
 use Rattle.mx_play.specs.Lines.{first_of}
 use Rattle.mx_play.specs.Played.{told_of_script}
-use Rattle.mx_play.specs.Stops.{AreReadable}
+use Rattle.mx_play.specs.Stops.{AreReadableLines}
 use Rattle.mx_play.specs.declared.line_sources.TheConstants.{MAX_LINE}
 
 -- it is a plan, and one without a fault: only memory can run out while it is read
@@ -34,4 +34,4 @@ pub record CanBeRead (told : Text → Option Telling) (lines : Option (List Text
     (left : Option ℕ) (plan : Text) (first : Option Text) : Type 0 where
   pub plan_stated : IsPlanStated (is_dash plan) (told plan) lines
   pub script_stated : IsStated (told_of_script told first)
-  pub readable : AreReadable left
+  pub readable : AreReadableLines left

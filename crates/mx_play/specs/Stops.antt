@@ -28,5 +28,5 @@ abbrev pub HaveNumbers : ℕ → Option ℕ → Type 0
 HaveNumbers first left = IsSomeAnd left (λ n. first + n < 2 ^ 64 - 1)
 
 -- each line that is left can be read, and there are fewer than 2 ^ 62 of them
-abbrev pub AreReadable : Option ℕ → Type 0
-AreReadable left = IsSomeAnd left (λ n. n < 2 ^ 62)
+abbrev pub AreReadableLines : Option ℕ → Type 0
+AreReadableLines left = IsSomeAnd left (λ n. n < 2 ^ 62)

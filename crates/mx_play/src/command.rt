@@ -5,13 +5,14 @@ ghost use Rattle.mx_cli.specs.Frames.{IsRunStatus};
 ghost use Rattle.mx_cli.specs.Reports.{seen};
 ghost use Rattle.mx_cli.specs.Requests.{text_of};
 ghost use Rattle.mx_play.specs.Played.{IsPlayedBy, Plays};
+ghost use Rattle.mx_play.specs.AskedFiles.{AsksStart};
 ghost use Rattle.mx_play.specs.Reasons.{CanBeRead};
-ghost use Rattle.mx_play.specs.Stops.{AreReadable};
+ghost use Rattle.mx_play.specs.Stops.{AreReadableLines};
 
 use crate::line_sources::Lines;
 use crate::session_by_plan::run_by_plan;
 use crate::session_files::fetch_start;
-use mx_cli::{Names, PlanAndText, close};
+use mx_cli::{FileNames, PlanAndText, close};
 use mx_io::{Output, Source, Store};
 use std::alloc::Global;
 
@@ -33,12 +34,14 @@ pub fn play<S: Source, L: Lines, W: Store, O: Output, E: Output>(
     ensures stops { O.takes_all out.old ≡ true → E.takes_all err.old ≡ true
         → CanBeRead (S.told source.old) (L.rest lines.old) (L.readable lines.old)
         plan.now (text_of script.entry) → result ≢ 1 }
+    ensures asks { AsksStart plan.now (text_of script.entry)
+        (S.asked source.old) (S.asked source.new) }
 {
     match fetch_start(alloc, plan, script, source, lines) {
         Ok(start) => play_and_close(alloc, plan, &start, lines, store, out, err),
         Err(stop) => {
             let events = script.unwrap_or("-");
-            close(alloc, Err(stop), &Names { plan, events }, out, err)
+            close(alloc, Err(stop), &FileNames { plan, events }, out, err)
         }
     }
 }
@@ -59,9 +62,9 @@ fn play_and_close<L: Lines, W: Store, O: Output, E: Output>(
     ensures passed { result ≡ 0 → O.keeps_back out.new ≡ false }
     ensures status { IsRunStatus result }
     ensures stops { O.takes_all out.old ≡ true → E.takes_all err.old ≡ true
-        → AreReadable (L.readable lines.old) → result ≢ 1 }
+        → AreReadableLines (L.readable lines.old) → result ≢ 1 }
 {
-    let names = Names { plan, events: "-" };
+    let names = FileNames { plan, events: "-" };
     let ended = run_by_plan(alloc, start, lines, store, out, err);
     close(alloc, ended, &names, out, err)
 }

@@ -17,7 +17,7 @@ use crate::input_fault::InputFault;
 use crate::printed_events::PrintedEvents;
 use crate::run_texts::add_events;
 use crate::saved::save;
-use crate::session::{DoneLine, Session, Setting, trace_of};
+use crate::session::{DoneLine, Session, SessionSetting, trace_of};
 use crate::session_script::add_script;
 use crate::undo::{redo, run_again, undo};
 use crate::views::show;
@@ -32,7 +32,7 @@ use std::str;
 
 /// Does what a command asks for. A `message` may say more about the fault that it returns.
 pub(crate) fn execute<C: Exclusion + Knowledge, W: Store>(
-    setting: &Setting<'_, C>,
+    setting: &SessionSetting<'_, C>,
     command: &SessionCommand,
     line: &[u8],
     session: &mut Session<C>,
@@ -96,7 +96,7 @@ where
 }
 
 fn do_line<C: Exclusion + Knowledge>(
-    setting: &Setting<'_, C>,
+    setting: &SessionSetting<'_, C>,
     line: &Line,
     typed: &[u8],
     session: &mut Session<C>,
@@ -137,7 +137,7 @@ where
 
 /// Adds a line that was done to a session.
 fn commit<C: Exclusion>(
-    setting: &Setting<'_, C>,
+    setting: &SessionSetting<'_, C>,
     typed: &str,
     line: PrintedEvents,
     session: &mut Session<C>,

@@ -40,11 +40,11 @@ pub trait Lines {
 }
 
 #[derive(Clone, Copy)]
-pub(crate) struct Listed<'a> {
+pub(crate) struct GivenLines<'a> {
     pub(crate) rest: &'a [u8],
 }
 
-impl Lines for Listed<'_> {
+impl Lines for GivenLines<'_> {
     ghost rest = { λ l. Some (lines_of l.rest.now) };
 
     ghost readable = { λ l. Some (length l.rest.now) };

@@ -12,7 +12,7 @@ use std::alloc::{AllocError, Global};
 use std::marker::Model;
 
 #[derive(Clone, Copy)]
-pub(crate) struct Setting<'a, C: Exclusion> {
+pub(crate) struct SessionSetting<'a, C: Exclusion> {
     pub(crate) alloc: Global,
     pub(crate) plan: &'a Plan,
     pub(crate) shape: &'a C::Shape,
@@ -54,7 +54,9 @@ pub(crate) fn trace_of<C: Exclusion>(state: &State<C>) -> &[Entry]
     state.cluster().trace()
 }
 
-pub(crate) fn first_state<C: Exclusion>(setting: &Setting<'_, C>) -> Result<State<C>, AllocError>
+pub(crate) fn first_state<C: Exclusion>(
+    setting: &SessionSetting<'_, C>,
+) -> Result<State<C>, AllocError>
     ensures { IfOk result (λ state.
         state ≡ first_state C.core setting.now.plan.now setting.now.shape.now) }
 {
@@ -62,7 +64,7 @@ pub(crate) fn first_state<C: Exclusion>(setting: &Setting<'_, C>) -> Result<Stat
 }
 
 pub(crate) fn first_session<C: Exclusion>(
-    setting: &Setting<'_, C>,
+    setting: &SessionSetting<'_, C>,
 ) -> Result<Session<C>, AllocError>
     ensures { IfOk result (λ session.
         session ≡ at_start C.core setting.now.plan.now setting.now.shape.now) }

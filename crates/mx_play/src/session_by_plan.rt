@@ -3,10 +3,10 @@
 ghost use Rattle.std.specs.Prelude.{◌≡◌, true, IfOk};
 ghost use Rattle.mx_cli.specs.Reports.{seen};
 ghost use Rattle.mx_play.specs.Played.{IsPlayedBy};
-ghost use Rattle.mx_play.specs.Stops.{AreReadable, OnlyMemory};
+ghost use Rattle.mx_play.specs.Stops.{AreReadableLines, OnlyMemory};
 
 use crate::line_sources::Lines;
-use crate::session::{Setting, first_session};
+use crate::session::{SessionSetting, first_session};
 use crate::session_run::run_session;
 use mx_cli::{PlanAndText, Stop};
 use mx_io::{Output, Store};
@@ -30,7 +30,7 @@ pub(crate) fn run_by_plan<L: Lines, W: Store, O: Output, E: Output>(
         (W.stored store.old) (W.stored store.new) start.now.plan.shape) }
     ensures zero { IfOk result (λ status. status ≡ 0) }
     ensures stops { O.takes_all out.old ≡ true → E.takes_all err.old ≡ true
-        → AreReadable (L.readable lines.old) → OnlyMemory result }
+        → AreReadableLines (L.readable lines.old) → OnlyMemory result }
     ensures stays { (O.takes_all out.new ≡ O.takes_all out.old)
         × (E.takes_all err.new ≡ E.takes_all err.old) }
 {
@@ -38,17 +38,17 @@ pub(crate) fn run_by_plan<L: Lines, W: Store, O: Output, E: Output>(
     let script = start.text.as_slice();
     match plan.shape() {
         Shape::Ricart(shape) => {
-            let setting = Setting::<Ricart> { alloc, plan, shape };
+            let setting = SessionSetting::<Ricart> { alloc, plan, shape };
             let mut session = first_session(&setting)?;
             run_session(&setting, script, lines, &mut session, store, out, err)
         }
         Shape::Maekawa(shape) => {
-            let setting = Setting::<Maekawa> { alloc, plan, shape };
+            let setting = SessionSetting::<Maekawa> { alloc, plan, shape };
             let mut session = first_session(&setting)?;
             run_session(&setting, script, lines, &mut session, store, out, err)
         }
         Shape::Raymond(shape) => {
-            let setting = Setting::<Raymond> { alloc, plan, shape };
+            let setting = SessionSetting::<Raymond> { alloc, plan, shape };
             let mut session = first_session(&setting)?;
             run_session(&setting, script, lines, &mut session, store, out, err)
         }

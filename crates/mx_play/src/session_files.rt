@@ -3,9 +3,11 @@
 ghost use Rattle.std.specs.Prelude.{◌≡◌, true, IfOk};
 ghost use Rattle.mx_cli.specs.Reading.{is_dash};
 ghost use Rattle.mx_cli.specs.Requests.{text_of};
+ghost use Rattle.mx_io.specs.Told.{Asks};
 ghost use Rattle.mx_play.specs.Lines.{AreLeft, session_lines};
 ghost use Rattle.mx_play.specs.Played.{IsLinePlan, IsPlanNamed, IsScriptOf, told_of_script};
-ghost use Rattle.mx_play.specs.Stops.{AreReadable, OnlyMemory};
+ghost use Rattle.mx_play.specs.AskedFiles.{AsksStart, file_of, files_in};
+ghost use Rattle.mx_play.specs.Stops.{AreReadableLines, OnlyMemory};
 ghost use Rattle.mx_play.specs.Reasons.{CanBeRead, IsLineStated, IsPlanStated, IsStated};
 
 use crate::line_sources::{LineRead, Lines};
@@ -30,8 +32,10 @@ pub(crate) fn fetch_start<S: Source, L: Lines>(
         (told_of_script (S.told source.old) (text_of script.entry)) start.text.items) }
     ensures stops { CanBeRead (S.told source.old) (L.rest lines.old) (L.readable lines.old)
         plan.now (text_of script.entry) → OnlyMemory result }
-    ensures readable { AreReadable (L.readable lines.old)
-        → IfOk result (λ _. AreReadable (L.readable lines.new)) }
+    ensures readable { AreReadableLines (L.readable lines.old)
+        → IfOk result (λ _. AreReadableLines (L.readable lines.new)) }
+    ensures asks { AsksStart plan.now (text_of script.entry)
+        (S.asked source.old) (S.asked source.new) }
 {
     let plan = plan_of(alloc, plan, source, lines)?;
     let text = script_of(alloc, script, source)?;
@@ -47,12 +51,13 @@ fn plan_of<S: Source, L: Lines>(
     ensures named { IfOk result (IsPlanNamed (S.told source.old) name.now (L.rest lines.old)) }
     ensures left { IfOk result (λ _.
         AreLeft (session_lines (is_dash name.now) (L.rest lines.old)) (L.rest lines.new)) }
-    ensures stops { AreReadable (L.readable lines.old)
+    ensures stops { AreReadableLines (L.readable lines.old)
         → IsPlanStated (is_dash name.now) (S.told source.old name.now) (L.rest lines.old)
         → OnlyMemory result }
-    ensures readable { AreReadable (L.readable lines.old)
-        → IfOk result (λ _. AreReadable (L.readable lines.new)) }
+    ensures readable { AreReadableLines (L.readable lines.old)
+        → IfOk result (λ _. AreReadableLines (L.readable lines.new)) }
     ensures stays { S.told source.new ≡ S.told source.old }
+    ensures asks { Asks (S.asked source.old) (S.asked source.new) (file_of name.now) }
 {
     if is_dash(name) {
         first_plan(alloc, lines)
@@ -65,10 +70,10 @@ fn first_plan<L: Lines>(alloc: Global, lines: &mut L) -> Result<Plan, Stop>
     ensures plan { IfOk result (IsLinePlan (L.rest lines.old)) }
     ensures left { IfOk result (λ _.
         AreLeft (session_lines true (L.rest lines.old)) (L.rest lines.new)) }
-    ensures stops { AreReadable (L.readable lines.old)
+    ensures stops { AreReadableLines (L.readable lines.old)
         → IsLineStated (L.rest lines.old) → OnlyMemory result }
-    ensures readable { AreReadable (L.readable lines.old)
-        → IfOk result (λ _. AreReadable (L.readable lines.new)) }
+    ensures readable { AreReadableLines (L.readable lines.old)
+        → IfOk result (λ _. AreReadableLines (L.readable lines.new)) }
 {
     let mut line = Vec::new(alloc);
     match lines.next(&mut line)? {
@@ -86,6 +91,7 @@ fn script_of<S: Source>(alloc: Global, name: Option<&str>, source: &mut S) -> Re
         (text_of name.entry)) text.items) }
     ensures stops { IsStated (told_of_script (S.told source.old) (text_of name.entry))
         → OnlyMemory result }
+    ensures asks { Asks (S.asked source.old) (S.asked source.new) (files_in (text_of name.entry)) }
 {
     let Some(name) = name else {
         return Ok(Vec::new(alloc));

@@ -12,14 +12,14 @@ ghost use Rattle.mx_play.specs.Executions.{Saved};
 ghost use Rattle.mx_play.specs.Plays.{ArePlayed, Does, IsPlayed};
 ghost use Rattle.mx_play.specs.Printed.{GetsReport};
 ghost use Rattle.mx_play.specs.Sessions.{IsSession, at_start};
-ghost use Rattle.mx_play.specs.Stops.{AreReadable, HaveNumbers, OnlyMemory};
+ghost use Rattle.mx_play.specs.Stops.{AreReadableLines, HaveNumbers, OnlyMemory};
 
 use crate::commands::execute;
 use crate::input::{Input, greet, is_end, read_input};
 use crate::input_fault::{InputFault, InputFaultLine, message_about};
-use crate::line_sources::{Lines, Listed};
+use crate::line_sources::{GivenLines, Lines};
 use crate::run_texts::add_end;
-use crate::session::{Session, Setting, trace_of};
+use crate::session::{Session, SessionSetting, trace_of};
 use mx_cli::{Fault, Named, Stop, write_line};
 use mx_format::Letter;
 use mx_io::{Output, Store};
@@ -36,7 +36,7 @@ struct Turn {
 }
 
 pub(crate) fn run_session<C: Exclusion + Knowledge, L: Lines, W: Store, O: Output, E: Output>(
-    setting: &Setting<'_, C>,
+    setting: &SessionSetting<'_, C>,
     script: &[u8],
     lines: &mut L,
     session: &mut Session<C>,
@@ -55,11 +55,11 @@ where
         (W.stored store.old) (W.stored store.new)) }
     ensures zero { IfOk result (λ status. status ≡ 0) }
     ensures stops { O.takes_all out.old ≡ true → E.takes_all err.old ≡ true
-        → AreReadable (L.readable lines.old) → OnlyMemory result }
+        → AreReadableLines (L.readable lines.old) → OnlyMemory result }
     ensures stays { (O.takes_all out.new ≡ O.takes_all out.old)
         × (E.takes_all err.new ≡ E.takes_all err.old) }
 {
-    let mut listed = Listed { rest: script };
+    let mut listed = GivenLines { rest: script };
     match run_lines(setting, 1, &mut listed, session, store, out, err)? {
         Some(number) => {
             greet(lines, err)?;
@@ -73,7 +73,7 @@ where
 /// Runs lines to their end, or to the first that ends the session; `first` is the number of the
 /// first of them. Returns the number of the line after them, if the session goes on.
 fn run_lines<C: Exclusion + Knowledge, L: Lines, W: Store, O: Output, E: Output>(
-    setting: &Setting<'_, C>,
+    setting: &SessionSetting<'_, C>,
     first: u64,
     lines: &mut L,
     session: &mut Session<C>,
@@ -115,7 +115,7 @@ where
 }
 
 fn execute_input<C: Exclusion + Knowledge, W: Store>(
-    setting: &Setting<'_, C>,
+    setting: &SessionSetting<'_, C>,
     input: &Input,
     line: &[u8],
     session: &mut Session<C>,
@@ -183,7 +183,7 @@ fn print<O: Output>(turn: &Turn, out: &mut O) -> Result<(), Stop>
 
 /// Reports the fault of a line, if it has one.
 fn report<C: Exclusion, E: Output>(
-    setting: &Setting<'_, C>,
+    setting: &SessionSetting<'_, C>,
     number: u64,
     turn: &Turn,
     line: &[u8],
@@ -212,7 +212,7 @@ fn report<C: Exclusion, E: Output>(
 }
 
 fn finish<C: Exclusion + Knowledge, O: Output>(
-    setting: &Setting<'_, C>,
+    setting: &SessionSetting<'_, C>,
     session: &Session<C>,
     out: &mut O,
 ) -> Result<u8, Stop>

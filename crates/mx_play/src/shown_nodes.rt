@@ -3,7 +3,7 @@
 ghost use Rattle.std.specs.Prelude.{◌≡◌, ◌++◌, length, string_bytes, OnOk, Some, None};
 ghost use Rattle.mx_play.specs.Views.{node_shown, standing_lines};
 
-use crate::session::Setting;
+use crate::session::SessionSetting;
 use mx_driver::node_at;
 use mx_format::{add_facts_line, add_member_line};
 use mx_knowledge::Knowledge;
@@ -14,7 +14,7 @@ use mx_stamps::NodeId;
 use std::alloc::AllocError;
 
 pub(crate) fn add_standing<C: Exclusion + Knowledge>(
-    setting: &Setting<'_, C>,
+    setting: &SessionSetting<'_, C>,
     to: &Option<NodeId>,
     cluster: &Cluster<C>,
     text: &mut String,
@@ -30,7 +30,7 @@ pub(crate) fn add_standing<C: Exclusion + Knowledge>(
 }
 
 fn add_each<C: Exclusion + Knowledge>(
-    setting: &Setting<'_, C>,
+    setting: &SessionSetting<'_, C>,
     cluster: &Cluster<C>,
     text: &mut String,
 ) -> Result<(), AllocError>
@@ -45,7 +45,7 @@ fn add_each<C: Exclusion + Knowledge>(
 }
 
 fn add_shown<C: Exclusion + Knowledge>(
-    setting: &Setting<'_, C>,
+    setting: &SessionSetting<'_, C>,
     node: NodeId,
     member: &Member<C>,
     text: &mut String,
@@ -59,7 +59,7 @@ fn add_shown<C: Exclusion + Knowledge>(
 }
 
 fn add_one<C: Exclusion + Knowledge>(
-    setting: &Setting<'_, C>,
+    setting: &SessionSetting<'_, C>,
     node: NodeId,
     cluster: &Cluster<C>,
     text: &mut String,

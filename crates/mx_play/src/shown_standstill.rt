@@ -3,7 +3,7 @@
 ghost use Rattle.std.specs.Prelude.{◌≡◌, ◌++◌, length, string_bytes, OnOk, None};
 ghost use Rattle.mx_play.specs.Views.{stuck_shown};
 
-use crate::session::Setting;
+use crate::session::SessionSetting;
 use mx_format::add_stuck;
 use mx_knowledge::Knowledge;
 use mx_nodelaws::Exclusion;
@@ -13,7 +13,7 @@ use std::alloc::AllocError;
 
 /// Appends the line of a session that stands still, unless a node was named.
 pub(crate) fn add_standstill<C: Exclusion + Knowledge>(
-    setting: &Setting<'_, C>,
+    setting: &SessionSetting<'_, C>,
     to: &Option<NodeId>,
     state: &State<C>,
     text: &mut String,
@@ -29,7 +29,7 @@ pub(crate) fn add_standstill<C: Exclusion + Knowledge>(
 }
 
 fn add_if_stuck<C: Exclusion + Knowledge>(
-    setting: &Setting<'_, C>,
+    setting: &SessionSetting<'_, C>,
     state: &State<C>,
     text: &mut String,
 ) -> Result<(), AllocError>

@@ -7,7 +7,7 @@ ghost use Rattle.mx_play.specs.Sessions.{IsSession, line_events};
 ghost use Rattle.mx_play.specs.Executions.{CanRefuseRedo, CanRefuseUndo, DoesOr, IsRedone, IsUndone};
 
 use crate::input_fault::InputFault;
-use crate::session::{DoneLine, Session, Setting, first_state, trace_of};
+use crate::session::{DoneLine, Session, SessionSetting, first_state, trace_of};
 use mx_lines::Escaped;
 use mx_nodelaws::Exclusion;
 use mx_scripts::{SessionEvent, State};
@@ -15,7 +15,7 @@ use std::alloc::AllocError;
 
 /// Undoes the last lines, and prints these lines, and how many events those were.
 pub(crate) fn undo<C: Exclusion>(
-    setting: &Setting<'_, C>,
+    setting: &SessionSetting<'_, C>,
     count: u64,
     session: &mut Session<C>,
     text: &mut String,
@@ -49,7 +49,7 @@ pub(crate) fn undo<C: Exclusion>(
 
 /// Redoes what was undone last, and prints these lines, and how many events those are.
 pub(crate) fn redo<C: Exclusion>(
-    setting: &Setting<'_, C>,
+    setting: &SessionSetting<'_, C>,
     session: &mut Session<C>,
     text: &mut String,
 ) -> Result<Option<InputFault>, AllocError>
@@ -115,7 +115,7 @@ fn trace_length<C: Exclusion>(session: &Session<C>) -> usize
 
 /// Starts the cluster of the plan anew, and does these lines.
 pub(crate) fn run_again<C: Exclusion>(
-    setting: &Setting<'_, C>,
+    setting: &SessionSetting<'_, C>,
     lines: &[DoneLine],
     state: &mut State<C>,
 ) -> Result<(), AllocError>

@@ -5,7 +5,7 @@ ghost use Rattle.mx_format.specs.LetterTexts.{letter_text};
 ghost use Rattle.mx_play.specs.Views.{view_text};
 
 use crate::cuts::add_cuts;
-use crate::session::Setting;
+use crate::session::SessionSetting;
 use crate::shown_nodes::add_standing;
 use crate::shown_parcels::add_waiting;
 use crate::shown_standstill::add_standstill;
@@ -17,7 +17,7 @@ use mx_stamps::NodeId;
 use std::alloc::AllocError;
 
 pub(crate) fn show<C: Exclusion + Knowledge>(
-    setting: &Setting<'_, C>,
+    setting: &SessionSetting<'_, C>,
     to: &Option<NodeId>,
     state: &State<C>,
     text: &mut String,

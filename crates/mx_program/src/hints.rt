@@ -36,7 +36,7 @@ impl fmt::Display for FaultyFiles<'_> {
 
 /// Where the fault of some files is.
 #[derive(Drop)]
-enum Place {
+enum FaultPlace {
     /// The first line that `explain` says of it.
     Line(String),
     /// Nothing is at fault in the files.
@@ -158,18 +158,18 @@ fn tell_place<R: Files + Input, E: Output>(
         return;
     }
     match place_in(rt, alloc, &faulty) {
-        Place::Line(line) => {
+        FaultPlace::Line(line) => {
             let _ = err.put(line.as_bytes());
         }
-        Place::Nowhere => {
+        FaultPlace::Nowhere => {
             if let Task::Live(options) = &task {
                 tell_sections(rt, alloc, &files, options, err);
             }
         }
-        Place::Unknown if is_terminal && has_hint(&task) => {
+        FaultPlace::Unknown if is_terminal && has_hint(&task) => {
             let _ = write_line(alloc, err, faulty);
         }
-        Place::Unknown => {}
+        FaultPlace::Unknown => {}
     }
 }
 
@@ -218,25 +218,25 @@ fn faulty_files<'a>(files: &mx_cli::Files<'a>, task: &Task<'_>) -> FaultyFiles<'
 }
 
 /// Returns the place of the fault of these files.
-fn place_in<R: Files + Input>(rt: &R, alloc: Global, files: &FaultyFiles<'_>) -> Place {
+fn place_in<R: Files + Input>(rt: &R, alloc: Global, files: &FaultyFiles<'_>) -> FaultPlace {
     let FaultyFiles {
         plan,
         second,
         is_script,
     } = *files;
     if is_read_once(rt, plan) || second.is_some_and(|name| is_read_once(rt, name)) {
-        return Place::Unknown;
+        return FaultPlace::Unknown;
     }
     let mut source = Streams { rt };
     let (mut out, mut err) = (Vec::new(alloc), Vec::new(alloc));
     let (told, fault) = (&mut out, &mut err);
     match explain(alloc, plan, second, is_script, &mut source, told, fault) {
-        0 => Place::Nowhere,
+        0 => FaultPlace::Nowhere,
         1 => match line_about(alloc, out.as_slice(), err.as_slice()) {
-            Some(line) => Place::Line(line),
-            None => Place::Unknown,
+            Some(line) => FaultPlace::Line(line),
+            None => FaultPlace::Unknown,
         },
-        _ => Place::Unknown,
+        _ => FaultPlace::Unknown,
     }
 }
 

@@ -22,9 +22,9 @@ use Rattle.mx_lines.specs.declared.orders.Order.TheVariants as order
 use Rattle.mx_lines.specs.declared.orders.Scope.TheVariants.{Link}
 use Rattle.mx_scripts.specs.Expectations.{IsNotMet}
 use Rattle.mx_scripts.specs.Fates.{Fates, is_under_way}
-use Rattle.mx_scripts.specs.Lines.{DoesAll, DoesRead, DoesText, IsNext, Once, Performs, IsNotDone, Misreads, Reads, Repeats, StopsAfter, StopsAt, StopsBy, StopsWithin, number_after, of_line}
+use Rattle.mx_scripts.specs.Lines.{DoesAll, DoesRead, DoesText, IsNext, Once, Performs, IsNotDone, Misreads, ReadsLine, Repeats, StopsAfter, StopsAt, StopsBy, StopsWithin, number_after, of_line}
 use Rattle.mx_scripts.specs.Files.{file_text}
-use Rattle.mx_scripts.specs.Played.{Plays, events_of}
+use Rattle.mx_scripts.specs.Played.{StaysPlayed, events_of}
 use Rattle.mx_scripts.specs.ScriptFiles.{IsFileOfScript, StopsFrom}
 use Rattle.mx_scripts.proofs.OverLemmas.{IsLineOver, read_over}
 use Rattle.mx_scripts.proofs.PlayedLemmas.{file_of_played, noted, plays_step}
@@ -200,15 +200,15 @@ module _ {H S M : Type 0} (core : Core H S M) (nodes registers : ℕ) where
 
   -- ---- it leads from one cluster to another
 
-  plays_same : (old new : ClusterState S M) → new ≡ old → Plays core nodes registers old new
-  plays_same old new is = subst (λ (g : ClusterState S M). Plays core nodes registers old g) (sym is) (λ start played. played)
+  plays_same : (old new : ClusterState S M) → new ≡ old → StaysPlayed core nodes registers old new
+  plays_same old new is = subst (λ (g : ClusterState S M). StaysPlayed core nodes registers old g) (sym is) (λ start played. played)
 
-  plays_brought : (e : SessionEvent) (old new : RunState S M) → Brings core old e new → IsDrawnOf nodes registers e → Plays core nodes registers old.cluster new.cluster
+  plays_brought : (e : SessionEvent) (old new : RunState S M) → Brings core old e new → IsDrawnOf nodes registers e → StaysPlayed core nodes registers old.cluster new.cluster
   plays_brought (Happens event) old new brings drawn = plays_step core nodes registers old.cluster new.cluster event brings.0 drawn
   plays_brought (IsLost k) old new brings drawn = plays_same old.cluster new.cluster brings.0
   plays_brought (LinksChange change) old new brings drawn = plays_same old.cluster new.cluster brings.0
 
-  chain_plays : (hs : List Happening) (old new : RunState S M) → Chain old hs new → Plays core nodes registers old.cluster new.cluster
+  chain_plays : (hs : List Happening) (old new : RunState S M) → Chain old hs new → StaysPlayed core nodes registers old.cluster new.cluster
   chain_plays [] old new x = plays_same old.cluster new.cluster (ap (λ (s : RunState S M). s.cluster) x)
   chain_plays (h ∷ hs) old new x = λ start played. chain_plays hs x.0 new x.4 start (plays_brought h.event old x.0 x.3 x.1 start played)
 
@@ -306,7 +306,7 @@ module _ {H S M : Type 0} (core : Core H S M) (p : Fields) where
   misread text old why (inr x) = inr (inl x)
 
   -- the newest item has not the outcome that the line expects
-  pub not_met : (text : Text) (old : RunState S M) (why : LineFailure) → Reads p text script_line.Expects → (why ≡ failure.Memory) ⊎ IsNotMet text old.cluster.trace why → IsNotDone core p text old why
+  pub not_met : (text : Text) (old : RunState S M) (why : LineFailure) → ReadsLine p text script_line.Expects → (why ≡ failure.Memory) ⊎ IsNotMet text old.cluster.trace why → IsNotDone core p text old why
   not_met text old why reads (inl x) = inl x
   not_met text old why reads (inr x) = inr (inr (inr (reads, x)))
 

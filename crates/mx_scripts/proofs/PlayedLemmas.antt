@@ -13,7 +13,7 @@ use Rattle.mx_plan.specs.Text.{Text}
 use Rattle.mx_plan.specs.Fields.{Fields}
 use Rattle.mx_explorer.specs.Drawn.{IsDrawn}
 use Rattle.mx_scripts.specs.Files.{file_text}
-use Rattle.mx_scripts.specs.Played.{AreOver, IsFileOf, IsPlayed, Plays, events_of}
+use Rattle.mx_scripts.specs.Played.{AreOver, IsFileOf, IsPlayed, StaysPlayed, events_of}
 
 -- the last of a list, or one before
 one_more : (nodes registers : ℕ) (e x : Event) (es : List Event) → AreOver nodes registers es → IsDrawn nodes registers e
@@ -47,14 +47,14 @@ module _ {H S M : Type 0} (core : Core H S M) where
   }
 
   -- an event more
-  pub plays_step : (nodes registers : ℕ) (g new : ClusterState S M) (e : Event) → step_of core g e ≡ Ok new → IsDrawn nodes registers e → Plays core nodes registers g new
+  pub plays_step : (nodes registers : ℕ) (g new : ClusterState S M) (e : Event) → step_of core g e ≡ Ok new → IsDrawn nodes registers e → StaysPlayed core nodes registers g new
   plays_step nodes registers g new e step over = λ start played. record {
     runs = runs_step start g new e played.runs step;
     over = λ x h. one_more nodes registers e x (events_of g.trace) played.over over
         (in_append x (events_of g.trace) (e ∷ []) (subst (λ (es : List Event). IsIn x es) (noted g new e step) h));
   }
 
-  pub file_of_played : (p : Fields) (start g : ClusterState S M) (trace : List Entry) (text : Text) → start.trace ≡ [] → Plays core (length p.nodes) (length p.registers) start g
+  pub file_of_played : (p : Fields) (start g : ClusterState S M) (trace : List Entry) (text : Text) → start.trace ≡ [] → StaysPlayed core (length p.nodes) (length p.registers) start g
       → trace ≡ g.trace → text ≡ file_text p (events_of trace) → IsFileOf core p start text
   file_of_played p start g trace text empty plays same is =
       let played = plays start (played_at_rest (length p.nodes) (length p.registers) start empty) in
@@ -62,7 +62,7 @@ module _ {H S M : Type 0} (core : Core H S M) where
 
   -- the same of a text that may be missing
   pub file_if_played : {A E : Type 0} (bytes : A → Text) (p : Fields) (start g : ClusterState S M) (trace : List Entry) (r : Result A E) → start.trace ≡ []
-      → Plays core (length p.nodes) (length p.registers) start g → trace ≡ g.trace → IfOk r (λ text. bytes text ≡ file_text p (events_of trace))
+      → StaysPlayed core (length p.nodes) (length p.registers) start g → trace ≡ g.trace → IfOk r (λ text. bytes text ≡ file_text p (events_of trace))
       → IfOk r (λ text. IsFileOf core p start (bytes text))
   file_if_played bytes p start g trace (Ok text) empty plays same is = file_of_played p start g trace (bytes text) empty plays same is
   file_if_played bytes p start g trace (Err e) empty plays same is = tt

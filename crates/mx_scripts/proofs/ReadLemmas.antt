@@ -28,7 +28,7 @@ use Rattle.mx_format.specs.EventTexts.{name_of, register_name_of}
 use Rattle.mx_format.specs.Lines.{each_text}
 use Rattle.mx_format.specs.EventArrays.{item_text}
 use Rattle.mx_scripts.specs.Files.{next_text, file_text}
-use Rattle.mx_scripts.specs.Played.{AreReadable, IsNumbered}
+use Rattle.mx_scripts.specs.Played.{AreReadable, HasSmallNumber}
 use Rattle.mx_scripts.proofs.ItemLemmas.{AreParts, IsPart, IsWord, Part, ascii_then, count, event_json, event_tokens, event_word, item_utf8, name, part_json, parts_json, parts_of}
 
 -- ---- the tokens of a file
@@ -189,7 +189,7 @@ module _ (p : Fields) (valid : IsPlan p) where
   abbrev IsNamed : Event → Type 0
   IsNamed e = IsDrawn (length p.nodes) (length p.registers) e
 
-  parts_are : (e : Event) → IsNamed e → IsNumbered e → AreParts (parts_of p e)
+  parts_are : (e : Event) → IsNamed e → HasSmallNumber e → AreParts (parts_of p e)
   parts_are (Read node register) h n = (node_word node h.0, (register_word register h.1, tt))
   parts_are (Write node register value) h n = (node_word node h.0, (register_word register h.1, (n, tt)))
   parts_are (Want node other) h n = (node_word node h.0, (node_word other h.1, tt))
@@ -210,7 +210,7 @@ module _ (p : Fields) (valid : IsPlan p) where
   events_are k [] over = refl
   events_are k (e ∷ es) over = rw (event_is k e (over e (inl refl)), events_are (k + 1) es (λ x is. over x (inr is))) refl
 
-  all_parts : (es : List Event) → ((e : Event) → IsIn e es → IsNamed e) → ((e : Event) → IsIn e es → IsNumbered e) → AllParts p es
+  all_parts : (es : List Event) → ((e : Event) → IsIn e es → IsNamed e) → ((e : Event) → IsIn e es → HasSmallNumber e) → AllParts p es
   all_parts [] over numbered = tt
   all_parts (e ∷ es) over numbered =
       (parts_are e (over e (inl refl)) (numbered e (inl refl)), all_parts es (λ x is. over x (inr is)) (λ x is. numbered x (inr is)))

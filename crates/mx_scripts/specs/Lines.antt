@@ -38,9 +38,9 @@ abbrev pub cut : ℕ → SessionEvent
 cut link = LinksChange (Cut (link / 21) (link % 21))
 
 -- the event of the first number that satisfies `is_so`; `None` if no number does
-abbrev pub Finds : (ℕ → Bool) → (ℕ → SessionEvent) → Option SessionEvent → Type 0
-Finds is_so event None = (k : ℕ) → is_so k ≡ false
-Finds is_so event (Some e) = (k : ℕ) × IsFirst is_so k × (e ≡ event k)
+abbrev pub FindsFirst : (ℕ → Bool) → (ℕ → SessionEvent) → Option SessionEvent → Type 0
+FindsFirst is_so event None = (k : ℕ) → is_so k ≡ false
+FindsFirst is_so event (Some e) = (k : ℕ) × IsFirst is_so k × (e ≡ event k)
 
 -- the event that loses a parcel, if it is under way
 abbrev pub loss_of : Fates → ℕ → Option SessionEvent
@@ -64,15 +64,15 @@ module _ {P : Type 0} (d : Fates) (sent : List (ℕ × ℕ × P)) where
   abbrev pub IsNext : Order → ℕ → Option SessionEvent → Type 0
   IsNext (order.Happens event) done next = Once done (λ e. e ≡ Happens event) next
   IsNext (order.Arrives from to) done next =
-      Once done (λ e. Finds (is_waiting d sent (Link from to)) arrival (Some e)) next
-  IsNext (order.AllArrive scope) done next = Finds (can_arrive d sent scope) arrival next
+      Once done (λ e. FindsFirst (is_waiting d sent (Link from to)) arrival (Some e)) next
+  IsNext (order.AllArrive scope) done next = FindsFirst (can_arrive d sent scope) arrival next
   IsNext (order.IsLost from to) done next =
-      Once done (λ e. Finds (is_waiting d sent (Link from to)) IsLost (Some e)) next
+      Once done (λ e. FindsFirst (is_waiting d sent (Link from to)) IsLost (Some e)) next
   IsNext (order.ParcelIsLost k) done next = (k < length sent) × (next ≡ loss_of d k)
-  IsNext (order.AllAreLost scope) done next = Finds (is_waiting d sent scope) IsLost next
+  IsNext (order.AllAreLost scope) done next = FindsFirst (is_waiting d sent scope) IsLost next
   IsNext (order.ArrivesAgain from to) done next = Once done (λ e. IsAgain d from to e) next
   IsNext (order.LinksChange change) done next = Once done (λ e. e ≡ LinksChange change) next
-  IsNext (order.Parts sides) done next = Finds (is_across sides d.links) cut next
+  IsNext (order.Parts sides) done next = FindsFirst (is_across sides d.links) cut next
 
   -- an order has no next event, since there is no such parcel
   abbrev pub Misses : Order → ℕ → LineFault → Type 0
@@ -95,8 +95,8 @@ IsNoNext s order done fault =
     × Bars s next fault)
 
 -- what the words of a line ask for, without its comment
-abbrev pub Reads : Fields → Text → ScriptLine → Type 0
-Reads p text read =
+abbrev pub ReadsLine : Fields → Text → ScriptLine → Type 0
+ReadsLine p text read =
     (words : List (Bor Text)) × AreWords (before_comment text) words
     × (line_of (known_of p) (texts_of words) ≡ Ok read)
 
@@ -173,7 +173,7 @@ module _ {H S M : Type 0} (core : Core H S M) where
   module _ (p : Fields) where
     abbrev pub DoesText : Text → RunState S M → List SessionEvent → RunState S M → Type 0
     DoesText text old es new =
-        (read : ScriptLine) × Reads p text read × DoesRead text read old es new
+        (read : ScriptLine) × ReadsLine p text read × DoesRead text read old es new
 
     -- all lines were done, each in the state to which those before it lead, the first of them after
     -- `done` others; and this is what they did
@@ -190,9 +190,9 @@ module _ {H S M : Type 0} (core : Core H S M) where
     IsNotDone text old why =
         (why ≡ failure.Memory)
         ⊎ (Misreads p text why
-        ⊎ (((line : Line) × Reads p text (script_line.Does line)
+        ⊎ (((line : Line) × ReadsLine p text (script_line.Does line)
         × StopsWithin line.order line.times old why)
-        ⊎ (Reads p text script_line.Expects × IsNotMet text old.cluster.trace why)))
+        ⊎ (ReadsLine p text script_line.Expects × IsNotMet text old.cluster.trace why)))
 
     -- the first n lines were done, and did this; the next one is not done, for this reason
     pub record StopsAt (texts : List Text) (old : RunState S M) (n : ℕ)

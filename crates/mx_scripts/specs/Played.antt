@@ -34,9 +34,9 @@ pub record IsPlayed {H S M : Type 0} (core : Core H S M) (nodes registers : ℕ)
 
 -- if the events of the old cluster's trace lead from a start to the old cluster, and name only
 -- these nodes and registers, the same holds of the new cluster and its trace
-abbrev pub Plays : {H S M : Type 0} → Core H S M → ℕ → ℕ → ClusterState S M → ClusterState S M
+abbrev pub StaysPlayed : {H S M : Type 0} → Core H S M → ℕ → ℕ → ClusterState S M → ClusterState S M
     → Type 0
-Plays {H} {S} {M} core nodes registers old new =
+StaysPlayed {H} {S} {M} core nodes registers old new =
     (start : ClusterState S M) → IsPlayed core nodes registers start old
     → IsPlayed core nodes registers start new
 
@@ -60,15 +60,15 @@ IsEventFile p text (Raymond tree) = IsFileOf raymond_core p (at_rest raymond_cor
 -- ---- events that can be read back from their file
 
 -- the number in the event, if it has one, fits in 64 bits
-abbrev pub IsNumbered : Event → Type 0
-IsNumbered (Write node register value) = value < 2 ^ 64
-IsNumbered (Settle node upto) = upto < 2 ^ 64
-IsNumbered (Deliver k) = k < 2 ^ 64
-IsNumbered _ = ⊤
+abbrev pub HasSmallNumber : Event → Type 0
+HasSmallNumber (Write node register value) = value < 2 ^ 64
+HasSmallNumber (Settle node upto) = upto < 2 ^ 64
+HasSmallNumber (Deliver k) = k < 2 ^ 64
+HasSmallNumber _ = ⊤
 
 -- at most a million events, which name only nodes and registers of the plan; their numbers fit in
 -- 64 bits
 pub record AreReadable (p : Fields) (es : List Event) : Type 0 where
   pub over : AreOver (length p.nodes) (length p.registers) es
-  pub numbered : (e : Event) → IsIn e es → IsNumbered e
+  pub numbered : (e : Event) → IsIn e es → HasSmallNumber e
   pub few : length es ≤ MAX_EVENTS

@@ -2,7 +2,7 @@
 
 ghost use Rattle.std.specs.Prelude.{◌≡◌, ◌<◌, ◌≤◌, None, Some, IfErr, IfOk, IfSome, OnOk, length, slice_index_or};
 ghost use Rattle.mx_scripts.specs.Fates.{IsFirst, NoneWaits, can_arrive, is_waiting};
-ghost use Rattle.mx_scripts.specs.Lines.{Finds, IsAgain, IsNext, IsNoNext, Misses, Once, arrival, cut, loss_of};
+ghost use Rattle.mx_scripts.specs.Lines.{FindsFirst, IsAgain, IsNext, IsNoNext, Misses, Once, arrival, cut, loss_of};
 ghost use Rattle.mx_scripts.specs.Links.{is_across, link_of};
 ghost use Rattle.mx_scripts.specs.States.{Admits, Bars, IsAllowed};
 
@@ -80,7 +80,7 @@ impl<C: Exclusion> State<C> {
     }
 
     fn next_arrival(&self, scope: &Scope) -> Option<SessionEvent>
-        ensures { Finds (can_arrive self.now.fates self.now.cluster.sent scope.now)
+        ensures { FindsFirst (can_arrive self.now.fates self.now.cluster.sent scope.now)
             arrival result }
     {
         match self.oldest(scope, Wanted::Arriving) {
@@ -90,7 +90,7 @@ impl<C: Exclusion> State<C> {
     }
 
     fn next_loss(&self, scope: &Scope) -> Option<SessionEvent>
-        ensures { Finds (is_waiting self.now.fates self.now.cluster.sent scope.now)
+        ensures { FindsFirst (is_waiting self.now.fates self.now.cluster.sent scope.now)
             SessionEvent.IsLost result }
     {
         match self.oldest(scope, Wanted::Waiting) {
@@ -100,7 +100,7 @@ impl<C: Exclusion> State<C> {
     }
 
     fn next_cut(&self, sides: &Sides) -> Option<SessionEvent>
-        ensures { Finds (is_across sides.now self.now.fates.links) cut result }
+        ensures { FindsFirst (is_across sides.now self.now.fates.links) cut result }
     {
         match self.in_flight.first_across(sides) {
             Some(link) => Some(cut(link)),
@@ -114,7 +114,7 @@ impl<C: Exclusion> State<C> {
         to: NodeId,
         done: u64,
     ) -> Result<Option<SessionEvent>, LineFault>
-        ensures next { IfOk result (Once done (λ e. Finds
+        ensures next { IfOk result (Once done (λ e. FindsFirst
             (is_waiting self.now.fates self.now.cluster.sent (Scope.Link from to)) arrival
             (Some e))) }
         ensures err { IfErr result
@@ -133,7 +133,7 @@ impl<C: Exclusion> State<C> {
         to: NodeId,
         done: u64,
     ) -> Result<Option<SessionEvent>, LineFault>
-        ensures next { IfOk result (Once done (λ e. Finds
+        ensures next { IfOk result (Once done (λ e. FindsFirst
             (is_waiting self.now.fates self.now.cluster.sent (Scope.Link from to))
             SessionEvent.IsLost (Some e))) }
         ensures err { IfErr result

@@ -1,7 +1,7 @@
 //! `script`: the events that the lines of a script ask for, as a file.
 
 ghost use Rattle.std.specs.Prelude.{◌≡◌, ◌⊎◌, List, [], string_bytes, IfErr, IfOk, OnOk};
-ghost use Rattle.mx_scripts.specs.Lines.{DoesText, IsNotDone, Misreads, Performs, Reads, Repeats, StopsAfter, StopsWithin};
+ghost use Rattle.mx_scripts.specs.Lines.{DoesText, IsNotDone, Misreads, Performs, ReadsLine, Repeats, StopsAfter, StopsWithin};
 ghost use Rattle.mx_scripts.specs.ScriptFiles.{IsFileOfScript, IsScriptFile, StopsFrom, StopsInPlan};
 ghost use Rattle.mx_scripts.specs.Scripts.{HasLine, IsLineOf};
 ghost use Rattle.mx_scripts.specs.States.{Brings, IsAllowed, IsNotApplied, before_any};
@@ -111,7 +111,7 @@ pub(crate) fn do_line<C: Exclusion, K: Recorder<State<C>>>(
 }
 
 fn line_in(alloc: Global, plan: &Plan, line: &str) -> Result<ScriptLine, LineFailure>
-    ensures ok { IfOk result (Reads plan.now line.now) }
+    ensures ok { IfOk result (ReadsLine plan.now line.now) }
     ensures err { IfErr result (λ why.
         (why ≡ LineFailure.Memory) ⊎ Misreads plan.now line.now why) }
 {

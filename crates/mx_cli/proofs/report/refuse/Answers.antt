@@ -1,14 +1,14 @@
 use Rattle.std.proofs.Common.{◌≡◌, ◌∙◌, inl, inr, subst}
 use Rattle.clap.specs.Words.{kind_of}
 use Rattle.clap.specs.declared.error.kind.ErrorKind.TheVariants.{OutOfMemory}
-use Rattle.mx_cli.specs.Words.{IsShown}
+use Rattle.mx_cli.specs.Words.{IsHelpKind}
 use Rattle.mx_cli.proofs.OutputLemmas.{Keeps-refl}
 use Rattle.mx_cli.proofs.RefusedLemmas.{help_is_shown, wrong_is_not_shown}
 use Rattle.mx_cli.proofs.report.refuse.Goals as goal
 
 pub returns-in-DisplayHelp-clause-answers : goal.returns-in-DisplayHelp-clause-answers
 returns-in-DisplayHelp-clause-answers g c line words kinds =
-    let shown = subst IsShown c.kind.ensures c.in-DisplayHelp.is in
+    let shown = subst IsHelpKind c.kind.ensures c.in-DisplayHelp.is in
     (λ asks. c.show.ensures, λ wrong. absurd (wrong_is_not_shown c.args.e.now line words kinds wrong shown))
 
 pub returns-in_default : goal.returns-in_default

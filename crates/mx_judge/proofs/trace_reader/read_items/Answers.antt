@@ -3,7 +3,7 @@ use Rattle.serde_json.specs.View.{view}
 use Rattle.mx_judge.specs.Entries.{item_of}
 use Rattle.mx_judge.specs.Faults.{list_fault}
 use Rattle.mx_judge.specs.Listed.{listed, nothing}
-use Rattle.mx_judge.specs.Traces.{Gives, with_item}
+use Rattle.mx_judge.specs.Traces.{GivesTrace, with_item}
 use Rattle.mx_judge.specs.declared.faults.ItemFault.{ItemFault}
 use Rattle.mx_judge.specs.declared.faults.TraceFault.{TraceFault}
 use Rattle.mx_judge.proofs.ItemLemmas.{added, gives_refused, refused, rest, rest_end, rest_err, rest_ok}
@@ -21,7 +21,7 @@ returns-in-Err c =
     let found = refused (k + 1) t c.item_in.result (item (view x)) fault c.item_in.ensures c.in-Err.ensures.err in
     let named = λ (e : ItemFault) (is : with_item (k + 1) t (item (view x)) ≡ Err e).
     c.loop-index.invariant ∙ rest_err view item list_fault items t k x e c.loop-index-test.true (ap (λ v. with_item (k + 1) t (item (view v))) (sym c.index-items-index.is) ∙ is) in
-    subst (λ (f : TraceFault). Gives wanted (Err f)) (sym c.of_item.ensures)
+    subst (λ (f : TraceFault). GivesTrace wanted (Err f)) (sym c.of_item.ensures)
     (gives_refused list_fault (k + 1) wanted (with_item (k + 1) t (item (view x))) fault refl named found)
 
 pub loop-index-preserved : goal.loop-index-preserved

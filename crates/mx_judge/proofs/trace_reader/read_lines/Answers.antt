@@ -3,7 +3,7 @@ use Rattle.std.specs.List.{before_first}
 use Rattle.mx_plan.specs.Text.{Text}
 use Rattle.mx_judge.specs.Faults.{line_fault}
 use Rattle.mx_judge.specs.Listed.{listed, nothing}
-use Rattle.mx_judge.specs.Traces.{Gives, Refuses, line_item, with_item}
+use Rattle.mx_judge.specs.Traces.{GivesTrace, RefusesItem, line_item, with_item}
 use Rattle.mx_judge.specs.declared.faults.ItemFault.{ItemFault}
 use Rattle.mx_judge.specs.declared.faults.TraceFault.{TraceFault}
 use Rattle.mx_judge.proofs.ItemLemmas.{added, gives_refused, refused}
@@ -18,9 +18,9 @@ returns-in-Err c =
     let rest = c.lines.rest.now in
     let fault = c.in-Err.fault in
     let found = refused k t c.line_in.result (line_item p c.split_line.result.0.now) fault c.line_in.ensures c.in-Err.ensures.err in
-    let here = subst (λ (l : Text). Refuses (with_item k t (line_item p l)) fault) c.split_line.ensures.line found in
+    let here = subst (λ (l : Text). RefusesItem (with_item k t (line_item p l)) fault) c.split_line.ensures.line found in
     let named = λ (e : ItemFault) (is : with_item k t (line_item p (before_first is_feed rest)) ≡ Err e). c.lines.invariant.same ∙ line_refused p t k rest e is in
-    subst (λ (f : TraceFault). Gives (from_lines p nothing 1 c.args.text.now) (Err f)) (sym c.of_line.ensures)
+    subst (λ (f : TraceFault). GivesTrace (from_lines p nothing 1 c.args.text.now) (Err f)) (sym c.of_line.ensures)
     (gives_refused line_fault k (from_lines p nothing 1 c.args.text.now) (with_item k t (line_item p (before_first is_feed rest))) fault refl named here)
 
 pub returns-then-line-rest : goal.returns-then-line-rest

@@ -13,7 +13,7 @@ pub returns-in_err-left : goal.returns-in_err-left
 returns-in_err-left g c =
     let e = c.in_err-left.field-0.0 in
     let failed : c.all_put.result ≡ Err e = search rules in
-    let known = g.N.Names.known c.args.names.now in
+    let known = g.N.KnownNames.known c.args.names.now in
     let words = c.args.words.now in
     error_is c.from_residual.result e c.from_residual.ensures.1
     ∙ sym (sides_known known c.args.place c.args.bar words (search rules) (search rules)
@@ -22,7 +22,7 @@ returns-in_err-left g c =
 pub returns : goal.returns
 returns g c =
     let done : c.all_put.result ≡ Ok c.in_ok-left.left = search rules in
-    let known = g.N.Names.known c.args.names.now in
+    let known = g.N.KnownNames.known c.args.names.now in
     let words = c.args.words.now in
     rw (left_over known c.args.place c.args.bar words) at c.all_put-2.ensures
     ∙ sym (sides_known known c.args.place c.args.bar words (search rules) (search rules)

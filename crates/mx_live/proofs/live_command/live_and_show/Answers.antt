@@ -8,6 +8,7 @@ returns-in-Ok g c = record {
   ends = c.live_plan.ensures.ends (g.S.Source.told c.args.source.now c.args.plan.now) c.in-Ok.ensures.told;
   progress = c.live_plan.ensures.progress;
   stays = c.live_plan.ensures.stays;
+  asks = c.in-Ok.ensures.asks;
 }
 
 pub returns-in-Err : goal.returns-in-Err
@@ -20,4 +21,5 @@ returns-in-Err g c =
       ends = subst (λ error. Halted t told request held held error) (sym c.unread_error.ensures) (plan_halts t told request c.in-Err.stop held c.in-Err.ensures.told);
       progress = tells_none c.args.options.now.progress _;
       stays = refl;
+      asks = c.in-Err.ensures.asks;
     }

@@ -17,6 +17,7 @@ returns-in-Ok g c =
         whole = ends_whole (g.O.Output.takes_all c.args.out.now) (g.S.Source.told c.args.source.now c.args.plan.now) c.args.options.now
             (Ok tt) (g.O.Output.written c.args.out.now) (g.O.Output.written c.live_and_show.new.out) (g.O.Output.keeps_back c.live_and_show.new.out) ran.ends;
       };
+      asks = ran.asks;
     }
 
 pub returns-in-Err : goal.returns-in-Err
@@ -33,4 +34,5 @@ returns-in-Err g c =
         whole = ends_whole (g.O.Output.takes_all c.args.out.now) (g.S.Source.told c.args.source.now c.args.plan.now) c.args.options.now
             (Err c.in-Err.error) (g.O.Output.written c.args.out.now) (g.O.Output.written c.live_and_show.new.out) (g.O.Output.keeps_back c.live_and_show.new.out) ran.ends;
       };
+      asks = ran.asks;
     }

@@ -2,7 +2,7 @@ use Rattle.mx_cli.specs.Printing.{sight}
 use Rattle.mx_cli.specs.Requests.{part_of}
 use Rattle.mx_cli.proofs.FrameLemmas.{prints_as}
 use Rattle.mx_driver.specs.Jobs.{run_by}
-use Rattle.mx_picture.specs.Pictures.{IsDrawn, IsRunDrawn}
+use Rattle.mx_picture.specs.Pictures.{DrawsEvents, IsRunDrawn}
 use Rattle.mx_picture.proofs.PictureLemmas.{not_found, part_drawn, part_unknown}
 use Rattle.mx_picture.proofs.command.draw.Goals as goal
 
@@ -12,7 +12,7 @@ returns-in-Ok g c =
     let es = c.args.events.now in
     let part = part_of c.args.picture.now.part in
     record {
-      prints = prints_as (IsDrawn p es (run_by p p.shape es).end) (IsRunDrawn part p es) (part_drawn part p es c.args.picture.now.only_letters c.in-Ok.part c.in-Ok.ensures)
+      prints = prints_as (DrawsEvents p es (run_by p p.shape es).end) (IsRunDrawn part p es) (part_drawn part p es c.args.picture.now.only_letters c.in-Ok.part c.in-Ok.ensures)
           (sight g.O.Output c.args.out.now) (sight g.O.Output c.print_picture.new.out) c.print_picture.result c.print_picture.ensures.prints;
     }
 

@@ -4,7 +4,7 @@ use Rattle.mx_cli.specs.declared.stop.Stop.TheVariants as stop
 use Rattle.mx_cli.proofs.FrameLemmas.{memory_prints, whole_prints}
 use Rattle.mx_cli.proofs.ReadLemmas.{err_is}
 use Rattle.mx_driver.specs.Jobs.{run_by}
-use Rattle.mx_picture.specs.Pictures.{IsDrawn}
+use Rattle.mx_picture.specs.Pictures.{DrawsEvents}
 use Rattle.mx_picture.proofs.PictureLemmas.{run_drawn, run_stops}
 use Rattle.mx_picture.proofs.command.print_picture.Goals as goal
 
@@ -33,6 +33,6 @@ returns g c =
     let r = run_by p p.shape es in
     let picture = string_bytes c.in_ok-page.page in
     record {
-      prints = whole_prints (IsDrawn p es r.end) c.as_bytes.result.now picture 0 (sight g.O.Output c.args.out.now) (sight g.O.Output c.print.new.out) c.print.result c.as_bytes.ensures.value
+      prints = whole_prints (DrawsEvents p es r.end) c.as_bytes.result.now picture 0 (sight g.O.Output c.args.out.now) (sight g.O.Output c.print.new.out) c.print.result c.as_bytes.ensures.value
           (run_drawn p es r c.in_ok-observe.field-0 picture c.in_ok-observe.ensures.prints c.in_ok-page.ensures) c.print.ensures.prints;
     }

@@ -1,7 +1,7 @@
 use Rattle.mx_cli.specs.Printing.{sight}
 use Rattle.mx_cli.proofs.FrameLemmas.{prints_as}
 use Rattle.mx_judge.specs.Faults.{IsFaultReport}
-use Rattle.mx_judge.specs.Listed.{Listed, listed}
+use Rattle.mx_judge.specs.Listed.{ReadTrace, listed}
 use Rattle.mx_judge.specs.Traces.{place_word, trace_at}
 use Rattle.mx_judge.proofs.JudgeLemmas.{stops}
 use Rattle.mx_picture.specs.TracePictures.{IsTraceDrawn, IsTraceShown}
@@ -25,6 +25,6 @@ returns-in-Err g c =
     let text = c.args.text.now in
     record {
       prints = stops (IsTraceDrawn p text) (trace_at p text) (sight g.O.Output c.args.out.now) c.in-Err.stop
-          (λ bad read r at. match_err (λ (t : Listed). IsTraceShown p (place_word text) t r) (λ fault. IsFaultReport fault r) (trace_at p text) bad read at)
+          (λ bad read r at. match_err (λ (t : ReadTrace). IsTraceShown p (place_word text) t r) (λ fault. IsFaultReport fault r) (trace_at p text) bad read at)
           c.in-Err.ensures;
     }

@@ -1,7 +1,7 @@
 use Rattle.std.proofs.Common.{ℕ, subst}
 use Rattle.mx_stations.specs.Works.{WorksFor}
 use Rattle.mx_live.proofs.WorkerLemmas.{none_more}
-use Rattle.mx_live.proofs.threads.WorkerStationWorkEnded.run.Goals as goal
+use Rattle.mx_live.proofs.threads.NodeWorkerStationWorkLeftStation.run.Goals as goal
 
 pub returns : goal.returns
 returns g c =

@@ -1,6 +1,6 @@
 use Rattle.std.proofs.Common.{rules}
 use Rattle.mx_play.proofs.SessionLineLemmas.{reads_line, reads_long}
-use Rattle.mx_play.proofs.line_sources.ListedLines.next.Goals as goal
+use Rattle.mx_play.proofs.line_sources.GivenLinesLines.next.Goals as goal
 
 pub returns-then-first-gt-MAX_LINE-clause-reads : goal.returns-then-first-gt-MAX_LINE-clause-reads
 returns-then-first-gt-MAX_LINE-clause-reads c =

@@ -1,6 +1,6 @@
 use Rattle.std.proofs.Common.{string_bytes}
 use Rattle.mx_explain.proofs.ReportLemmas.{report_at_fault, report_well, shown_at_fault, shown_well}
-use Rattle.mx_explain.proofs.report.Report.into_text.Goals as goal
+use Rattle.mx_explain.proofs.report.FaultReport.into_text.Goals as goal
 
 pub returns-then-not-is_well-clause-printable : goal.returns-then-not-is_well-clause-printable
 returns-then-not-is_well-clause-printable c = shown_at_fault (string_bytes c.self.inside.text) c.self.invariant

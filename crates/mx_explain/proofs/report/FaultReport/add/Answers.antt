@@ -1,6 +1,6 @@
 use Rattle.std.proofs.Common.{◌∙◌, ◌++◌, ap, string_bytes}
 use Rattle.mx_explain.proofs.ReportLemmas.{report_longer}
-use Rattle.mx_explain.proofs.report.Report.add.Goals as goal
+use Rattle.mx_explain.proofs.report.FaultReport.add.Goals as goal
 
 pub invariant_of-self-2 : goal.invariant_of-self-2
 invariant_of-self-2 c =
