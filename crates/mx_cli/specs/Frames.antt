@@ -78,13 +78,13 @@ abbrev pub told_text : (Text → Option Telling) → Files → Option Telling
 told_text told f = text_told_with told f.plan f.text
 
 -- each name was read at most once, and the plan's first: once for both, if both are standard input
-abbrev pub AsksBoth : Bool → Text → Text → Option (List Text) → Option (List Text) → Type 0
-AsksBoth true plan text old new = Asks old new (plan ∷ [])
-AsksBoth false plan text old new = Asks old new (plan ∷ []) ⊎ Asks old new (plan ∷ text ∷ [])
+abbrev pub AsksEach : Bool → Text → Text → Option (List Text) → Option (List Text) → Type 0
+AsksEach true plan text old new = Asks old new (plan ∷ [])
+AsksEach false plan text old new = Asks old new (plan ∷ []) ⊎ Asks old new (plan ∷ text ∷ [])
 
 abbrev pub AsksWith : Text → Option Text → Option (List Text) → Option (List Text) → Type 0
 AsksWith plan None old new = Asks old new (plan ∷ [])
-AsksWith plan (Some text) old new = AsksBoth (is_dash plan && is_dash text) plan text old new
+AsksWith plan (Some text) old new = AsksEach (is_dash plan && is_dash text) plan text old new
 
 abbrev pub AsksFiles : Files → Option (List Text) → Option (List Text) → Type 0
 AsksFiles f old new = AsksWith f.plan f.text old new
