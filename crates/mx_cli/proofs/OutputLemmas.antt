@@ -48,9 +48,6 @@ some_keeps a b c texts p q = (p.0, Appends-keeps a b c (concat (take p.0 texts))
 pub all_some : (a b : Held) (texts : List Text) → Appends a b (concat texts) → AppendsSome a b texts
 all_some a b texts p = (length texts, subst (λ (l : List Text). Appends a b (concat l)) (sym (take_all (length texts) texts (omega arith))) p)
 
-pub none_some : (a b : Held) (texts : List Text) → Keeps a b → AppendsSome a b texts
-none_some a b texts p = (0, Appends-keeps a a b [] (Appends-nil a) p)
-
 -- a line that was written whole
 pub told_ok : (o : Option Text) (takes : Bool) (a b : Held) → IfSome o (Appends a b) → IfSome o (λ text. ReportsFault takes text a b 1)
 told_ok None takes a b h = tt

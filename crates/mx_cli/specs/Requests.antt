@@ -6,7 +6,7 @@ use Rattle.std.specs.Str.{bytes_eq}
 use Rattle.clap.specs.Words.{Row, Text, first_of}
 use Rattle.clap.specs.Faults.{fault_of}
 use Rattle.mx_cli.specs.Table.{mx_app}
-use Rattle.mx_cli.specs.Words.{asked_of, is_given, names_of, number_at}
+use Rattle.mx_cli.specs.Words.{asked_of, is_given, number_at}
 use Rattle.mx_cli.specs.declared.request.Conditions.{Conditions}
 use Rattle.mx_cli.specs.declared.request.LiveOptions.{LiveOptions}
 use Rattle.mx_cli.specs.declared.request.Misfit.{Misfit}

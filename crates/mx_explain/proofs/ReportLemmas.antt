@@ -36,9 +36,6 @@ lines_text-append (x ∷ xs) ys = ap (λ t. x ++ 10 ∷ t) (lines_text-append xs
 
 -- ---- reports
 
-pub report_empty : (text : Text) → text ≡ [] → IsReportText text
-report_empty text e = record { lines = []; each = tt; are = e }
-
 -- a line more
 pub report_longer : (old new file said : Text) → IsReportText old → new ≡ old ++ (line_text file said ++ 10 ∷ []) → IsReportText new
 report_longer old new file said r e = record {

@@ -21,10 +21,6 @@ each_more f xs k d t t' lt e =
     ∙ sym (append_assoc t (f (get_or xs k d)) (each_text f (drop (k + 1) xs)))
     ∙ ap (λ l. l ++ each_text f (drop (k + 1) xs)) (sym e)
 
--- all of a list
-pub each_end : {X : Type 0} (f : X → Text) (xs : List X) (k : ℕ) (t : Text) → length xs ≤ k → t ++ each_text f (drop k xs) ≡ t
-each_end f xs k t le = ap (λ l. t ++ each_text f l) (drop_all k xs le) ∙ append_nil t
-
 -- one more of a list whose texts tell the place
 pub place_more : {X : Type 0} (f : ℕ → X → Text) (xs : List X) (k : ℕ) (x : X) (t t' : Text) → slice_get xs k ≡ Some x
     → t' ≡ t ++ f k x → t ++ texts_from f k (drop k xs) ≡ t' ++ texts_from f (k + 1) (drop (k + 1) xs)

@@ -1,7 +1,6 @@
 -- What `judge` prints, from what it reads.
-use Rattle.std.proofs.Common.{◌≡◌, ◌⊎◌, ◌≤◌, ◌++◌, ℕ, Bool, List, [], OnOk, append_assoc, length, slice_get, take, Option, Some, Result, Ok, Err, ap, inl, inr, refl, subst, sym, ◌∙◌}
+use Rattle.std.proofs.Common.{◌≡◌, ◌⊎◌, ◌++◌, ℕ, Bool, List, [], OnOk, append_assoc, slice_get, take, Option, Some, Result, Ok, Err, ap, inl, inr, refl, subst, sym, ◌∙◌}
 use Rattle.std.specs.Option.{option_map_or}
-use Rattle.std.proofs.lemmas.Option.{slice_get_past}
 use Rattle.mx_plan.specs.Text.{Text}
 use Rattle.mx_plan.specs.Fields.{Fields}
 use Rattle.mx_trace.specs.declared.outcome.Entry.{Entry}
@@ -28,10 +27,6 @@ pub reason_here : (p : Fields) (trace : List Entry) (k : ℕ) (e : Entry) (broke
     → reason_of p (take k trace) broken e.event e.outcome ≡ reason_at p trace k broken
 reason_here p trace k e broken here =
     sym (ap (λ (o : Option Entry). option_map_or (λ (x : Entry). reason_of p (take k trace) broken x.event x.outcome) o []) here)
-
-pub reason_past : (p : Fields) (trace : List Entry) (k : ℕ) (broken : Clause) → length trace ≤ k → reason_at p trace k broken ≡ []
-reason_past p trace k broken past =
-    ap (λ (o : Option Entry). option_map_or (λ (x : Entry). reason_of p (take k trace) broken x.event x.outcome) o []) (slice_get_past trace k past)
 
 module _ (j : Bool) (p : Fields) (text : Text) where
   -- a report on the trace that was read

@@ -1,6 +1,6 @@
 -- The words of a partition, one after another.
-use Rattle.std.proofs.Common.{◌≡◌, ◌≢◌, ◌∙◌, ◌+◌, ◌-◌, ◌≤◌, ◌<◌, ◌==◌, ◌||◌, ℕ, Bool, false, cond, List, Ok, Err, Result, length, take, drop, map, get_or, ap, sym, refl, arith}
-use Rattle.std.specs.Prelude.{IsErrAnd, Option, if◌then◌else◌, nat_lt, position}
+use Rattle.std.proofs.Common.{◌≡◌, ◌≢◌, ◌∙◌, ◌+◌, ◌-◌, ◌≤◌, ◌<◌, ◌==◌, ◌||◌, ℕ, false, List, Ok, Err, Result, length, take, drop, get_or, ap, sym, refl, arith}
+use Rattle.std.specs.Prelude.{IsErrAnd, Option, nat_lt, position}
 use Rattle.std.specs.Option.{option_map_or}
 use Rattle.mx_plan.proofs.Lists.{position-map}
 use Rattle.mx_lines.specs.declared.errors.Expected.TheVariants as expected

@@ -121,16 +121,18 @@ fn order_with<N: KnownNames>(
     let at = place + 1;
     match (verb.arguments(), words) {
         ([], []) => order_from(verb, place, &[]),
-        ([a], [x]) => order_from(verb, place, &[argument_at(names, *a, at, x)?]),
-        ([a, b], [x, y]) => {
-            let a = argument_at(names, *a, at, x)?;
-            order_from(verb, place, &[a, argument_at(names, *b, at + 1, y)?])
+        ([first], [word]) => order_from(verb, place, &[argument_at(names, *first, at, word)?]),
+        ([first, second], [word, next]) => {
+            let first = argument_at(names, *first, at, word)?;
+            let second = argument_at(names, *second, at + 1, next)?;
+            order_from(verb, place, &[first, second])
         }
-        ([a, b, c], [x, y, z]) => {
-            let a = argument_at(names, *a, at, x)?;
+        ([first, second, third], [word, next, last]) => {
+            let first = argument_at(names, *first, at, word)?;
             let at = at + 1;
-            let b = argument_at(names, *b, at, y)?;
-            order_from(verb, place, &[a, b, argument_at(names, *c, at + 1, z)?])
+            let second = argument_at(names, *second, at, next)?;
+            let third = argument_at(names, *third, at + 1, last)?;
+            order_from(verb, place, &[first, second, third])
         }
         _ => refuse(LineFault::WordCount, place, Expected::Arguments(verb)),
     }

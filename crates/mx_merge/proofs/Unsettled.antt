@@ -1,8 +1,6 @@
 -- Merging journals that have settled nothing: the join of their maps of records.
-use Rattle.std.proofs.Common.{suc, ◌≡◌, List, refl, sym, ◌∙◌, ap, subst, arith}
-use Rattle.mx_stamps.specs.Lists.{IsIn}
-use Rattle.mx_journal.specs.declared.records.Record.{Record}
-use Rattle.mx_journal.specs.Agreement.{AreAgreeing, IsSubmap}
+use Rattle.std.proofs.Common.{suc, ◌≡◌, sym, ◌∙◌, ap, arith}
+use Rattle.mx_journal.specs.Agreement.{AreAgreeing}
 use Rattle.mx_journal.specs.Bases.{BaseState, origin}
 use Rattle.mx_journal.specs.Records.{Ascending}
 use Rattle.mx_journal.specs.Settled.{DoAgree, IsWithin, JournalState, joined, unsettled}

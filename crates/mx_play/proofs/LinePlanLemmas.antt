@@ -1,5 +1,5 @@
 -- What is read of the lines of a session.
-use Rattle.std.proofs.Common.{◌≡◌, ◌≤◌, ◌⊎◌, ◌∙◌, true, List, [], ◌∷◌, Option, Some, None, Result, Ok, Err, IfOk, IfSome, length, refl, sym, ap, subst, inl, inr}
+use Rattle.std.proofs.Common.{◌≡◌, ◌≤◌, ◌⊎◌, ◌∙◌, true, List, [], Option, Some, None, Result, Ok, Err, IfOk, IfSome, length, sym, ap, subst, inl, inr}
 use Rattle.std.specs.Str.{IsUtf8}
 use Rattle.mx_cli.specs.Reading.{IsRead, Reads}
 use Rattle.mx_cli.specs.declared.stop.Stop.{Stop}
@@ -25,13 +25,6 @@ module _ (p : Fields) (lines rest : Option (List Text)) (buffer : Text) where
 
   pub read_line : (of : Input) → ReadsNext lines read.Line buffer rest → (length buffer ≤ MAX_LINE → IsInputOf p buffer of buffer) → ReadsInput p lines of buffer rest
   read_line of x means = line_input of x.1 (means x.0)
-
-  -- there is no line more
-  pub read_end : ReadsNext lines read.End buffer rest → ReadsInput p lines input.Eof buffer rest
-  read_end x = no_more lines x.1 where
-    no_more : (l : Option (List Text)) → IfSome l (λ known. (known ≡ []) × (rest ≡ Some [])) → IfSome l (λ known. known ≡ [])
-    no_more None y = tt
-    no_more (Some known) y = y.0
 
 -- ---- a plan that is the first line
 

@@ -1,5 +1,5 @@
 -- Lines of a session, one after another.
-use Rattle.std.proofs.Common.{◌≡◌, ◌≤◌, ◌⊎◌, ◌∙◌, ◌+◌, ℕ, Bool, true, false, List, [], ◌∷◌, ◌++◌, Result, Ok, Err, Option, Some, None, IfOk, IfSome, refl, sym, ap, subst, append_assoc, append-nil, inl, inr}
+use Rattle.std.proofs.Common.{◌≡◌, ◌∙◌, ◌+◌, ℕ, Bool, true, false, List, [], ◌∷◌, ◌++◌, Result, Ok, Err, Option, Some, None, IfOk, IfSome, refl, sym, ap, subst, append_assoc, append-nil, inl, inr}
 use Rattle.std.specs.Io.KnownBytes.{Appends}
 use Rattle.mx_stamps.proofs.Lists.{append_nil}
 use Rattle.mx_nodelaws.specs.Core.{Core}

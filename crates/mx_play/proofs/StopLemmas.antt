@@ -1,18 +1,12 @@
 -- Why a session stops before its end.
 use Rattle.std.proofs.Common.{◌⊎◌, List, IfOk, length, ap, sym, false, inl, inr, ◌≡◌, ◌∙◌, ◌≤◌, ◌<◌, ◌+◌, ◌-◌, ◌^◌, ℕ, Bool, true, Option, Some, None, Result, Ok, Err, IfSome, refl, subst, arith}
-use Rattle.std.specs.Prelude.{IsErrAnd, IsSomeAnd}
-use Rattle.std.specs.declared.alloc.Global.{Global}
-use Rattle.std.specs.Prelude.{Vec}
+use Rattle.std.specs.Prelude.{IsErrAnd}
 use Rattle.mx_plan.specs.Text.{Text}
-use Rattle.mx_plan.specs.Fields.{Fields}
-use Rattle.mx_io.specs.Told.{Telling}
 use Rattle.mx_cli.specs.Frames.{Closes, ClosesAs}
 use Rattle.mx_cli.specs.Printing.{comes_to, course_of, has_status}
-use Rattle.mx_cli.specs.Reading.{Fetches, Reads}
 use Rattle.mx_cli.specs.Reports.{Seen}
-use Rattle.mx_cli.specs.declared.faults.Named.TheVariants.{Events}
 use Rattle.mx_play.specs.Lines.{ReadsNext, first_of}
-use Rattle.mx_play.specs.Reasons.{HasNoFault, IsLineStated, IsStated}
+use Rattle.mx_play.specs.Reasons.{IsLineStated}
 use Rattle.mx_play.specs.Stops.{AreReadableLines, CountsDown, HaveNumbers, LeavesFewer, OnlyMemory}
 use Rattle.mx_play.specs.declared.line_sources.LineRead.{LineRead}
 use Rattle.mx_play.specs.declared.line_sources.LineRead.TheVariants as read
@@ -71,30 +65,11 @@ pub reads_on : {P : Type 0} (first number : ℕ) (all left : Option ℕ) → Lef
 reads_on first number None left x few y = absurd few
 reads_on {P} first number (Some n) left x few y = subst (λ (l : Option ℕ). IfSome l (λ _. P)) x.1 y
 
--- the lines of a script have numbers, and those after them too
-pub script_numbers : (length : ℕ) → length < 2 ^ 63 → HaveNumbers 1 (Some length)
-script_numbers length few = omega (arith, few)
-
 pub rest_numbers : (length number : ℕ) (left : Option ℕ) → length < 2 ^ 63 → number ≤ 1 + length → AreReadableLines left → HaveNumbers number left
 rest_numbers length number None few le readable = readable
 rest_numbers length number (Some n) few le readable = omega (arith, few, le, readable)
 
--- ---- a plan and a script that can be read
-
-pub plan_memory : (told : Option Telling) (r : Result Fields Stop) → IsSomeAnd told HasNoFault → IfSome told (λ telling. Reads telling r) → OnlyMemory r
-plan_memory None r x y = absurd x
-plan_memory (Some telling) (Ok p) x y = tt
-plan_memory (Some telling) (Err end) x y = x end y
-
-fetched : (telling : Telling) (text : Text) (r : Result (Vec ℕ Global) Stop) → telling ≡ Some text → Fetches Events telling r → OnlyMemory r
-fetched telling text (Ok v) is x = tt
-fetched telling text (Err end) is x = subst (λ (t : Telling). Fetches Events t (Err end)) is x
-
-pub script_memory : (told : Option Telling) (r : Result (Vec ℕ Global) Stop) → IsStated told → IfSome told (λ telling. Fetches Events telling r) → OnlyMemory r
-script_memory None r x y = absurd x
-script_memory (Some telling) r x y = fetched telling x.0 r x.1 y
-
--- the first line
+-- ---- the first line
 
 few_after : (of : LineRead) (n : ℕ) (left : Option ℕ) → n < 2 ^ 62 → CountsDown n of left → AreReadableLines left
 few_after of n left few x = few_at of x where

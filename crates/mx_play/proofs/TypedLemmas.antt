@@ -1,17 +1,15 @@
 -- Lines whose bytes come one after another.
-use Rattle.std.proofs.Common.{◌≡◌, ◌≤◌, ◌<◌, ◌-◌, ◌+◌, ◌∙◌, ◌⊎◌, ◌==◌, ℕ, suc, Bool, true, false, List, [], ◌∷◌, ◌++◌, Option, Some, None, Result, Ok, Err, IfOk, IfSome, length, take, drop, get_or, drop-cons, add-one, refl, sym, ap, ap₂, subst, inl, inr, arith}
+use Rattle.std.proofs.Common.{◌≡◌, ◌≤◌, ◌<◌, ◌-◌, ◌+◌, ◌∙◌, ◌⊎◌, ◌==◌, ℕ, Bool, true, false, List, [], ◌∷◌, ◌++◌, Option, Some, None, Result, Ok, Err, IfOk, IfSome, length, take, get_or, refl, sym, ap, subst, inl, inr, arith}
 use Rattle.std.proofs.lemmas.List.{length-append}
 use Rattle.std.specs.Prelude.{if◌then◌else◌, option_map}
-use Rattle.std.specs.Io.KnownBytes.{Consumes, IsAtEnd, Keeps, prepend_known}
-use Rattle.std.proofs.KnownBytes.{Consumes-kept, Consumes-nil, Consumes-trans}
+use Rattle.std.specs.Io.KnownBytes.{Consumes, IsAtEnd, Keeps}
+use Rattle.std.proofs.KnownBytes.{Consumes-nil, Consumes-trans}
 use Rattle.mx_stamps.proofs.Lists.{append_nil}
 use Rattle.mx_plan.specs.Text.{Text}
 use Rattle.mx_play.specs.Lines.{IsFirstLine, ReadsNext, before_lines, lines_of}
-use Rattle.mx_play.specs.TypedLines.{AddsByte, Bytes, HasNoFeed, Holds, IsTaking, TakesByte, TakesOn, read_of}
+use Rattle.mx_play.specs.TypedLines.{AddsByte, Bytes, HasNoFeed, Holds, IsTaking, TakesOn, read_of}
 use Rattle.mx_play.specs.declared.line_sources.LineRead.{LineRead}
-use Rattle.mx_play.specs.declared.line_sources.LineRead.TheVariants.{End}
 use Rattle.mx_play.specs.declared.line_sources.TheConstants.{MAX_LINE}
-use Rattle.mx_play.specs.declared.typed_lines.ByteRead.{ByteRead}
 use Rattle.mx_play.specs.declared.typed_lines.ByteRead.TheVariants as byte_read
 
 -- ---- lines of bytes
@@ -57,11 +55,6 @@ pub feed_read : (first now new : Bytes) (is_long : Bool) (buffer : Text) → IsT
 feed_read first now new is_long buffer x feed =
     held_read is_long buffer x.taken (lines_in first) (lines_in new) x.holds (feed_first first now new x.taken x.inner x.consumed feed)
 
--- the end of the bytes ends it
-short_buffer : (is_long : Bool) (taken : Text) → Holds is_long [] taken → taken ≡ []
-short_buffer false taken x = sym x.0
-short_buffer true taken x = absurd (omega (arith, x.0))
-
 some_taken : (is_long : Bool) (buffer : Text) → (buffer ≡ [] → ⊥) → Holds is_long buffer [] → ⊥
 some_taken false buffer some x = some x.0
 some_taken true buffer some x = omega (arith, x.1)
@@ -92,10 +85,6 @@ none_left (Some all) (Some left) None taken none x same end = absurd same
 none_left (Some all) (Some left) (Some new) taken none x same end =
     (ap lines_of (all_taken all taken left new x same end ∙ none), ap (λ (l : Text). Some (lines_of l)) end)
 
-pub none_read : (first now new : Bytes) (is_long : Bool) (buffer : Text) → IsTaking first now is_long buffer → Keeps now new → IsAtEnd new → buffer ≡ [] → ReadsNext (lines_in first) End buffer (lines_in new)
-none_read first now new is_long buffer x same end none =
-    (none, none_left first now new x.taken (short_buffer is_long x.taken (subst (λ (l : Text). Holds is_long l x.taken) none x.holds)) x.consumed same end)
-
 -- ---- a byte more
 
 held_more : (is_long : Bool) (buffer taken : Text) (b : ℕ) → Holds is_long buffer taken → length buffer < MAX_LINE → Holds is_long (buffer ++ b ∷ []) (taken ++ b ∷ [])
@@ -117,10 +106,6 @@ held_long true buffer taken b x long =
 
 pub taking_first : (first : Bytes) (buffer : Text) → buffer ≡ [] → IsTaking first first false buffer
 taking_first first buffer empty = record { taken = []; inner = tt; consumed = Consumes-nil first; holds = (empty, omega arith) }
-
--- nothing was taken
-pub taking_kept : (first now new : Bytes) (is_long : Bool) (buffer : Text) → IsTaking first now is_long buffer → Keeps now new → IsTaking first new is_long buffer
-taking_kept first now new is_long buffer x same = record { taken = x.taken; inner = x.inner; consumed = Consumes-kept first now new x.taken x.consumed same; holds = x.holds }
 
 taking_more : (first now new : Bytes) (is_long is_long' : Bool) (b : ℕ) (buffer buffer' : Text) → IsTaking first now is_long buffer → Consumes now new (b ∷ []) → (b == 10) ≡ false
     → ((length buffer < MAX_LINE) × (is_long' ≡ is_long) × (buffer' ≡ buffer ++ b ∷ [])) ⊎ ((MAX_LINE ≤ length buffer) × (is_long' ≡ true) × (buffer' ≡ buffer))
@@ -181,9 +166,3 @@ one_read old new bytes n b d one few some is x =
     let n_is : n ≡ 1 = omega (arith, few, some) in
     let taken : take n bytes ≡ b ∷ [] = ap (λ (m : ℕ). take m bytes) n_is ∙ first_taken bytes d one ∙ ap (λ (c : ℕ). c ∷ []) (sym is) in
     subst (λ (l : List ℕ). Consumes old new l) taken x
-
--- none was
-pub none_taken : (old new : Bytes) → Consumes old new [] → Keeps old new
-none_taken None new x = tt
-none_taken (Some all) None x = absurd x
-none_taken (Some all) (Some left) x = sym x

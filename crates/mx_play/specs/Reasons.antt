@@ -1,5 +1,5 @@
 -- The only reasons for status 1 of `play`.
-use Rattle.std.specs.Prelude.{ℕ, ◌≡◌, ◌≢◌, ◌≤◌, ⊤, Bool, true, false, List, Option, Some, None, Err, IsSomeAnd, length}
+use Rattle.std.specs.Prelude.{ℕ, ◌≡◌, ◌≤◌, Bool, true, false, List, Option, Some, Err, IsSomeAnd, length}
 use Rattle.mx_plan.specs.Text.{Text}
 use Rattle.mx_cli.specs.Reading.{Reads, is_dash}
 use Rattle.mx_cli.specs.declared.stop.Stop.{Stop}

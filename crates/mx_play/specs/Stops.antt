@@ -1,5 +1,5 @@
 -- Why a session stops before its end.
-use Rattle.std.specs.Prelude.{ℕ, ◌≡◌, ◌≤◌, ◌<◌, ◌+◌, ◌-◌, ◌^◌, ⊤, Bool, Option, Some, Result, IfErr, IsSomeAnd}
+use Rattle.std.specs.Prelude.{ℕ, ◌≡◌, ◌≤◌, ◌<◌, ◌+◌, ◌-◌, ◌^◌, ⊤, Option, Some, Result, IfErr, IsSomeAnd}
 use Rattle.mx_cli.specs.declared.stop.Stop.{Stop}
 use Rattle.mx_cli.specs.declared.stop.Stop.TheVariants as stop
 use Rattle.mx_play.specs.declared.input.Input.{Input}

@@ -214,13 +214,6 @@ module _ (ps : List ListedParcel) (next first end : List ℕ) (oldest : ℕ) (ol
     links = old.links;
   }
 
-  -- a list that is empty may begin at the next parcel
-  pub passed_to_end : (link : ℕ) → get_or end link 0 ≤ get_or first link 0 → (k : ℕ) → k < length ps → IsPassed link (slice_get ps k)
-  passed_to_end link le k lt = elim (cases_lt k (get_or first link 0)) [
-    | inl less ↦ old.begins link k less
-    | inr more ↦ off_passed link ps k lt (old.ends link k (let past : get_or first link 0 ≤ k = more in omega (arith, le, past)))
-  ]
-
   -- the last of a list leads to the next parcel
   pub lead_at : (t link : ℕ) → get_or end link 0 ≤ t + 1 → IsListedOver link (slice_get ps t) → IsOrdered ps (slice_set next t (length ps)) first end oldest
   lead_at t link le over = record {

@@ -13,12 +13,14 @@ use mx_nodelaws::Exclusion;
 use std::marker::{Brand, PhantomData};
 
 /// What a seat knows after a step, as a function of what it knew before, and the number of nodes.
+/// A call passes `Brand`, and its proof picks the members.
 pub trait Next<V> {
     ghost after: { V → V };
 
     ghost count: { ℕ };
 }
 
+/// What the prover needs for `Brand` to be passed. No proof reads these members.
 impl<V> Next<V> for Brand {
     ghost after = { λ v. v };
 
@@ -35,7 +37,7 @@ impl<C: Exclusion, N: Next<Knowledge<C>>> Play<Slot<C>, Knowledge<C>> for Become
         (now ≡ (N.after before.0, before.1)) × GoToNodes N.count now.0 };
 }
 
-/// The number of nodes, which the call tells the proof.
+/// The number of nodes, which the call tells the proof as it does for `Next`.
 pub trait OfCount {
     ghost count: { ℕ };
 }

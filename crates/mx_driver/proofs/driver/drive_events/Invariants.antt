@@ -1,4 +1,4 @@
-use Rattle.std.proofs.Common.{◌≡◌, List, drop, length}
+use Rattle.std.proofs.Common.{◌≡◌, drop, length}
 use Rattle.mx_cli.specs.Printing.{sight}
 use Rattle.mx_driver.specs.Runs.{report_from}
 use Rattle.mx_driver.specs.Sinks.{IsTold}

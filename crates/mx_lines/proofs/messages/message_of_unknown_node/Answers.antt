@@ -1,4 +1,4 @@
-use Rattle.std.proofs.Common.{◌≡◌, ◌∙◌, ◌++◌, ap, string_bytes}
+use Rattle.std.proofs.Common.{◌∙◌, ◌++◌, ap, string_bytes}
 use Rattle.mx_lines.specs.Escapes.{shown}
 use Rattle.mx_lines.proofs.EscapeLemmas.{printable_from}
 use Rattle.mx_lines.proofs.messages.message_of_unknown_node.Goals as goal

@@ -1,4 +1,4 @@
-use Rattle.std.proofs.Common.{Some, [], inl, inr, refl, rules}
+use Rattle.std.proofs.Common.{[], inl, inr, refl, rules}
 use Rattle.mx_play.proofs.StoreLemmas.{Stores-nil}
 use Rattle.mx_play.proofs.session_run.execute_input.Goals as goal
 

@@ -1,4 +1,4 @@
-use Rattle.std.proofs.Common.{None, List, Option, Some, ◌∙◌, arith, length, refl, rules, subst}
+use Rattle.std.proofs.Common.{◌∙◌, arith, length, refl, rules}
 use Rattle.mx_cli.specs.Reports.{seen}
 use Rattle.mx_format.specs.LetterTexts.{letter_text}
 use Rattle.mx_play.proofs.PlaysLemmas.{whole_on_ok, rest_on_ok}

@@ -1,6 +1,6 @@
-use Rattle.std.proofs.Common.{◌≡◌, ◌++◌, string_bytes, drop, length}
+use Rattle.std.proofs.Common.{◌≡◌, ◌++◌, string_bytes, drop}
 use Rattle.mx_format.specs.Lines.{each_text}
-use Rattle.mx_play.specs.Printed.{steps_line, steps_text, typed_line}
+use Rattle.mx_play.specs.Printed.{steps_text, typed_line}
 use Rattle.mx_play.proofs.undo.add_steps.Given as goal
 
 abbrev pub invariant-loop-line : goal.invariant-loop-line

@@ -1,4 +1,4 @@
-use Rattle.std.proofs.Common.{◌≡◌, ◌∙◌, List, ap, get_or, rules, subst, sym}
+use Rattle.std.proofs.Common.{◌∙◌, List, ap, rules, subst, sym}
 use Rattle.mx_scripts.specs.States.{RunState}
 use Rattle.mx_scripts.specs.declared.state.SessionEvent.{SessionEvent}
 use Rattle.mx_play.specs.Histories.{CanLead, Leads}

@@ -1,7 +1,6 @@
-use Rattle.std.proofs.Common.{arith, rules, ◌≡◌, ◌-◌, ◌∙◌, ◌++◌, ◌∷◌, [], ℕ, List, ap, ap₂, length, refl, string_bytes, subst, sym}
+use Rattle.std.proofs.Common.{arith, rules, ◌-◌, ◌∙◌, ◌++◌, ℕ, List, ap, ap₂, refl, string_bytes, subst, sym}
 use Rattle.std.proofs.lemmas.Grind.{common_steps}
 use Rattle.std.specs.Prelude.{codes}
-use Rattle.mx_scripts.specs.States.{RunState}
 use Rattle.mx_play.specs.Histories.{CanLead, Leads}
 use Rattle.mx_play.specs.Printed.{steps_text}
 use Rattle.mx_play.specs.Sessions.{SessionState, line_events}

@@ -1,6 +1,5 @@
-use Rattle.std.proofs.Common.{◌∙◌, ap, arith, length, rules}
+use Rattle.std.proofs.Common.{arith, rules}
 use Rattle.std.proofs.lemmas.Grind.{common_steps}
-use Rattle.mx_play.specs.Sessions.{SessionState}
 use Rattle.mx_play.proofs.undo.trace_length.Goals as goal
 
 pub trace_of-requires : goal.trace_of-requires

@@ -1,7 +1,6 @@
-use Rattle.std.proofs.Common.{rules, ◌≡◌, ◌≤◌, ◌-◌, ◌∙◌, ◌++◌, ◌∷◌, [], ℕ, List, ap, ap₂, arith, drop, length, refl, string_bytes, subst, sym, take}
+use Rattle.std.proofs.Common.{rules, ◌-◌, ◌∙◌, ◌++◌, ◌∷◌, [], ℕ, List, ap, ap₂, arith, drop, length, refl, string_bytes, subst, sym, take}
 use Rattle.std.proofs.lemmas.Grind.{common_steps}
 use Rattle.std.specs.Prelude.{codes}
-use Rattle.mx_plan.specs.Text.{Text}
 use Rattle.mx_play.specs.Histories.{CanLead, Leads, first_state}
 use Rattle.mx_play.specs.Printed.{steps_text}
 use Rattle.mx_play.specs.Sessions.{SessionState, line_events}
