@@ -4,7 +4,7 @@ use Rattle.std.specs.List.{count_by}
 use Rattle.mx_member.specs.declared.parcel.Parcel.{Parcel}
 use Rattle.mx_network.specs.Step.{ClusterState}
 use Rattle.mx_trace.specs.Causes.{cause_words}
-use Rattle.mx_trace.specs.declared.outcome.Cause.{Cause}
+use Rattle.mx_trace.specs.declared.cause.Cause.{Cause}
 use Rattle.mx_trace.specs.declared.outcome.Entry.{Entry}
 use Rattle.mx_explorer.specs.declared.verdict.Verdict.TheVariants.{Sound}
 use Rattle.mx_plan.specs.Text.{Text}

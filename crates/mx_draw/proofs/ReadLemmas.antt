@@ -20,8 +20,8 @@ use Rattle.mx_member.specs.Member.{MemberState, first_gap, with_draft}
 use Rattle.mx_member.specs.Steps.{read_at, read_of, refusing, shown_inside}
 use Rattle.mx_events.specs.declared.event.Event.{Event}
 use Rattle.mx_events.specs.declared.event.Event.TheVariants as event
-use Rattle.mx_trace.specs.declared.outcome.Cause.{Cause}
-use Rattle.mx_trace.specs.declared.outcome.Cause.TheVariants as cause
+use Rattle.mx_trace.specs.declared.cause.Cause.{Cause}
+use Rattle.mx_trace.specs.declared.cause.Cause.TheVariants as cause
 use Rattle.mx_trace.specs.declared.outcome.Entry.{Entry}
 use Rattle.mx_trace.specs.declared.outcome.Outcome.{Outcome}
 use Rattle.mx_trace.specs.declared.outcome.Outcome.TheVariants.{Refused}

@@ -3,8 +3,8 @@ use Rattle.std.specs.Prelude.{◌≡◌, List, Option, Some, None}
 use Rattle.mx_stamps.specs.Lists.{IsIn}
 use Rattle.mx_events.specs.declared.event.Event.{Event}
 use Rattle.mx_events.specs.declared.event.Event.TheVariants.{Read}
-use Rattle.mx_trace.specs.declared.outcome.Cause.{Cause}
-use Rattle.mx_trace.specs.declared.outcome.Cause.TheVariants.{Gap}
+use Rattle.mx_trace.specs.declared.cause.Cause.{Cause}
+use Rattle.mx_trace.specs.declared.cause.Cause.TheVariants.{Gap}
 use Rattle.mx_trace.specs.declared.outcome.Entry.{Entry}
 use Rattle.mx_trace.specs.declared.outcome.Outcome.TheVariants.{Refused}
 use Rattle.mx_cli.specs.declared.request.Conditions.{Conditions}

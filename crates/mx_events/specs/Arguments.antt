@@ -1,5 +1,5 @@
 -- The arguments that an event requires after its word, and those that it has.
-use Rattle.std.specs.Prelude.{ℕ, ◌&&◌, Bool, true, false, List, [], ◌∷◌, Option, Some, None, option_map}
+use Rattle.std.specs.Prelude.{ℕ, ◌<◌, ◌&&◌, ⊤, Bool, true, false, List, [], ◌∷◌, Option, Some, None, option_map}
 use Rattle.std.specs.Option.{option_and_then}
 use Rattle.mx_events.specs.declared.argument.Argument.{Argument}
 use Rattle.mx_events.specs.declared.argument.Argument.TheVariants as argument
@@ -85,3 +85,18 @@ event_of Write (a ∷ b ∷ c ∷ []) =
     option_and_then (λ node. option_and_then (λ register.
     option_map (event.Write node register) (number_in c)) (register_in b)) (node_in a)
 event_of _ _ = None
+
+-- the argument is a node below `nodes`, a register below `registers` or a number
+abbrev pub IsArgumentWithin : ℕ → ℕ → Argument → Type 0
+IsArgumentWithin nodes registers (argument.Node node) = node < nodes
+IsArgumentWithin nodes registers (argument.Register register) = register < registers
+IsArgumentWithin nodes registers (argument.Number number) = ⊤
+
+abbrev pub AreWithin : ℕ → ℕ → List Argument → Type 0
+AreWithin nodes registers [] = ⊤
+AreWithin nodes registers (a ∷ others) =
+    IsArgumentWithin nodes registers a × AreWithin nodes registers others
+
+-- the event names only nodes below `nodes` and registers below `registers`
+abbrev pub IsWithin : ℕ → ℕ → Event → Type 0
+IsWithin nodes registers e = AreWithin nodes registers (given e)

@@ -9,8 +9,8 @@ use Rattle.mx_events.specs.declared.event.Event.TheVariants.{Ask, Enter, Read, W
 use Rattle.mx_events.specs.declared.kind.EventKind.{EventKind}
 use Rattle.mx_events.specs.declared.kind.EventKind.TheVariants as kind
 use Rattle.mx_journal.specs.Drafted.{fresh, receipt_of}
-use Rattle.mx_trace.specs.declared.outcome.Cause.{Cause}
-use Rattle.mx_trace.specs.declared.outcome.Cause.TheVariants.{NotIdle, StampsSpent, NotWaiting, NotGranted, NumbersSpent, NotInside, NoRegister, Gap, Full, Below}
+use Rattle.mx_trace.specs.declared.cause.Cause.{Cause}
+use Rattle.mx_trace.specs.declared.cause.Cause.TheVariants.{NotIdle, StampsSpent, NotWaiting, NotGranted, NumbersSpent, NotInside, NoRegister, Gap, Full, Below}
 use Rattle.mx_trace.specs.declared.outcome.Outcome.{Outcome}
 use Rattle.mx_trace.specs.declared.outcome.Outcome.TheVariants.{Asked, Entered, Value, Written, Left, Cancelled, Settled, Sent, Delivered, Woken, Refused}
 use Rattle.mx_judge.specs.Members.{and_then, has_member, number_at, text_at}

@@ -11,7 +11,7 @@ use Rattle.mx_registers.specs.Based.{registers_in}
 use Rattle.mx_nodelaws.specs.Core.{Core}
 use Rattle.mx_member.specs.Member.{MemberState}
 use Rattle.mx_events.specs.declared.event.Event.TheVariants as event
-use Rattle.mx_trace.specs.declared.outcome.Cause.TheVariants.{Gap}
+use Rattle.mx_trace.specs.declared.cause.Cause.TheVariants.{Gap}
 use Rattle.mx_trace.specs.declared.outcome.Entry.{Entry}
 use Rattle.mx_trace.specs.declared.outcome.Outcome.TheVariants.{Asked, Entered, Value, Written, Left, Cancelled, Settled, Sent, Delivered, Woken, Refused}
 use Rattle.mx_network.specs.Step.{ClusterState}

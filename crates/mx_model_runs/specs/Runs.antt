@@ -10,7 +10,7 @@ use Rattle.mx_trees.specs.Tree.{Rooted}
 use Rattle.mx_member.specs.Steps.{start_of}
 use Rattle.mx_events.specs.declared.event.Event.{Event}
 use Rattle.mx_events.specs.declared.event.Event.TheVariants.{Ask, Enter, Write, Leave, Deliver}
-use Rattle.mx_trace.specs.declared.outcome.Cause.TheVariants.{NotGranted}
+use Rattle.mx_trace.specs.declared.cause.Cause.TheVariants.{NotGranted}
 use Rattle.mx_trace.specs.declared.outcome.Entry.{Entry}
 use Rattle.mx_trace.specs.declared.outcome.Outcome.{Outcome}
 use Rattle.mx_trace.specs.declared.outcome.Outcome.TheVariants.{Asked, Entered, Written, Left, Delivered, Refused}

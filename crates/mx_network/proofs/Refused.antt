@@ -25,8 +25,8 @@ use Rattle.mx_member.proofs.Consequences.{read_unsettled}
 use Rattle.mx_member.proofs.Refused.{refused_stays}
 use Rattle.mx_events.specs.declared.event.Event.{Event}
 use Rattle.mx_events.specs.declared.event.Event.TheVariants as event
-use Rattle.mx_trace.specs.declared.outcome.Cause.{Cause}
-use Rattle.mx_trace.specs.declared.outcome.Cause.TheVariants as cause
+use Rattle.mx_trace.specs.declared.cause.Cause.{Cause}
+use Rattle.mx_trace.specs.declared.cause.Cause.TheVariants as cause
 use Rattle.mx_trace.specs.declared.outcome.Entry.{Entry}
 use Rattle.mx_trace.specs.declared.outcome.Outcome.{Outcome}
 use Rattle.mx_trace.specs.declared.outcome.Outcome.TheVariants.{Left, Refused}

@@ -10,7 +10,7 @@ use Rattle.mx_member.specs.declared.faults.ReadFault.TheVariants as read
 use Rattle.mx_member.specs.declared.faults.WriteFault.TheVariants as write
 use Rattle.mx_trace.specs.declared.outcome.Outcome.{Outcome}
 use Rattle.mx_trace.specs.declared.outcome.Outcome.TheVariants.{Asked, Entered, Value, Written, Left, Cancelled, Settled, Sent, Delivered, Woken, Refused}
-use Rattle.mx_trace.specs.declared.outcome.Cause.TheVariants as cause
+use Rattle.mx_trace.specs.declared.cause.Cause.TheVariants as cause
 
 -- the outcome in a trace, by the result of an act and the number of parcels that the act sent. In a
 -- cluster no read is refused because its own section is settled, so the outcome of `read.Settled`

@@ -1,6 +1,7 @@
-use Rattle.std.specs.Prelude.{ℕ, List, Option, Some, None, codes}
-use Rattle.mx_trace.specs.declared.outcome.Cause.{Cause}
-use Rattle.mx_trace.specs.declared.outcome.Cause.TheVariants.{NotIdle, StampsSpent, NotWaiting, NotGranted, NumbersSpent, NotInside, NoRegister, Gap, Full, Below}
+use Rattle.std.specs.Prelude.{ℕ, List, [], ◌∷◌, Option, Some, None, codes, if◌then◌else◌}
+use Rattle.std.specs.Str.{bytes_eq}
+use Rattle.mx_trace.specs.declared.cause.Cause.{Cause}
+use Rattle.mx_trace.specs.declared.cause.Cause.TheVariants.{NotIdle, StampsSpent, NotWaiting, NotGranted, NumbersSpent, NotInside, NoRegister, Gap, Full, Below}
 
 -- the words for the cause, without the number of a gap or a base
 abbrev pub cause_words : Cause → List ℕ
@@ -20,3 +21,18 @@ abbrev pub cause_number : Cause → Option ℕ
 cause_number (Gap n) = Some n
 cause_number (Below n) = Some n
 cause_number _ = None
+
+-- all causes; those with a number have 0
+abbrev pub causes : List Cause
+causes =
+    NotIdle ∷ StampsSpent ∷ NotWaiting ∷ NotGranted ∷ NumbersSpent ∷ NotInside ∷ NoRegister ∷ Gap 0
+    ∷ Full ∷ Below 0 ∷ []
+
+-- the first of some causes in these words
+abbrev pub first_named : List ℕ → List Cause → Option Cause
+first_named words [] = None
+first_named words (cause ∷ others) =
+    if bytes_eq words (cause_words cause) then Some cause else first_named words others
+
+abbrev pub cause_named : List ℕ → Option Cause
+cause_named words = first_named words causes

@@ -1,5 +1,5 @@
 -- Properties of a trace: exclusion, numbering, the sections, their journal and their order.
-use Rattle.std.specs.Prelude.{ℕ, ◌≤◌, List, [], ◌∷◌, ◌++◌, None}
+use Rattle.std.specs.Prelude.{ℕ, ◌≤◌, Bool, true, false, List, [], ◌∷◌, ◌++◌, None}
 use Rattle.mx_stamps.specs.declared.limits.TheConstants.{MAX_REGISTERS}
 use Rattle.mx_journal.specs.declared.records.Record.{Record}
 use Rattle.mx_journal.specs.Settled.{IsCovered, JournalState, top_covered}
@@ -12,6 +12,14 @@ use Rattle.mx_events.specs.declared.event.Event.TheVariants.{Enter, Read, Write,
 use Rattle.mx_trace.specs.declared.outcome.Outcome.{Outcome}
 use Rattle.mx_trace.specs.declared.outcome.Outcome.TheVariants.{Entered, Value, Written, Left, Woken}
 use Rattle.mx_trace.specs.declared.outcome.Entry.{Entry}
+
+-- a node enters a section with this event
+abbrev pub enters : Event → Outcome → Bool
+enters (Enter i) (Entered n) = true
+enters _ _ = false
+
+abbrev pub is_entry : Entry → Bool
+is_entry e = enters e.event e.outcome
 
 -- the mark of an event with its outcome: Enter with `Entered`, Read with `Value`, Write with
 -- `Written`, Leave with `Left` or Restart with `Woken`. Any other pair has no mark

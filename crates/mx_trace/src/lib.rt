@@ -3,8 +3,10 @@
 #![tactic(auto)]
 
 mod boxed;
+mod cause;
 mod outcome;
 
 pub use boxed::Boxed;
+pub use cause::{CAUSES, Cause};
 pub use mx_events::Event;
-pub use outcome::{Cause, Entry, Outcome};
+pub use outcome::{Entry, Outcome};

@@ -1,67 +1,11 @@
 ghost use Rattle.std.specs.Prelude.{◌≡◌, IsSome};
-ghost use Rattle.mx_trace.specs.Causes.{cause_number, cause_words};
+ghost use Rattle.mx_trace.specs.Trace.{is_entry};
 
 use crate::boxed::Boxed;
+use crate::cause::Cause;
 use mx_events::Event;
 use mx_journal::Receipt;
 use mx_stamps::Stamp;
-
-/// Why a node refuses an event.
-#[derive(Clone, Copy, Debug, PartialEq, Eq)]
-pub enum Cause {
-    /// The node waits already, or is inside.
-    NotIdle,
-    /// No next stamp exists.
-    StampsSpent,
-    /// The node is idle, or inside.
-    NotWaiting,
-    /// A permission is missing.
-    NotGranted,
-    /// The highest section number that the node knows is the greatest that is allowed.
-    NumbersSpent,
-    /// The node is not inside.
-    NotInside,
-    /// There is no such register.
-    NoRegister,
-    /// This is the first section that the journal does not cover. At a read, it is before the
-    /// section of the node; at a settling, it is at most the number to settle up to.
-    Gap(u64),
-    /// At a read: the section has eight reads already. At a write: it has eight writes already.
-    Full,
-    /// The journal's base covers the sections up to this one. They are more than those to settle,
-    /// or include the section of the node that reads.
-    Below(u64),
-}
-
-impl Cause {
-    /// Returns the cause in words, without its number.
-    pub fn words(&self) -> &'static str
-        ensures { result.now ≡ cause_words self.now }
-    {
-        match self {
-            Cause::NotIdle => "not idle",
-            Cause::StampsSpent => "stamps spent",
-            Cause::NotWaiting => "not waiting",
-            Cause::NotGranted => "not granted",
-            Cause::NumbersSpent => "numbers spent",
-            Cause::NotInside => "not inside",
-            Cause::NoRegister => "no register",
-            Cause::Gap(_) => "gap",
-            Cause::Full => "full",
-            Cause::Below(_) => "below",
-        }
-    }
-
-    /// Returns the number of a `Gap` or a `Below`, or `None` for any other cause.
-    pub fn number(&self) -> Option<u64>
-        ensures { result ≡ cause_number self.now }
-    {
-        match self {
-            Cause::Gap(number) | Cause::Below(number) => Some(*number),
-            _ => None,
-        }
-    }
-}
 
 /// The outcome of an event.
 #[derive(Debug, PartialEq, Eq, Drop)]
@@ -129,4 +73,16 @@ pub struct Entry {
     pub event: Event,
     /// The outcome of the event.
     pub outcome: Outcome,
+}
+
+impl Entry {
+    /// Returns whether a node entered a section.
+    pub fn is_entry(&self) -> bool
+        ensures { result ≡ is_entry self.now }
+    {
+        match (&self.event, &self.outcome) {
+            (Event::Enter(_), Outcome::Entered(_)) => true,
+            _ => false,
+        }
+    }
 }
