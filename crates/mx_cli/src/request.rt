@@ -171,6 +171,9 @@ pub enum Task<'a> {
     Judge {
         is_json: bool,
     },
+    Conform {
+        is_json: bool,
+    },
     Explain {
         is_script: bool,
     },

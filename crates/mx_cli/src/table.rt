@@ -22,6 +22,7 @@ pub(crate) enum CommandId {
     Picture,
     Count,
     Judge,
+    Conform,
     Explain,
 }
 
@@ -34,7 +35,7 @@ pub(crate) struct CommandRow {
 }
 
 /// All commands, in the order of the help.
-pub(crate) const COMMANDS: [CommandId; 11] = [
+pub(crate) const COMMANDS: [CommandId; 12] = [
     CommandId::Check,
     CommandId::Replay,
     CommandId::Explore,
@@ -45,6 +46,7 @@ pub(crate) const COMMANDS: [CommandId; 11] = [
     CommandId::Picture,
     CommandId::Count,
     CommandId::Judge,
+    CommandId::Conform,
     CommandId::Explain,
 ];
 
@@ -129,6 +131,13 @@ static JUDGE: CommandRow = CommandRow {
     example: examples::JUDGE,
 };
 
+static CONFORM: CommandRow = CommandRow {
+    name: "conform",
+    about: "Follows the trace of any program by the rules of the plan's algorithm",
+    arguments: &[PLAN, TRACE, JSON],
+    example: examples::CONFORM,
+};
+
 static EXPLAIN: CommandRow = CommandRow {
     name: "explain",
     about: "Explains what is wrong in a plan, its events or a script, and where",
@@ -150,6 +159,7 @@ pub(crate) fn row_of(id: CommandId) -> &'static CommandRow
         CommandId::Picture => &PICTURE,
         CommandId::Count => &COUNT,
         CommandId::Judge => &JUDGE,
+        CommandId::Conform => &CONFORM,
         CommandId::Explain => &EXPLAIN,
     }
 }

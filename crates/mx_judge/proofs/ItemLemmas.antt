@@ -17,34 +17,34 @@ use Rattle.mx_judge.specs.declared.faults.TraceFault.{TraceFault}
 use Rattle.mx_judge.specs.declared.faults.TraceFault.TheVariants.{Memory}
 
 -- a line that is not blank, read as JSON or not
-pub line_read : (p : Fields) (line : Text) (d : Data) → list_all is_blank line ≡ false → is_marked line ≡ false → value_of line ≡ Some d → item_of p d ≡ line_item p line
+pub line_read : (p : Fields) (line : Text) (d : Data) → list_all is_blank line ≡ false → is_marked line ≡ false → value_of line ≡ Some d → (names : List Text) → item_of p d names ≡ line_item p line names
 unfolding line_item
-line_read p line d full plain is = rw (full, plain, is) refl
+line_read p line d full plain is names = rw (full, plain, is) refl
 
 pub line_unread : (p : Fields) (line : Text) (fault : ItemFault) → list_all is_blank line ≡ false → is_marked line ≡ false
-    → (fault ≡ item.Memory) ⊎ ((fault ≡ item.NotJson) × (value_of line ≡ None)) → AnswersItem (line_item p line) (Err fault)
+    → (fault ≡ item.Memory) ⊎ ((fault ≡ item.NotJson) × (value_of line ≡ None)) → (names : List Text) → AnswersItem (line_item p line names) (Err fault)
 unfolding line_item
-line_unread p line fault full plain (inl memory) = inr (ap Err memory)
-line_unread p line fault full plain (inr none) = inl (rw (full, plain, none.1) (ap Err none.0))
+line_unread p line fault full plain (inl memory) names = inr (ap Err memory)
+line_unread p line fault full plain (inr none) names = inl (rw (full, plain, none.1) (ap Err none.0))
 
-module _ {X A : Type 0} (view : X → A) (item : A → Result (Option Item) ItemFault) (name : ℕ → ItemFault → TraceFault) (xs : List X) where
+module _ {X A : Type 0} (view : X → A) (item : A → List Text → Result (Option Item) ItemFault) (name : ℕ → ItemFault → TraceFault) (xs : List X) where
   -- this trace, and the entries of the items from the k-th on
   abbrev pub rest : ReadTrace → ℕ → Result ReadTrace TraceFault
   rest t k = entries_from name t (k + 1) (map item (map view (drop k xs)))
 
   rest_one : (t : ReadTrace) (k : ℕ) (d : X) → k < length xs
-      → rest t k ≡ go_on name (k + 1) (with_item (k + 1) t (item (view (get_or xs k d)))) (λ more. rest more (k + 1))
+      → rest t k ≡ go_on name (k + 1) (with_item (k + 1) t (item (view (get_or xs k d)) t.names)) (λ more. rest more (k + 1))
   unfolding entries_from
   rest_one t k d h =
       ap (λ l. entries_from name t (k + 1) (map item (map view l))) (drop-cons xs k d h ∙ ap (λ n. get_or xs k d ∷ drop n xs) (sym (add-one k)))
 
   pub rest_ok : (t more : ReadTrace) (k : ℕ) (d : X) → k < length xs
-      → with_item (k + 1) t (item (view (get_or xs k d))) ≡ Ok more → rest t k ≡ rest more (k + 1)
+      → with_item (k + 1) t (item (view (get_or xs k d)) t.names) ≡ Ok more → rest t k ≡ rest more (k + 1)
   rest_ok t more k d h is =
       rest_one t k d h ∙ ap (λ r. go_on name (k + 1) r (λ l. rest l (k + 1))) is
 
   pub rest_err : (t : ReadTrace) (k : ℕ) (d : X) (fault : ItemFault) → k < length xs
-      → with_item (k + 1) t (item (view (get_or xs k d))) ≡ Err fault → rest t k ≡ Err (name (k + 1) fault)
+      → with_item (k + 1) t (item (view (get_or xs k d)) t.names) ≡ Err fault → rest t k ≡ Err (name (k + 1) fault)
   rest_err t k d fault h is =
       rest_one t k d h ∙ ap (λ r. go_on name (k + 1) r (λ l. rest l (k + 1))) is
 

@@ -65,12 +65,12 @@ module _ (p : Fields) (t : ReadTrace) (k : ℕ) (rest : Text) where
   from_lines = entries_from line_fault t k (map (line_item p) (lines_of rest))
 
   of_lines : (line : Text) (others : List Text) → lines_of rest ≡ line ∷ others
-      → from_lines ≡ go_on line_fault k (with_item k t (line_item p line)) (λ more. entries_from line_fault more (k + 1) (map (line_item p) others))
+      → from_lines ≡ go_on line_fault k (with_item k t (line_item p line t.names)) (λ more. entries_from line_fault more (k + 1) (map (line_item p) others))
   unfolding entries_from
   of_lines line others are = ap (λ ls. entries_from line_fault t k (map (line_item p) ls)) are
 
   -- a line that is a fault ends it
-  pub line_refused : (fault : ItemFault) → with_item k t (line_item p (before_first is_feed rest)) ≡ Err fault → from_lines ≡ Err (line_fault k fault)
+  pub line_refused : (fault : ItemFault) → with_item k t (line_item p (before_first is_feed rest) t.names) ≡ Err fault → from_lines ≡ Err (line_fault k fault)
   line_refused fault is =
       let first = first_line rest in
       of_lines (before_first is_feed rest) first.0 first.1
@@ -78,7 +78,7 @@ module _ (p : Fields) (t : ReadTrace) (k : ℕ) (rest : Text) where
 
   -- the last line
   pub lines_end : (more : ReadTrace) → length (before_first is_feed rest) ≡ length rest
-      → with_item k t (line_item p (before_first is_feed rest)) ≡ Ok more → from_lines ≡ Ok more
+      → with_item k t (line_item p (before_first is_feed rest) t.names) ≡ Ok more → from_lines ≡ Ok more
   unfolding entries_from
   lines_end more same is =
       of_lines (before_first is_feed rest) [] (last_line rest same)
@@ -86,7 +86,7 @@ module _ (p : Fields) (t : ReadTrace) (k : ℕ) (rest : Text) where
 
 -- a line that is followed by others
 pub lines_go_on : (p : Fields) (t more : ReadTrace) (k : ℕ) (rest : Text) → length (before_first is_feed rest) < length rest
-    → with_item k t (line_item p (before_first is_feed rest)) ≡ Ok more → from_lines p t k rest ≡ from_lines p more (k + 1) (after_first is_feed rest)
+    → with_item k t (line_item p (before_first is_feed rest) t.names) ≡ Ok more → from_lines p t k rest ≡ from_lines p more (k + 1) (after_first is_feed rest)
 lines_go_on p t more k rest less is =
     of_lines p t k rest (before_first is_feed rest) (lines_of (after_first is_feed rest)) (more_lines rest less)
     ∙ ap (λ r. go_on line_fault k r (λ l. entries_from line_fault l (k + 1) (map (line_item p) (lines_of (after_first is_feed rest))))) is

@@ -12,10 +12,12 @@ use Rattle.mx_events.specs.declared.argument.Argument.TheVariants as argument
 use Rattle.mx_events.specs.declared.argument.ArgumentKind.{ArgumentKind}
 use Rattle.mx_events.specs.declared.argument.ArgumentKind.TheVariants.{Node, Register, Value, Section, Parcel}
 use Rattle.mx_events.specs.declared.event.Event.{Event}
+use Rattle.mx_events.specs.declared.event.Event.TheVariants as event
 use Rattle.mx_events.specs.declared.kind.EventKind.{EventKind}
+use Rattle.mx_events.specs.declared.kind.EventKind.TheVariants.{Deliver}
 use Rattle.mx_trace.specs.declared.outcome.Entry.{Entry}
 use Rattle.mx_judge.specs.Members.{and_then, has_member, number_at, text_at}
-use Rattle.mx_judge.specs.Messages.{message_of}
+use Rattle.mx_judge.specs.Messages.{delivered_at, message_of}
 use Rattle.mx_judge.specs.Outcomes.{outcome_of}
 use Rattle.mx_judge.specs.declared.entry_reader.Item.{Item}
 use Rattle.mx_judge.specs.declared.entry_reader.Item.TheVariants as in_trace
@@ -62,7 +64,7 @@ module _ (p : Fields) (d : Data) where
       (register_of p (text_at member.Register d)) (Err (Wrong member.Register))
   argument_at m Value = number_in member.Value
   argument_at m Section = number_in member.Upto
-  argument_at m Parcel = number_in member.Parcel
+  argument_at m Parcel = Err (Wrong member.Act)
 
   -- the arguments of these kinds, or the fault of the first wrong member. A node is that of m if it
   -- is the first argument, and else that of `from`
@@ -75,26 +77,34 @@ module _ (p : Fields) (d : Data) where
   abbrev pub event_at : EventKind → Result Event ItemFault
   event_at kind = and_then (arguments_at member.Node (arguments_of kind)) (event_by kind)
 
-  abbrev pub event_in : Result Event ItemFault
-  event_in = option_map_or event_at (kind_named (text_at member.Act d)) (Err (Wrong member.Act))
+  -- the event of a kind. A delivery is that of one of the messages with these names
+  abbrev pub event_of_kind : List Text → EventKind → Result Event ItemFault
+  event_of_kind names Deliver = and_then (delivered_at names d) (λ k. Ok (event.Deliver k))
+  event_of_kind names kind = event_at kind
 
-  abbrev pub entry_of : Result Entry ItemFault
-  entry_of =
-      and_then event_in
+  abbrev pub event_in : List Text → Result Event ItemFault
+  event_in names =
+      option_map_or (event_of_kind names) (kind_named (text_at member.Act d))
+      (Err (Wrong member.Act))
+
+  abbrev pub entry_of : List Text → Result Entry ItemFault
+  entry_of names =
+      and_then (event_in names)
       (λ e. and_then (outcome_of e d) (λ outcome. Ok (record { event = e; outcome = outcome })))
 
-  abbrev pub event_item : Result (Option Item) ItemFault
-  event_item = and_then entry_of (λ entry. Ok (Some (in_trace.Event entry)))
+  abbrev pub event_item : List Text → Result (Option Item) ItemFault
+  event_item names = and_then (entry_of names) (λ entry. Ok (Some (in_trace.Event entry)))
 
-  abbrev pub message_item : Result (Option Item) ItemFault
-  message_item = and_then (message_of p d) (λ message. Ok (Some (in_trace.Message message)))
+  abbrev pub message_item : List Text → Result (Option Item) ItemFault
+  message_item names =
+      and_then (message_of p d names) (λ message. Ok (Some (in_trace.Message message)))
 
   -- the entry of an object that has `act`, or else the message of one that has `kind`; none, of an
-  -- object that is passed over; or a fault
-  unfoldable pub item_of : Result (Option Item) ItemFault
-  item_of =
-      if has_member (codes "act") d then event_item
-      else if has_member (codes "kind") d then message_item
+  -- object that is passed over; or a fault. It comes after messages of these names
+  unfoldable pub item_of : List Text → Result (Option Item) ItemFault
+  item_of names =
+      if has_member (codes "act") d then event_item names
+      else if has_member (codes "kind") d then message_item names
       else if is_passed_over d then Ok None
       else if is_bare_event d then Err NoOutcome
       else Err NotEvent

@@ -1,19 +1,21 @@
 -- A trace that is read from a text.
 use Rattle.std.specs.Prelude.{ℕ, ◌+◌, ◌&&◌, List, [], ◌∷◌, ◌++◌, length, nat_le, slice_get, slice_range, unwrap_or, if◌then◌else◌}
 use Rattle.mx_trace.specs.declared.outcome.Entry.{Entry}
+use Rattle.mx_plan.specs.Text.{Text}
 use Rattle.mx_judge.specs.Messages.{SentMessage}
 use Rattle.mx_judge.specs.declared.trace.Trace.{Trace}
 
 -- the entries of a trace, and the messages that they send; for each entry the number of its line
--- or, in an array, of its item, and how many messages stand before it
+-- or, in an array, of its item, and how many messages stand before it; and the names of the messages
 pub record ReadTrace : Type 0 where
   pub entries : List Entry
   pub places : List ℕ
   pub messages : List SentMessage
   pub starts : List ℕ
+  pub names : List Text
 
 abbrev pub nothing : ReadTrace
-nothing = record { entries = []; places = []; messages = []; starts = [] }
+nothing = record { entries = []; places = []; messages = []; starts = []; names = [] }
 
 abbrev pub listed : Trace → ReadTrace
 listed trace = record {
@@ -21,6 +23,7 @@ listed trace = record {
   places = trace.places.items;
   messages = trace.messages.items;
   starts = trace.starts.items;
+  names = trace.names;
 }
 
 -- this trace, with the entry of the k-th line or item after it
@@ -30,6 +33,7 @@ with_one k t entry = record {
   places = t.places ++ k ∷ [];
   messages = t.messages;
   starts = t.starts ++ length t.messages ∷ [];
+  names = t.names;
 }
 
 -- this trace, whose newest entry sends this message too
@@ -39,6 +43,7 @@ with_message t message = record {
   places = t.places;
   messages = t.messages ++ message ∷ [];
   starts = t.starts;
+  names = t.names ++ message.name ∷ [];
 }
 
 -- the number of the line or item of the k-th entry

@@ -41,6 +41,7 @@ message_of Register = codes "no such register"
 message_of Outcome = codes "not one of its act"
 message_of Cause = codes "no such word"
 message_of Kind = codes "not a text"
+message_of Parcel = codes "not a number or a text"
 message_of _ = codes "not a number"
 
 abbrev pub has_member : Text → Data → Bool

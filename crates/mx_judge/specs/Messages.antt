@@ -1,5 +1,6 @@
 -- The messages of a trace: the parcels that its events send.
-use Rattle.std.specs.Prelude.{◌≡◌, ◌⊎◌, ℕ, ◌++◌, [], String, Option, Some, None, Result, Ok, Err, codes, is_some, string_bytes, if◌then◌else◌}
+use Rattle.std.specs.Prelude.{◌≡◌, ◌⊎◌, ℕ, ◌++◌, List, [], String, Option, Some, None, Result, Ok, Err, codes, decimal, false, is_some, length, nat_le, position, string_bytes, unwrap_or, if◌then◌else◌}
+use Rattle.std.specs.Str.{bytes_eq}
 use Rattle.std.specs.declared.alloc.Global.{Global}
 use Rattle.std.specs.Option.{option_map_or}
 use Rattle.serde_json.specs.Data.{Data}
@@ -16,8 +17,10 @@ use Rattle.mx_judge.specs.declared.members.Member.TheVariants as member
 use Rattle.mx_judge.specs.declared.faults.ItemFault.{ItemFault}
 use Rattle.mx_judge.specs.declared.faults.ItemFault.TheVariants.{Memory, Wrong}
 
--- a message: its number, its nodes, its kind as a text of JSON, and what else it says
+-- a message: its name as a text of JSON, its number, which counts the messages before it, its nodes,
+-- its kind as a text of JSON, and what else it says
 pub record SentMessage : Type 0 where
+  pub name : Text
   pub parcel : ℕ
   pub from : ℕ
   pub to : ℕ
@@ -30,6 +33,27 @@ pub record SentMessage : Type 0 where
 abbrev pub optional_at : Member → Data → Result (Option ℕ) ItemFault
 optional_at m d =
     if has_member (key_of m) d then and_then (number_at m d) (λ n. Ok (Some n)) else Ok None
+
+-- the name of the message that an object sends or delivers: a text of JSON, or a number
+abbrev pub name_at : Data → Result Text ItemFault
+name_at d =
+    if option_map_or (λ name. is_some (as_str name)) (get (codes "parcel") d) false
+    then option_map_or (λ name. Ok (compact_text name)) (get (codes "parcel") d) (Err (Wrong member.Parcel))
+    else and_then (number_at member.Parcel d) (λ n. Ok (decimal n))
+
+-- the number of a delivery whose message was not sent, after messages of these names
+abbrev pub unsent : List Text → Result ℕ ItemFault → ℕ
+unsent names (Ok n) = if nat_le (length names) n then n else 18446744073709551615
+unsent names (Err fault) = 18446744073709551615
+
+abbrev pub unsent_at : List Text → Data → ℕ
+unsent_at names d = unsent names (number_at member.Parcel d)
+
+-- the number of the message that an object delivers, after messages of these names
+abbrev pub delivered_at : List Text → Data → Result ℕ ItemFault
+delivered_at names d =
+    and_then (name_at d)
+    (λ name. Ok (unwrap_or (position (bytes_eq name) names) (unsent_at names d)))
 
 -- the result has the text or the fault that is wanted, or memory ran out
 abbrev pub GivesText : Result Text ItemFault → Result (String Global) ItemFault → Type 0
@@ -75,16 +99,23 @@ module _ (p : Fields) (d : Data) where
         upto = upto;
       }))))))))
 
-  -- the message of an object that has `kind`
-  abbrev pub message_of : Result SentMessage ItemFault
-  message_of =
-      and_then (number_at member.Parcel d)
-      (λ k. and_then (node_at member.From)
+  -- the message of an object that has `kind`, after messages of these names
+  abbrev pub message_of : List Text → Result SentMessage ItemFault
+  message_of names =
+      and_then (name_at d)
+      (λ name. and_then (node_at member.From)
       (λ i. and_then (node_at member.To)
       (λ j. and_then parts_at
       (λ parts. and_then (kind_at d)
       (λ kind. Ok
-      (record { parcel = k; from = i; to = j; kind = kind; parts = parts }))))))
+      (record {
+        name = name;
+        parcel = length names;
+        from = i;
+        to = j;
+        kind = kind;
+        parts = parts;
+      }))))))
 
 -- ---- as JSON
 

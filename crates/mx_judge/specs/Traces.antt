@@ -1,6 +1,7 @@
 -- The trace in a text.
 use Rattle.std.specs.Prelude.{◌≡◌, ◌⊎◌, ◌||◌, ◌&&◌, ◌==◌, ◌+◌, ℕ, List, [], ◌∷◌, Bool, false, not, length, map, nat_lt, codes, if◌then◌else◌, Option, Some, None, Result, Ok, Err}
-use Rattle.std.specs.List.{find, list_all, slice_split}
+use Rattle.std.specs.List.{find, list_all, list_any, slice_split}
+use Rattle.std.specs.Str.{bytes_eq}
 use Rattle.std.specs.Option.{option_map_or}
 use Rattle.serde_json.specs.Data.{Data}
 use Rattle.mx_plan.specs.Text.{Text}
@@ -50,23 +51,26 @@ abbrev pub is_marked : Text → Bool
 is_marked (a ∷ b ∷ c ∷ rest) = a == 239 && b == 187 && c == 191
 is_marked _ = false
 
--- the entry or the message of a line; none, if the line is blank or its object is passed over; or a
--- fault
-unfoldable pub line_item : Fields → Text → Result (Option Item) ItemFault
-line_item p line =
+-- the entry or the message of a line, after messages of these names; none, if the line is blank or
+-- its object is passed over; or a fault
+unfoldable pub line_item : Fields → Text → List Text → Result (Option Item) ItemFault
+line_item p line names =
     if list_all is_blank line then Ok None
     else if is_marked line then Err item.Mark
-    else option_map_or (item_of p) (value_of line) (Err item.NotJson)
+    else option_map_or (λ d. item_of p d names) (value_of line) (Err item.NotJson)
 
 -- this trace, and then the entry of the k-th line or item; a fault, if there are too many
 abbrev pub with_entry : ℕ → ReadTrace → Entry → Result ReadTrace ItemFault
 with_entry k t entry =
     if nat_lt (length t.entries) MAX_EVENTS then Ok (with_one k t entry) else Err item.TooMany
 
--- this trace, whose newest entry sends this message too; a fault, if it has no entry
+-- this trace, whose newest entry sends this message too; a fault, if it has no entry, or a message of
+-- the same name
 abbrev pub with_sent : ReadTrace → SentMessage → Result ReadTrace ItemFault
 with_sent t message =
-    if length t.entries == 0 then Err item.NoSender else Ok (with_message t message)
+    if length t.entries == 0 then Err item.NoSender
+    else if list_any (bytes_eq message.name) t.names then Err item.SentBefore
+    else Ok (with_message t message)
 
 -- this trace, and then what the k-th line or item has, if it has something
 abbrev pub with_item : ℕ → ReadTrace → Result (Option Item) ItemFault → Result ReadTrace ItemFault
@@ -81,12 +85,13 @@ abbrev pub go_on : (ℕ → ItemFault → TraceFault) → ℕ → Result ReadTra
 go_on name k (Ok t) f = f t
 go_on name k (Err fault) f = Err (name k fault)
 
--- this trace, and then the entries of these items, the first with the number k; or the first fault
+-- this trace, and then the entries of these items, the first with the number k; or the first fault.
+-- Each item is read after the messages with these names
 unfoldable pub entries_from : (ℕ → ItemFault → TraceFault) → ReadTrace → ℕ
-    → List (Result (Option Item) ItemFault) → Result ReadTrace TraceFault
+    → List (List Text → Result (Option Item) ItemFault) → Result ReadTrace TraceFault
 entries_from name t k [] = Ok t
 entries_from name t k (i ∷ items) =
-    go_on name k (with_item k t i) (λ more. entries_from name more (k + 1) items)
+    go_on name k (with_item k t (i t.names)) (λ more. entries_from name more (k + 1) items)
 
 -- the lines of a text, between its line feeds
 abbrev pub lines_of : Text → List Text

@@ -8,11 +8,11 @@ ghost use Rattle.mx_judge.specs.Members.{AnswersItem};
 
 use crate::faults::ItemFault;
 use crate::members::{Member, has_member, number_at, text_at};
-use crate::message::{Message, message_in};
+use crate::message::{Message, delivered_at, message_in};
 use crate::outcome_reader::outcome_in;
 use mx_events::{Argument, ArgumentKind, Event, EventKind};
 use mx_journal::Receipt;
-use mx_plan::Plan;
+use mx_plan::{Names, Plan};
 use mx_trace::{Boxed, Entry};
 use serde_json::Value;
 use std::alloc::Global;
@@ -25,15 +25,19 @@ pub(crate) enum Item {
 }
 
 #[tactic(auto, unfolding(crate::specs::Entries::item_of))]
-pub(crate) fn item_in(alloc: Global, plan: &Plan, value: &Value) -> Result<Option<Item>, ItemFault>
-    ensures { AnswersItem (spec.item_of plan.now (view value.now)) result }
+pub(crate) fn item_in(
+    alloc: Global,
+    plan: &Plan,
+    names: &Names,
+    value: &Value,
+) -> Result<Option<Item>, ItemFault>
+    ensures { AnswersItem (spec.item_of plan.now (view value.now) names.now) result }
 {
     if has_member(value, "act") {
-        let room = Boxed::new(alloc, Receipt::default())?;
-        return Ok(Some(Item::Event(entry_in(plan, value, room)?)));
+        return Ok(Some(Item::Event(entry_in(alloc, plan, names, value)?)));
     }
     if has_member(value, "kind") {
-        return Ok(Some(Item::Message(message_in(alloc, plan, value)?)));
+        return Ok(Some(Item::Message(message_in(alloc, plan, names, value)?)));
     }
     if is_passed_over(value) {
         return Ok(None);
@@ -89,18 +93,20 @@ pub(crate) fn items_in(value: &Value) -> &[Value]
     }
 }
 
-fn entry_in(plan: &Plan, value: &Value, room: Boxed<Receipt>) -> Result<Entry, ItemFault>
-    ensures { result ≡ spec.entry_of plan.now (view value.now) }
+fn entry_in(alloc: Global, plan: &Plan, names: &Names, value: &Value) -> Result<Entry, ItemFault>
+    ensures { AnswersItem (spec.entry_of plan.now (view value.now) names.now) result }
 {
-    let event = event_in(plan, value)?;
+    let room = Boxed::new(alloc, Receipt::default())?;
+    let event = event_in(alloc, plan, names, value)?;
     let outcome = outcome_in(&event, value, room)?;
     Ok(Entry { event, outcome })
 }
 
-fn event_in(plan: &Plan, value: &Value) -> Result<Event, ItemFault>
-    ensures { result ≡ spec.event_in plan.now (view value.now) }
+fn event_in(alloc: Global, plan: &Plan, names: &Names, value: &Value) -> Result<Event, ItemFault>
+    ensures { AnswersItem (spec.event_in plan.now (view value.now) names.now) result }
 {
     match EventKind::of_word(text_at(value, Member::Act)) {
+        Some(EventKind::Deliver) => Ok(Event::Deliver(delivered_at(alloc, names, value)?)),
         Some(kind) => event_at(plan, value, kind),
         None => Err(ItemFault::Wrong(Member::Act)),
     }
@@ -150,6 +156,6 @@ fn argument_at(
         },
         ArgumentKind::Value => Ok(Argument::Number(number_at(value, Member::Value)?)),
         ArgumentKind::Section => Ok(Argument::Number(number_at(value, Member::Upto)?)),
-        ArgumentKind::Parcel => Ok(Argument::Number(number_at(value, Member::Parcel)?)),
+        ArgumentKind::Parcel => Err(ItemFault::Wrong(Member::Act)),
     }
 }

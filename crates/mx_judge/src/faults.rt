@@ -21,6 +21,8 @@ pub(crate) enum ItemFault {
     Wrong(Member),
     /// It is a message, and no event is before it.
     NoSender,
+    /// It is a message whose parcel was sent before.
+    SentBefore,
     /// There are 1,000,000 events before it.
     TooMany,
     Memory,
@@ -39,6 +41,7 @@ impl fmt::Display for ItemFault {
             }
             ItemFault::Wrong(member) => write!(f, "{}: {}", member.key(), member.message()),
             ItemFault::NoSender => f.write_str("a message before the first event"),
+            ItemFault::SentBefore => f.write_str("parcel: sent before"),
             ItemFault::TooMany => f.write_str("more than 1000000 events"),
             ItemFault::Memory => f.write_str("out of memory"),
         }

@@ -123,7 +123,12 @@ impl Judged<'_> {
     }
 }
 
-fn add_counts(entries: &[Entry], text: &mut String) -> Result<(), AllocError>
+/// Appends the line of how many events a trace has, and how many sections were entered.
+///
+/// # Errors
+///
+/// Returns `AllocError` if memory runs out.
+pub fn add_counts(entries: &[Entry], text: &mut String) -> Result<(), AllocError>
     ensures { OnOk result (string_bytes text.new
         ≡ string_bytes text.old ++ spec.counts_line entries.now) }
 {
@@ -156,7 +161,12 @@ pub fn clause_word(clause: Clause) -> &'static str
     }
 }
 
-fn add_counts_members(entries: &[Entry], text: &mut String) -> Result<(), AllocError>
+/// Appends the same as members of an object.
+///
+/// # Errors
+///
+/// Returns `AllocError` if memory runs out.
+pub fn add_counts_members(entries: &[Entry], text: &mut String) -> Result<(), AllocError>
     ensures { OnOk result (string_bytes text.new
         ≡ string_bytes text.old ++ spec.counts_members entries.now) }
 {

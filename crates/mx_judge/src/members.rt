@@ -66,6 +66,7 @@ impl Member {
             Member::Register => "no such register",
             Member::Outcome => "not one of its act",
             Member::Kind => "not a text",
+            Member::Parcel => "not a number or a text",
             _ => "not a number",
         }
     }
@@ -77,6 +78,7 @@ impl Member {
             Member::Node | Member::From | Member::To | Member::Of => Some("a node of the plan"),
             Member::Register => Some("a register of the plan"),
             Member::Kind => Some("a text"),
+            Member::Parcel => Some("a whole number of 64 bits without a sign, or a text"),
             _ => Some("a whole number of 64 bits without a sign"),
         }
     }

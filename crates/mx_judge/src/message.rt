@@ -9,7 +9,7 @@ use crate::faults::ItemFault;
 use crate::members::{Member, has_member, number_at, text_at};
 use mx_format::json::{add_number, add_word, start_number};
 use mx_format::name_of;
-use mx_plan::Plan;
+use mx_plan::{Names, Plan};
 use mx_stamps::{NodeId, Stamp};
 use serde_json::Value;
 use std::alloc::{AllocError, Global};
@@ -30,7 +30,9 @@ pub struct MessageParts {
 /// A message, as `replay --json` prints a parcel.
 #[derive(Drop)]
 pub struct Message {
-    /// The number by which an event delivers it.
+    /// The name by which the text delivers it: a number, or a text in quotes.
+    pub name: String,
+    /// How many messages stand before it, by which an event delivers it.
     pub parcel: u64,
     pub from: NodeId,
     pub to: NodeId,
@@ -46,6 +48,7 @@ impl Model for Message {
     ghost Value = { SentMessage };
 
     ghost view = { λ m. record {
+      name = string_bytes m.name;
       parcel = m.parcel;
       from = m.from;
       to = m.to;
@@ -54,22 +57,63 @@ impl Model for Message {
     } };
 }
 
-/// Reads the message in an object that has `kind`.
-pub(crate) fn message_in(alloc: Global, plan: &Plan, value: &Value) -> Result<Message, ItemFault>
-    ensures { AnswersItem (spec.message_of plan.now (view value.now)) result }
+/// Reads the message in an object that has `kind`. `names` are those of the messages before it.
+pub(crate) fn message_in(
+    alloc: Global,
+    plan: &Plan,
+    names: &Names,
+    value: &Value,
+) -> Result<Message, ItemFault>
+    ensures { AnswersItem (spec.message_of plan.now (view value.now) names.now) result }
 {
-    let parcel = number_at(value, Member::Parcel)?;
+    let name = name_at(alloc, value)?;
+    let parcel = names.len() as u64;
     let from = node_at(plan, value, Member::From)?;
     let to = node_at(plan, value, Member::To)?;
     let parts = parts_at(plan, value)?;
     let kind = kind_at(alloc, value)?;
     Ok(Message {
+        name,
         parcel,
         from,
         to,
         kind,
         parts,
     })
+}
+
+/// Returns the name of the message that an object sends or delivers.
+fn name_at(alloc: Global, value: &Value) -> Result<String, ItemFault>
+    ensures { spec.GivesText (spec.name_at (view value.now)) result }
+{
+    match value.get("parcel") {
+        Some(name) if name.is_string() => Ok(name.to_string(alloc)?),
+        _ => {
+            let number = number_at(value, Member::Parcel)?;
+            Ok(format!(in alloc; "{number}")?)
+        }
+    }
+}
+
+/// Returns how many messages stand before the one that an object delivers. If none has the name, it
+/// is the number in the object, or 2^64 - 1 if that is the place of another message.
+pub(crate) fn delivered_at(alloc: Global, names: &Names, value: &Value) -> Result<u64, ItemFault>
+    ensures { AnswersItem (spec.delivered_at names.now (view value.now)) result }
+{
+    let name = name_at(alloc, value)?;
+    Ok(match names.index_of(name.as_str()) {
+        Some(index) => index as u64,
+        None => unsent_at(names, value),
+    })
+}
+
+fn unsent_at(names: &Names, value: &Value) -> u64
+    ensures { result ≡ spec.unsent_at names.now (view value.now) }
+{
+    match number_at(value, Member::Parcel) {
+        Ok(number) if number >= names.len() as u64 => number,
+        _ => u64::MAX,
+    }
 }
 
 fn node_at(plan: &Plan, value: &Value, member: Member) -> Result<NodeId, ItemFault>
@@ -120,6 +164,35 @@ fn kind_at(alloc: Global, value: &Value) -> Result<String, ItemFault>
     match value.get("kind") {
         Some(kind) if kind.is_string() => Ok(kind.to_string(alloc)?),
         _ => Err(ItemFault::Wrong(Member::Kind)),
+    }
+}
+
+impl Message {
+    /// Appends what the message says, such as `reply 1.a top 0`.
+    ///
+    /// # Errors
+    ///
+    /// Returns `AllocError` if memory runs out.
+    pub fn add_text(&self, plan: &Plan, text: &mut String) -> Result<(), AllocError> {
+        let parts = &self.parts;
+        text.push_str(self.kind.as_str().trim_matches('"'))?;
+        if let Some(stamp) = parts.stamp {
+            write!(text, " {}.{}", stamp.number, name_of(plan, stamp.node))?;
+        }
+        let counts = [
+            ("", parts.number),
+            ("", parts.hop),
+            ("top ", parts.top),
+            ("grant ", parts.grant),
+            ("last ", parts.last),
+            ("", parts.upto),
+        ];
+        for (name, count) in counts {
+            if let Some(count) = count {
+                write!(text, " {name}{count}")?;
+            }
+        }
+        Ok(())
     }
 }
 

@@ -1,9 +1,12 @@
 //! A trace, with the place of each event in its text.
 
-ghost use Rattle.std.specs.Prelude.{◌≡◌, OnOk};
+ghost use Rattle.std.specs.Prelude.{◌≡◌, IfOk, OnOk, not, true};
+ghost use Rattle.std.specs.List.{list_any};
+ghost use Rattle.std.specs.Str.{bytes_eq};
 ghost use Rattle.mx_judge.specs.Listed.{listed, nothing, place_of, sent_by, start_of, with_message, with_one};
 
 use crate::message::Message;
+use mx_plan::Names;
 use mx_trace::Entry;
 use std::alloc::{AllocError, Global};
 
@@ -17,6 +20,8 @@ pub struct Trace {
     pub messages: Vec<Message>,
     /// For each entry how many messages stand before it.
     pub starts: Vec<usize>,
+    /// The names of the messages, in order.
+    pub(crate) names: Names,
 }
 
 impl Trace {
@@ -28,6 +33,7 @@ impl Trace {
             places: Vec::new(alloc),
             messages: Vec::new(alloc),
             starts: Vec::new(alloc),
+            names: Names::new(alloc),
         }
     }
 
@@ -42,12 +48,18 @@ impl Trace {
         Ok(())
     }
 
-    /// Appends a message, which the newest entry sends.
-    pub(crate) fn send(&mut self, message: Message) -> Result<(), AllocError>
-        ensures { OnOk result (listed self.new ≡ with_message (listed self.old) message) }
+    /// Appends a message, which the newest entry sends. Returns false if its name was there already.
+    pub(crate) fn send(&mut self, alloc: Global, message: Message) -> Result<bool, AllocError>
+        ensures sent { IfOk result (λ sent.
+            sent ≡ not (list_any (bytes_eq message.name) (listed self.old).names)) }
+        ensures more { IfOk result (λ sent. sent ≡ true
+            → listed self.new ≡ with_message (listed self.old) message) }
     {
+        if !self.names.add(alloc, message.name.as_str())? {
+            return Ok(false);
+        }
         self.messages.push(message)?;
-        Ok(())
+        Ok(true)
     }
 
     /// Returns the number of the line or item of the entry with this index, or 0 if there is no such

@@ -14,9 +14,10 @@ use crate::entry_reader::{Item, is_passed_over, item_in, items_in};
 use crate::fault_line::stop_at;
 use crate::faults::{ItemFault, TraceFault};
 use crate::members::has_member;
+use crate::message::Message;
 use crate::trace::Trace;
 use mx_cli::{Stop, split_line};
-use mx_plan::Plan;
+use mx_plan::{Names, Plan};
 use mx_stamps::MAX_EVENTS;
 use serde_json::Value;
 use std::alloc::{AllocError, Global};
@@ -128,7 +129,8 @@ fn read_items(alloc: Global, items: &[Value], plan: &Plan) -> Result<Trace, Trac
     let mut trace = Trace::new(alloc);
     for (index, value) in items.iter().enumerate() {
         let number = index as u64 + 1;
-        if let Err(fault) = add_item(&mut trace, number, item_in(alloc, plan, value)) {
+        let item = item_in(alloc, plan, &trace.names, value);
+        if let Err(fault) = add_item(alloc, &mut trace, number, item) {
             return Err(TraceFault::of_item(number, fault));
         }
     }
@@ -143,7 +145,8 @@ fn read_lines(alloc: Global, text: &[u8], plan: &Plan) -> Result<Trace, TraceFau
     let mut number = 1u64;
     'lines: loop {
         let (line, after) = split_line(rest);
-        if let Err(fault) = add_item(&mut trace, number, line_in(alloc, plan, line)) {
+        let item = line_in(alloc, plan, &trace.names, line);
+        if let Err(fault) = add_item(alloc, &mut trace, number, item) {
             return Err(TraceFault::of_line(number, fault));
         }
         if line.len() == rest.len() {
@@ -155,8 +158,13 @@ fn read_lines(alloc: Global, text: &[u8], plan: &Plan) -> Result<Trace, TraceFau
 }
 
 #[tactic(auto, unfolding(crate::specs::Traces::line_item))]
-fn line_in(alloc: Global, plan: &Plan, line: &[u8]) -> Result<Option<Item>, ItemFault>
-    ensures { AnswersItem (spec.line_item plan.now line.now) result }
+fn line_in(
+    alloc: Global,
+    plan: &Plan,
+    names: &Names,
+    line: &[u8],
+) -> Result<Option<Item>, ItemFault>
+    ensures { AnswersItem (spec.line_item plan.now line.now names.now) result }
 {
     if is_blank_line(line) {
         return Ok(None);
@@ -165,7 +173,7 @@ fn line_in(alloc: Global, plan: &Plan, line: &[u8]) -> Result<Option<Item>, Item
         return Err(ItemFault::Mark);
     }
     match parse(alloc, line) {
-        Ok(value) => item_in(alloc, plan, &value),
+        Ok(value) => item_in(alloc, plan, names, &value),
         Err(fault) => Err(fault),
     }
 }
@@ -185,6 +193,7 @@ fn parse(alloc: Global, text: &[u8]) -> Result<Value, ItemFault>
 
 /// Appends what a line or an item has, if it has something.
 fn add_item(
+    alloc: Global,
     trace: &mut Trace,
     number: u64,
     item: Result<Option<Item>, ItemFault>,
@@ -197,7 +206,20 @@ fn add_item(
         None => Ok(()),
         Some(Item::Event(_)) if trace.entries.len() >= MAX_EVENTS => Err(ItemFault::TooMany),
         Some(Item::Event(entry)) => Ok(trace.push(number, entry)?),
-        Some(Item::Message(_)) if trace.entries.is_empty() => Err(ItemFault::NoSender),
-        Some(Item::Message(message)) => Ok(trace.send(message)?),
+        Some(Item::Message(message)) => add_message(alloc, trace, message),
+    }
+}
+
+fn add_message(alloc: Global, trace: &mut Trace, message: Message) -> Result<(), ItemFault>
+    ensures ok { OnOk result (spec.with_sent (listed trace.old) message ≡ Ok (listed trace.new)) }
+    ensures err { IfErr result (spec.RefusesItem (spec.with_sent (listed trace.old) message)) }
+{
+    if trace.entries.is_empty() {
+        return Err(ItemFault::NoSender);
+    }
+    if trace.send(alloc, message)? {
+        Ok(())
+    } else {
+        Err(ItemFault::SentBefore)
     }
 }

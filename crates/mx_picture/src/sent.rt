@@ -2,8 +2,8 @@
 
 use crate::labels::Side;
 use crate::letters::is_letter;
-use mx_format::{Letter, Style, add_parcel, name_of};
-use mx_judge::{Message, Trace};
+use mx_format::{Letter, Style, add_parcel};
+use mx_judge::Trace;
 use mx_member::Parcel;
 use mx_network::Cluster;
 use mx_nodelaws::Exclusion;
@@ -131,30 +131,8 @@ impl Drawable for Trace {
 
     fn add_text(&self, plan: &Plan, flight: u64, text: &mut String) -> Result<(), AllocError> {
         match self.messages.get(flight as usize) {
-            Some(message) => add_message(plan, message, text),
+            Some(message) => message.add_text(plan, text),
             None => Ok(()),
         }
     }
-}
-
-fn add_message(plan: &Plan, message: &Message, text: &mut String) -> Result<(), AllocError> {
-    let parts = &message.parts;
-    text.push_str(message.kind.as_str().trim_matches('"'))?;
-    if let Some(stamp) = parts.stamp {
-        write!(text, " {}.{}", stamp.number, name_of(plan, stamp.node))?;
-    }
-    let counts = [
-        ("", parts.number),
-        ("", parts.hop),
-        ("top ", parts.top),
-        ("grant ", parts.grant),
-        ("last ", parts.last),
-        ("", parts.upto),
-    ];
-    for (name, count) in counts {
-        if let Some(count) = count {
-            write!(text, " {name}{count}")?;
-        }
-    }
-    Ok(())
 }

@@ -19,7 +19,7 @@ mod values;
 
 pub use event_reader::read_events;
 pub use faults::{PlanFault, ShapeFault};
-pub use names::is_name;
+pub use names::{Names, is_name};
 pub use needs::Needs;
 pub use place::Place;
 pub use plan::Plan;

@@ -18,11 +18,11 @@ returns-in-Err c =
     let x = c.index-items-index.result in
     let fault = c.in-Err.fault in
     let wanted = rest view item list_fault items nothing 0 in
-    let found = refused (k + 1) t c.item_in.result (item (view x)) fault c.item_in.ensures c.in-Err.ensures.err in
-    let named = λ (e : ItemFault) (is : with_item (k + 1) t (item (view x)) ≡ Err e).
-    c.loop-index.invariant ∙ rest_err view item list_fault items t k x e c.loop-index-test.true (ap (λ v. with_item (k + 1) t (item (view v))) (sym c.index-items-index.is) ∙ is) in
+    let found = refused (k + 1) t c.item_in.result (item (view x) t.names) fault c.item_in.ensures c.in-Err.ensures.err in
+    let named = λ (e : ItemFault) (is : with_item (k + 1) t (item (view x) t.names) ≡ Err e).
+    c.loop-index.invariant ∙ rest_err view item list_fault items t k x e c.loop-index-test.true (ap (λ v. with_item (k + 1) t (item (view v) t.names)) (sym c.index-items-index.is) ∙ is) in
     subst (λ (f : TraceFault). GivesTrace wanted (Err f)) (sym c.of_item.ensures)
-    (gives_refused list_fault (k + 1) wanted (with_item (k + 1) t (item (view x))) fault refl named found)
+    (gives_refused list_fault (k + 1) wanted (with_item (k + 1) t (item (view x) t.names)) fault refl named found)
 
 pub loop-index-preserved : goal.loop-index-preserved
 loop-index-preserved c =
@@ -31,8 +31,8 @@ loop-index-preserved c =
     let k = c.loop-index.index in
     let x = c.index-items-index.result in
     let more = listed c.add_item.new.trace in
-    let read = added (k + 1) t more c.item_in.result (item_of c.args.plan.now (view c.index-items-index.result)) c.item_in.ensures c.in_default.ensures.ok in
-    let is = ap (λ v. with_item (k + 1) t (item (view v))) (sym c.index-items-index.is) ∙ read in
+    let read = added (k + 1) t more c.item_in.result (item_of c.args.plan.now (view c.index-items-index.result) t.names) c.item_in.ensures c.in_default.ensures.ok in
+    let is = ap (λ v. with_item (k + 1) t (item (view v) t.names)) (sym c.index-items-index.is) ∙ read in
     c.loop-index.invariant ∙ rest_ok view item list_fault c.args.items.now t more k x c.loop-index-test.true is
 
 pub returns : goal.returns
