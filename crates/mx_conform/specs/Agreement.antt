@@ -5,7 +5,7 @@ use Rattle.std.specs.Str.{bytes_eq}
 use Rattle.mx_stamps.specs.declared.stamp.Stamp.{Stamp}
 use Rattle.mx_stamps.specs.Stamp.{is_same_as}
 use Rattle.mx_trace.specs.declared.outcome.Outcome.{Outcome}
-use Rattle.mx_trace.specs.declared.outcome.Outcome.TheVariants.{Asked, Entered, Left, Refused}
+use Rattle.mx_trace.specs.declared.outcome.Outcome.TheVariants.{Asked, Entered, Left, Cancelled, Sent, Delivered, Woken, Refused}
 use Rattle.mx_member.specs.declared.parcel.Parcel.{Parcel}
 use Rattle.mx_member.specs.declared.parcel.Parcel.TheVariants.{Guard}
 use Rattle.mx_plan.specs.Text.{Text}
@@ -64,12 +64,15 @@ is_shown_by parts message (from, to, Guard letter) =
     nat_eq from message.from && nat_eq to message.to && is_letter_of (parts letter) message
 is_shown_by parts message (from, to, parcel) = false
 
--- the outcome is the one that is told, of the same event. A request with the number 0 tells none
+-- the outcome is the one that is told, of an event that is not passed over. A request with the number
+-- 0 tells none
 abbrev pub is_told : Outcome → Outcome → Bool
 is_told (Refused cause) (Refused other) = true
-is_told (Refused cause) told = false
-is_told outcome (Refused cause) = false
+is_told Cancelled Cancelled = true
+is_told (Sent count) (Sent told) = true
+is_told Delivered Delivered = true
+is_told Woken Woken = true
 is_told (Asked stamp) (Asked told) = nat_eq told.number 0 || nat_eq stamp.number told.number
 is_told (Entered n) (Entered told) = nat_eq n told
 is_told (Left receipt) (Left told) = nat_eq receipt.number told.number
-is_told outcome told = true
+is_told outcome told = false

@@ -25,9 +25,9 @@ abbrev pub event_at : Fields → List Entry → ℕ → Text
 event_at p entries k = option_map_or (λ (e : Entry). event_text p e.event) (slice_get entries k) []
 
 abbrev pub conform_start : Option ℕ → Text
-conform_start None = word_start (codes "conformance") (codes "conforms")
+conform_start None = word_start (codes "verdict") (codes "conforms")
 conform_start (Some k) =
-    word_start (codes "conformance") (codes "departs") ++ number_member (codes "index") k
+    word_start (codes "verdict") (codes "departs") ++ number_member (codes "index") k
 
 module _ (word : Text) (t : ReadTrace) where
   -- the line or the item of the event that departs

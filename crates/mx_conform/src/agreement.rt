@@ -99,13 +99,16 @@ pub(crate) fn is_told(outcome: &Outcome, told: &Outcome) -> bool
     ensures { result ≡ spec.is_told outcome.now told.now }
 {
     match (outcome, told) {
-        (Outcome::Refused(_), Outcome::Refused(_)) => true,
-        (Outcome::Refused(_), _) | (_, Outcome::Refused(_)) => false,
+        (Outcome::Refused(_), Outcome::Refused(_))
+        | (Outcome::Cancelled, Outcome::Cancelled)
+        | (Outcome::Sent(_), Outcome::Sent(_))
+        | (Outcome::Delivered, Outcome::Delivered)
+        | (Outcome::Woken, Outcome::Woken) => true,
         (Outcome::Asked(stamp), Outcome::Asked(other)) => {
             other.number == 0 || stamp.number == other.number
         }
         (Outcome::Entered(number), Outcome::Entered(other)) => number == other,
         (Outcome::Left(receipt), Outcome::Left(other)) => receipt.number == other.number,
-        _ => true,
+        _ => false,
     }
 }

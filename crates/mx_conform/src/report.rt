@@ -118,9 +118,9 @@ impl Report<'_> {
             ≡ string_bytes text.old ++ spec.conform_start self.now.departure) }
     {
         match self.departure {
-            None => start_word("conformance", "conforms", text),
+            None => start_word("verdict", "conforms", text),
             Some(index) => {
-                start_word("conformance", "departs", text)?;
+                start_word("verdict", "departs", text)?;
                 add_number("index", index, text)
             }
         }
