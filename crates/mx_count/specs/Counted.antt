@@ -9,7 +9,7 @@ use Rattle.mx_trace.specs.declared.outcome.Entry.{Entry}
 use Rattle.mx_explorer.specs.declared.verdict.Verdict.TheVariants.{Sound}
 use Rattle.mx_plan.specs.Text.{Text}
 use Rattle.mx_plan.specs.Fields.{Fields}
-use Rattle.mx_driver.specs.VerdictLines.{verdict_text}
+use Rattle.mx_explorer.specs.VerdictLines.{verdict_text}
 use Rattle.mx_count.specs.Kinds.{is_in, is_kind, is_refused_for}
 use Rattle.mx_count.specs.Lines.{rows_lines}
 use Rattle.mx_count.specs.Measures.{measured}
