@@ -3,17 +3,18 @@ use Rattle.std.specs.Prelude.{ℕ, ◌++◌, Bool, List, [], ◌∷◌, codes, l
 use Rattle.std.specs.List.{count_by}
 use Rattle.mx_member.specs.declared.parcel.Parcel.{Parcel}
 use Rattle.mx_network.specs.Step.{ClusterState}
-use Rattle.mx_trace.specs.Causes.{cause_words}
+use Rattle.mx_trace.specs.Causes.{cause_words, causes}
+use Rattle.mx_trace.specs.Trace.{is_entry}
 use Rattle.mx_trace.specs.declared.cause.Cause.{Cause}
 use Rattle.mx_trace.specs.declared.outcome.Entry.{Entry}
 use Rattle.mx_explorer.specs.declared.verdict.Verdict.TheVariants.{Sound}
 use Rattle.mx_plan.specs.Text.{Text}
 use Rattle.mx_plan.specs.Fields.{Fields}
-use Rattle.mx_driver.specs.VerdictLines.{verdict_text}
+use Rattle.mx_explorer.specs.VerdictLines.{verdict_text}
 use Rattle.mx_count.specs.Kinds.{is_in, is_kind, is_refused_for}
 use Rattle.mx_count.specs.Lines.{rows_lines}
 use Rattle.mx_count.specs.Measures.{measured}
-use Rattle.mx_count.specs.NodeCounts.{is_entry, node_rows}
+use Rattle.mx_count.specs.NodeCounts.{node_rows}
 use Rattle.mx_count.specs.Objects.{rows_objects}
 use Rattle.mx_count.specs.Rows.{Row, share_of, spread_of}
 use Rattle.mx_count.specs.Waits.{is_refusal, longest_wait}
@@ -21,7 +22,6 @@ use Rattle.mx_count.specs.declared.counted_run.EventSource.{EventSource}
 use Rattle.mx_count.specs.declared.counted_run.EventSource.TheVariants.{Given, Drawn}
 use Rattle.mx_count.specs.declared.counted_run.Options.{Options}
 use Rattle.mx_count.specs.declared.kinds.Group.TheVariants as group
-use Rattle.mx_count.specs.declared.kinds.TheConstants.{CAUSES}
 use Rattle.mx_count.specs.declared.measures.Measure.TheVariants.{Response, Delay}
 use Rattle.mx_count.specs.declared.rows.Level.{Level}
 use Rattle.mx_count.specs.declared.rows.Level.TheVariants.{First, Total, Part, Kind, Next}
@@ -64,7 +64,7 @@ cause_row trace cause =
 abbrev pub refusal_rows : List Entry → List Row
 refusal_rows trace =
     counted Total (codes "refused") (λ entry. is_refusal entry.outcome) trace
-    ∷ map (cause_row trace) CAUSES
+    ∷ map (cause_row trace) causes
 
 abbrev pub time_rows : {M : Type 0} → List (ℕ × ℕ × Parcel M) → List Entry → List Row
 time_rows sent trace =

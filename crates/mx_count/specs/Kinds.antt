@@ -3,8 +3,8 @@ use Rattle.std.specs.Prelude.{ℕ, ◌&&◌, Bool, true, false, not, nat_eq}
 use Rattle.std.specs.Str.{bytes_eq}
 use Rattle.mx_member.specs.declared.parcel.Parcel.{Parcel}
 use Rattle.mx_member.specs.declared.parcel.Parcel.TheVariants as parcel
+use Rattle.mx_trace.specs.Causes.{cause_words}
 use Rattle.mx_trace.specs.declared.cause.Cause.{Cause}
-use Rattle.mx_trace.specs.declared.cause.Cause.TheVariants.{NotIdle, StampsSpent, NotWaiting, NotGranted, NumbersSpent, NotInside, NoRegister, Gap, Full, Below}
 use Rattle.mx_trace.specs.declared.outcome.Outcome.{Outcome}
 use Rattle.mx_trace.specs.declared.outcome.Outcome.TheVariants.{Refused}
 use Rattle.mx_plan.specs.Text.{Text}
@@ -53,20 +53,7 @@ is_in kind_text Base x = is_base x.2
 is_in kind_text Records x = is_records x.2
 is_in kind_text (SentBy node) x = nat_eq x.0 node
 
--- the place of a cause among all causes, whatever its number
-abbrev pub place_of : Cause → ℕ
-place_of NotIdle = 0
-place_of StampsSpent = 1
-place_of NotWaiting = 2
-place_of NotGranted = 3
-place_of NumbersSpent = 4
-place_of NotInside = 5
-place_of NoRegister = 6
-place_of (Gap n) = 7
-place_of Full = 8
-place_of (Below n) = 9
-
--- the outcome is a refusal for this cause
+-- the outcome is a refusal for this cause, whatever its number
 abbrev pub is_refused_for : Cause → Outcome → Bool
-is_refused_for cause (Refused other) = nat_eq (place_of other) (place_of cause)
+is_refused_for cause (Refused other) = bytes_eq (cause_words other) (cause_words cause)
 is_refused_for cause _ = false

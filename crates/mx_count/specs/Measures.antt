@@ -4,13 +4,14 @@ use Rattle.std.specs.List.{count_by}
 use Rattle.std.specs.Option.{option_map_or}
 use Rattle.mx_events.specs.declared.event.Event.{Event}
 use Rattle.mx_events.specs.declared.event.Event.TheVariants.{Deliver, Leave}
+use Rattle.mx_trace.specs.Trace.{is_entry}
 use Rattle.mx_trace.specs.declared.outcome.Entry.{Entry}
 use Rattle.mx_trace.specs.declared.outcome.Outcome.{Outcome}
 use Rattle.mx_trace.specs.declared.outcome.Outcome.TheVariants.{Asked, Left}
 use Rattle.mx_member.specs.declared.parcel.Parcel.{Parcel}
 use Rattle.mx_count.specs.Kinds.{is_between}
 use Rattle.mx_count.specs.Waits.{ends_wait}
-use Rattle.mx_count.specs.NodeCounts.{is_entry, is_entry_of}
+use Rattle.mx_count.specs.NodeCounts.{is_entry_of}
 use Rattle.mx_count.specs.declared.measures.Measure.{Measure}
 use Rattle.mx_count.specs.declared.measures.Measure.TheVariants.{Response, Delay}
 

@@ -4,23 +4,14 @@ use Rattle.std.specs.List.{count_by, flat_map, range_with_len}
 use Rattle.mx_events.specs.Events.{node_of}
 use Rattle.mx_events.specs.declared.event.Event.{Event}
 use Rattle.mx_events.specs.declared.event.Event.TheVariants.{Deliver}
+use Rattle.mx_trace.specs.Trace.{is_entry}
 use Rattle.mx_trace.specs.declared.outcome.Entry.{Entry}
-use Rattle.mx_trace.specs.declared.outcome.Outcome.{Outcome}
-use Rattle.mx_trace.specs.declared.outcome.Outcome.TheVariants.{Entered}
 use Rattle.mx_member.specs.declared.parcel.Parcel.{Parcel}
 use Rattle.mx_network.specs.Step.{ClusterState}
 use Rattle.mx_count.specs.Rows.{Row}
 use Rattle.mx_count.specs.Waits.{is_refusal}
 use Rattle.mx_count.specs.declared.rows.Level.TheVariants.{Node, Next}
 use Rattle.mx_count.specs.declared.rows.Value.TheVariants.{Number}
-
-abbrev pub is_entered : Outcome → Bool
-is_entered (Entered n) = true
-is_entered _ = false
-
--- a node enters with this item of the trace
-abbrev pub is_entry : Entry → Bool
-is_entry entry = is_entered entry.outcome
 
 abbrev pub is_node : ℕ → Option ℕ → Bool
 is_node i None = false

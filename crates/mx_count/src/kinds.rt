@@ -2,7 +2,7 @@
 
 ghost use Rattle.std.specs.Prelude.{◌≡◌};
 ghost use Rattle.mx_format.specs.Parts.{word_by};
-ghost use Rattle.mx_count.specs.Kinds.{is_between, is_gossip, is_in, is_kind, is_own, is_refused_for, place_of};
+ghost use Rattle.mx_count.specs.Kinds.{is_between, is_gossip, is_in, is_kind, is_own, is_refused_for};
 
 use mx_format::Letter;
 use mx_member::{Parcel, SentParcel};
@@ -75,42 +75,12 @@ fn is_gossip<M>(parcel: &Parcel<M>) -> bool
     !matches!(parcel, Parcel::Guard(_))
 }
 
-pub(crate) const CAUSES: [Cause; 10] = [
-    Cause::NotIdle,
-    Cause::StampsSpent,
-    Cause::NotWaiting,
-    Cause::NotGranted,
-    Cause::NumbersSpent,
-    Cause::NotInside,
-    Cause::NoRegister,
-    Cause::Gap(0),
-    Cause::Full,
-    Cause::Below(0),
-];
-
 /// Whether the event was refused for this cause, whatever its number.
 pub(crate) fn is_refused_for(cause: &Cause, entry: &Entry) -> bool
     ensures { result ≡ is_refused_for cause.now entry.now.outcome }
 {
     match &entry.outcome {
-        Outcome::Refused(other) => place_of(other) == place_of(cause),
+        Outcome::Refused(other) => other.words() == cause.words(),
         _ => false,
-    }
-}
-
-fn place_of(cause: &Cause) -> u8
-    ensures { result ≡ place_of cause.now }
-{
-    match cause {
-        Cause::NotIdle => 0,
-        Cause::StampsSpent => 1,
-        Cause::NotWaiting => 2,
-        Cause::NotGranted => 3,
-        Cause::NumbersSpent => 4,
-        Cause::NotInside => 5,
-        Cause::NoRegister => 6,
-        Cause::Gap(_) => 7,
-        Cause::Full => 8,
-        Cause::Below(_) => 9,
     }
 }

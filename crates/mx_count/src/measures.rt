@@ -2,12 +2,12 @@
 
 ghost use Rattle.std.specs.Prelude.{◌≡◌, ◌<◌, ◌≤◌, ◌++◌, ◌+◌, IfOk, IfSome, OnOk, length, position, slice_get, take};
 ghost use Rattle.std.specs.Option.{option_map_or};
-ghost use Rattle.mx_count.specs.NodeCounts.{is_entry};
+ghost use Rattle.mx_trace.specs.Trace.{is_entry};
 ghost use Rattle.mx_count.specs.Waits.{ends_wait};
 ghost use Rattle.mx_count.specs.Measures.{delay_end, delay_from, delivers_letter, end_from, is_letter, letters_in, letters_until, measured, response_end, response_from};
 
 use crate::kinds::is_between;
-use crate::node_rows::{is_entry, is_entry_of};
+use crate::node_rows::is_entry_of;
 use crate::waits::end_in;
 use mx_network::{Cluster, Entry, Event, Outcome};
 use mx_nodelaws::Exclusion;
@@ -121,7 +121,7 @@ fn response_end(node: NodeId, rest: &[Entry]) -> Option<usize>
     let Some(end) = end_in(node, rest) else {
         return None;
     };
-    if is_entry(&rest[end]) {
+    if rest[end].is_entry() {
         Some(end)
     } else {
         None
@@ -146,5 +146,5 @@ fn next_entry(rest: &[Entry]) -> Option<usize>
     ensures value { result ≡ position is_entry rest.now }
     ensures within { IfSome result (λ index. index < length rest.now) }
 {
-    rest.iter().position(|entry| is_entry(entry))
+    rest.iter().position(|entry| entry.is_entry())
 }

@@ -2,7 +2,8 @@
 
 ghost use Rattle.std.specs.Prelude.{◌≡◌, ◌++◌, OnOk, length, slice_get};
 ghost use Rattle.std.specs.List.{count_by};
-ghost use Rattle.mx_count.specs.NodeCounts.{is_addressee, is_delivered_to, is_entry, is_entry_of, is_node, is_refusal_of, node_rows, rows_of_node};
+ghost use Rattle.mx_trace.specs.Trace.{is_entry};
+ghost use Rattle.mx_count.specs.NodeCounts.{is_addressee, is_delivered_to, is_entry_of, is_node, is_refusal_of, node_rows, rows_of_node};
 ghost use Rattle.mx_count.specs.Rows.{rows_of};
 
 use crate::kinds::Group;
@@ -10,7 +11,7 @@ use crate::parcel_rows::count_parcels;
 use crate::rows::{Level, Row, Value, add_row};
 use crate::waits::is_refusal;
 use mx_format::Letter;
-use mx_network::{Cluster, Entry, Event, Outcome};
+use mx_network::{Cluster, Entry, Event};
 use mx_nodelaws::Exclusion;
 use mx_plan::Plan;
 use mx_stamps::NodeId;
@@ -58,7 +59,7 @@ where
 pub(crate) fn entries_in(trace: &[Entry]) -> u64
     ensures { result ≡ count_by is_entry trace.now }
 {
-    trace.iter().filter(|entry| is_entry(entry)).count() as u64
+    trace.iter().filter(|entry| entry.is_entry()).count() as u64
 }
 
 fn entries_of(trace: &[Entry], node: NodeId) -> u64
@@ -90,17 +91,10 @@ fn refused_of(trace: &[Entry], node: NodeId) -> u64
         .count() as u64
 }
 
-/// Whether a node entered a section at this item of a trace.
-pub(crate) fn is_entry(entry: &Entry) -> bool
-    ensures { result ≡ is_entry entry.now }
-{
-    matches!(entry.outcome, Outcome::Entered(_))
-}
-
 pub(crate) fn is_entry_of(node: NodeId, entry: &Entry) -> bool
     ensures { result ≡ is_entry_of node entry.now }
 {
-    is_node(node, entry.event.node()) && is_entry(entry)
+    is_node(node, entry.event.node()) && entry.is_entry()
 }
 
 fn is_refusal_of(node: NodeId, entry: &Entry) -> bool

@@ -7,10 +7,10 @@ ghost use Rattle.mx_count.specs.Kinds.{is_refused_for};
 ghost use Rattle.mx_count.specs.Rows.{rows_of};
 ghost use Rattle.mx_count.specs.Waits.{is_refusal};
 
-use crate::kinds::{CAUSES, is_refused_for};
+use crate::kinds::is_refused_for;
 use crate::rows::{Level, Row, Value, add_row};
 use crate::waits::is_refusal;
-use mx_network::{Cause, Entry};
+use mx_trace::{CAUSES, Cause, Entry};
 use std::alloc::AllocError;
 
 /// Adds the rows of all refusals, and of those for each cause.

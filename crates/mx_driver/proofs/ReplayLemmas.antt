@@ -1,15 +1,12 @@
 -- What `replay` prints, from what its parts do.
-use Rattle.std.proofs.Common.{◌≡◌, ◌∙◌, ◌⊎◌, ◌++◌, List, Result, Ok, Err, ap, append_assoc, inl, inr, sym}
+use Rattle.std.proofs.Common.{◌≡◌, ◌∙◌, ◌⊎◌, List, Result, Ok, Err, ap, inl, inr, sym}
 use Rattle.mx_events.specs.declared.event.Event.{Event}
 use Rattle.mx_plan.specs.Text.{Text}
 use Rattle.mx_plan.specs.Fields.{Fields}
 use Rattle.mx_plan.specs.Events.{events_at}
 use Rattle.mx_plan.specs.declared.faults.PlanFault.{PlanFault}
 use Rattle.mx_plan.specs.declared.faults.PlanFault.TheVariants as plan_fault
-use Rattle.mx_explorer.specs.declared.verdict.Verdict.{Verdict}
-use Rattle.mx_explorer.specs.declared.verdict.Verdict.TheVariants.{Sound}
 use Rattle.mx_driver.specs.Jobs.{run_by, where_read}
-use Rattle.mx_driver.specs.VerdictLines.{verdict_line}
 use Rattle.mx_cli.specs.Printing.{IsReport, Prints, Report, Sight, stop_at}
 use Rattle.mx_cli.specs.declared.stop.Stop.{Stop}
 use Rattle.mx_cli.proofs.FrameLemmas.{text_prints}
@@ -24,8 +21,3 @@ module _ (p : Fields) (text : Text) where
   pub no_replay : (fault : PlanFault) (o : Sight) (s : Stop) → (events_at p text ≡ Err fault) ⊎ (fault ≡ plan_fault.Memory) → s ≡ stop_at fault → Prints (IsReplay p text) o o (Err s)
   no_replay fault o s (inl read) is = text_prints (IsReplay p text) o s fault (inl (ap (λ (t : Result (List Event) PlanFault). where_read t (run_by p p.shape)) (sym read))) is
   no_replay fault o s (inr out) is = text_prints (IsReplay p text) o s fault (inr out) is
-
--- a text, and then the line of a verdict that is sound
-pub with_verdict : (t t1 t2 a : Text) (v : Verdict) → v ≡ Sound → t1 ≡ t ++ a → t2 ≡ t1 ++ verdict_line v → t2 ≡ t ++ (a ++ verdict_line Sound)
-with_verdict t t1 t2 a v sound first second =
-    second ∙ ap (λ (x : Verdict). t1 ++ verdict_line x) sound ∙ ap (λ (x : Text). x ++ verdict_line Sound) first ∙ append_assoc t a (verdict_line Sound)

@@ -27,7 +27,7 @@ use Rattle.mx_format.specs.Parts.{Parts, maekawa_parts, raymond_parts, ricart_pa
 use Rattle.mx_cli.specs.declared.faults.Fault.{Fault}
 use Rattle.mx_cli.specs.declared.faults.Fault.TheVariants.{NoParcel}
 use Rattle.mx_cli.specs.Printing.{End, Report, has_fault, has_status}
-use Rattle.mx_driver.specs.VerdictLines.{verdict_text}
+use Rattle.mx_explorer.specs.VerdictLines.{verdict_text}
 use Rattle.mx_driver.specs.Runs.{at_rest, report_from, stepped}
 use Rattle.mx_driver.specs.Shown.{ShowsRunBy, new_lines, shown_closing, shown_entry, shown_from, shown_owner, shown_parcel, shown_step, shown_text, step_text, view_by, view_from, view_texts, where_shown}
 use Rattle.mx_driver.specs.declared.view.View.{View}

@@ -21,7 +21,7 @@ use Rattle.mx_format.specs.Lines.{texts_from}
 use Rattle.mx_format.specs.ParcelTexts.{parcel_lines}
 use Rattle.mx_explorer.specs.declared.verdict.Verdict.TheVariants.{Sound}
 use Rattle.mx_format.specs.NodeTexts.{node_lines}
-use Rattle.mx_driver.specs.VerdictLines.{verdict_line}
+use Rattle.mx_explorer.specs.VerdictLines.{verdict_line}
 
 -- these texts, and then those of a report
 abbrev pub after_texts : List Text → Report → Report

@@ -36,7 +36,7 @@ use Rattle.mx_cli.specs.Printing.{Report}
 use Rattle.mx_driver.specs.Runs.{Texts, at_rest, report_from}
 use Rattle.mx_driver.specs.Sinks.{TextsBy, report_by}
 use Rattle.mx_driver.specs.Standstill.{stuck_in}
-use Rattle.mx_driver.specs.VerdictLines.{verdict_text}
+use Rattle.mx_explorer.specs.VerdictLines.{verdict_text}
 use Rattle.mx_format.specs.EventJson.{event_json}
 use Rattle.mx_driver.specs.declared.view.View.{View}
 

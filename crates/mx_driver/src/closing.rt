@@ -8,9 +8,8 @@ ghost use Rattle.mx_driver.specs.Shown.{closing_with, shown_closing, shown_membe
 ghost use Rattle.mx_driver.specs.Standstill.{stuck_in};
 
 use crate::standstill::stuck_in;
-use crate::verdicts::add_verdict;
 use crate::view::View;
-use mx_explorer::{Verdict, judge};
+use mx_explorer::{Verdict, add_verdict, judge};
 use mx_format::{Waiter, add_facts_line, add_member_line, add_node_json, add_stuck};
 use mx_knowledge::Knowledge;
 use mx_member::Member;

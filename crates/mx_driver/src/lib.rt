@@ -8,7 +8,6 @@ mod plan_cluster;
 mod replays;
 mod sink;
 mod standstill;
-mod verdicts;
 mod view;
 mod view_sink;
 
@@ -19,5 +18,4 @@ pub use plan_cluster::start;
 pub use replays::{Replay, node_in};
 pub use sink::{Running, Sink, newest};
 pub use standstill::{is_ready, stuck_in, stuck_nodes};
-pub use verdicts::{VerdictLine, add_verdict, verdict_status};
 pub use view::{View, ends_as_replay, shows_run};

@@ -8,8 +8,8 @@ ghost use Rattle.mx_driver.specs.Sinks.{same};
 ghost use Rattle.mx_driver.specs.Shown.{shown_closing, shown_entry, shown_owner, shown_parcel, step_text, view_texts, where_shown};
 
 use crate::sink::{Sink, newest};
-use crate::verdicts::verdict_status;
 use crate::view::{View, owner_of};
+use mx_explorer::verdict_status;
 use mx_format::{EventLine, Letter, add_event_json, add_parcel_json, add_parcel_line};
 use mx_knowledge::Knowledge;
 use mx_member::SentParcel;

@@ -1,5 +1,5 @@
-//! Judges traces, and draws at random, from a seed, schedules of events and the fates of parcels
-//! (the weather).
+//! Judges traces, prints verdicts, and draws at random, from a seed, schedules of events and the
+//! fates of parcels (the weather).
 #![tactic(auto)]
 
 mod judgement;
@@ -7,6 +7,7 @@ mod ledger;
 mod places;
 mod schedules;
 mod verdict;
+mod verdict_lines;
 mod weather;
 
 pub use judgement::judge;
@@ -14,4 +15,5 @@ pub use ledger::{LastWrite, Ledger};
 pub use places::place;
 pub use schedules::{draw, draw_below, draw_node, schedule};
 pub use verdict::{Clause, Verdict};
+pub use verdict_lines::{VerdictLine, add_verdict, verdict_status};
 pub use weather::Weather;

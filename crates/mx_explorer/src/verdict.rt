@@ -1,3 +1,6 @@
+ghost use Rattle.std.specs.Prelude.{◌≡◌};
+ghost use Rattle.mx_explorer.specs.VerdictLines.{clause_word};
+
 /// A rule for traces that an item can break.
 #[derive(Clone, Copy, Debug, PartialEq, Eq)]
 pub enum Clause {
@@ -9,6 +12,19 @@ pub enum Clause {
     /// A node that was not inside read a value; or the value is not what the sections before and
     /// the node's own writes leave.
     Read,
+}
+
+impl Clause {
+    /// Returns the word of the clause in a verdict.
+    pub fn word(self) -> &'static str
+        ensures { result.now ≡ clause_word self }
+    {
+        match self {
+            Clause::Overlap => "overlap",
+            Clause::Number => "number",
+            Clause::Read => "read",
+        }
+    }
 }
 
 /// The verdict of a trace.

@@ -6,7 +6,7 @@ use Rattle.mx_trace.specs.declared.outcome.Entry.{Entry}
 pub use Rattle.mx_explorer.specs.Verdict.{IsVerdictOf}
 use Rattle.mx_explorer.specs.declared.verdict.Verdict.{Verdict}
 use Rattle.mx_explorer.specs.declared.verdict.Verdict.TheVariants.{Sound, Broken}
-use Rattle.mx_driver.specs.VerdictLines.{clause_text, verdict_line, verdict_status}
+use Rattle.mx_explorer.specs.VerdictLines.{clause_word, verdict_line, verdict_status}
 use Rattle.mx_cli.specs.Printing.{IsWhole, Report}
 use Rattle.mx_format.specs.Lines.{texts_from}
 use Rattle.mx_format.specs.Members.{number_member, word_member, word_start}
@@ -28,7 +28,7 @@ abbrev pub verdict_start : Verdict → Text
 verdict_start Sound = word_start (codes "verdict") (codes "sound")
 verdict_start (Broken k clause) =
     word_start (codes "verdict") (codes "broken") ++ number_member (codes "index") k
-    ++ word_member (codes "clause") (clause_text clause)
+    ++ word_member (codes "clause") (clause_word clause)
 
 abbrev pub counts_members : List Entry → Text
 counts_members trace =

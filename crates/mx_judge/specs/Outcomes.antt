@@ -1,5 +1,6 @@
 -- The outcome of an event in its object.
 use Rattle.std.specs.Prelude.{ℕ, Result, Ok, Err, codes, if◌then◌else◌}
+use Rattle.std.specs.Option.{option_map_or}
 use Rattle.std.specs.Str.{bytes_eq}
 use Rattle.serde_json.specs.Data.{Data}
 use Rattle.mx_plan.specs.Text.{Text}
@@ -9,8 +10,9 @@ use Rattle.mx_events.specs.declared.event.Event.TheVariants.{Ask, Enter, Read, W
 use Rattle.mx_events.specs.declared.kind.EventKind.{EventKind}
 use Rattle.mx_events.specs.declared.kind.EventKind.TheVariants as kind
 use Rattle.mx_journal.specs.Drafted.{fresh, receipt_of}
+use Rattle.mx_trace.specs.Causes.{cause_named}
 use Rattle.mx_trace.specs.declared.cause.Cause.{Cause}
-use Rattle.mx_trace.specs.declared.cause.Cause.TheVariants.{NotIdle, StampsSpent, NotWaiting, NotGranted, NumbersSpent, NotInside, NoRegister, Gap, Full, Below}
+use Rattle.mx_trace.specs.declared.cause.Cause.TheVariants.{Gap, Below}
 use Rattle.mx_trace.specs.declared.outcome.Outcome.{Outcome}
 use Rattle.mx_trace.specs.declared.outcome.Outcome.TheVariants.{Asked, Entered, Value, Written, Left, Cancelled, Settled, Sent, Delivered, Woken, Refused}
 use Rattle.mx_judge.specs.Members.{and_then, has_member, number_at, text_at}
@@ -54,24 +56,15 @@ done (Want i other) d = and_then (number_at member.Count d) (λ count. Ok (Sent 
 done (Deliver k) d = Ok Delivered
 done (Restart i) d = Ok Woken
 
--- the cause that these words name. `gap` and `below` have a number too
-abbrev pub cause_named : Data → Text → Result Cause ItemFault
-cause_named d word =
-    if bytes_eq word (codes "not idle") then Ok NotIdle
-    else if bytes_eq word (codes "stamps spent") then Ok StampsSpent
-    else if bytes_eq word (codes "not waiting") then Ok NotWaiting
-    else if bytes_eq word (codes "not granted") then Ok NotGranted
-    else if bytes_eq word (codes "numbers spent") then Ok NumbersSpent
-    else if bytes_eq word (codes "not inside") then Ok NotInside
-    else if bytes_eq word (codes "no register") then Ok NoRegister
-    else if bytes_eq word (codes "gap") then and_then (number_at member.Number d) (λ n. Ok (Gap n))
-    else if bytes_eq word (codes "full") then Ok Full
-    else if bytes_eq word (codes "below")
-    then and_then (number_at member.Number d) (λ n. Ok (Below n))
-    else Err (Wrong member.Cause)
+-- the cause, a gap or a base with the object's `number`
+abbrev pub numbered : Data → Cause → Result Cause ItemFault
+numbered d (Gap _) = and_then (number_at member.Number d) (λ n. Ok (Gap n))
+numbered d (Below _) = and_then (number_at member.Number d) (λ n. Ok (Below n))
+numbered d cause = Ok cause
 
 abbrev pub cause_in : Data → Result Cause ItemFault
-cause_in d = cause_named d (text_at member.Cause d)
+cause_in d =
+    option_map_or (numbered d) (cause_named (text_at member.Cause d)) (Err (Wrong member.Cause))
 
 abbrev pub refusal : Data → Result Outcome ItemFault
 refusal d = and_then (cause_in d) (λ cause. Ok (Refused cause))

@@ -1,5 +1,5 @@
 -- Why an event breaks a rule, in words.
-use Rattle.std.specs.Prelude.{ℕ, suc, ◌++◌, Bool, true, false, List, [], Option, Some, None, codes, decimal, length, slice_get, take, if◌then◌else◌}
+use Rattle.std.specs.Prelude.{ℕ, suc, ◌++◌, List, [], Option, Some, None, codes, decimal, length, slice_get, take, if◌then◌else◌}
 use Rattle.std.specs.List.{count_by}
 use Rattle.std.specs.Option.{option_map_or}
 use Rattle.mx_events.specs.declared.event.Event.{Event}
@@ -8,7 +8,7 @@ use Rattle.mx_trace.specs.declared.outcome.Entry.{Entry}
 use Rattle.mx_trace.specs.declared.outcome.Outcome.{Outcome}
 use Rattle.mx_trace.specs.declared.outcome.Outcome.TheVariants.{Entered, Left, Value}
 use Rattle.mx_trace.specs.Sections.{Section}
-use Rattle.mx_trace.specs.Trace.{sections}
+use Rattle.mx_trace.specs.Trace.{is_entry, sections}
 use Rattle.mx_explorer.specs.Ledger.{holder, is_node, last_write}
 use Rattle.mx_explorer.specs.declared.ledger.LastWrite.{LastWrite}
 use Rattle.mx_explorer.specs.declared.verdict.Clause.{Clause}
@@ -18,14 +18,6 @@ use Rattle.mx_explorer.specs.declared.verdict.Verdict.TheVariants.{Sound, Broken
 use Rattle.mx_plan.specs.Text.{Text}
 use Rattle.mx_plan.specs.Fields.{Fields}
 use Rattle.mx_format.specs.EventTexts.{name_of, register_name_of}
-
--- a node enters a section with this event
-abbrev pub enters : Event → Outcome → Bool
-enters (Enter i) (Entered n) = true
-enters _ _ = false
-
-abbrev pub is_entry : Entry → Bool
-is_entry e = enters e.event e.outcome
 
 -- how many sections were entered
 abbrev pub entered_in : List Entry → ℕ

@@ -1,15 +1,13 @@
 //! What is printed of a trace and its verdict.
 
 ghost use Rattle.std.specs.Prelude.{◌≡◌, ◌++◌, IfOk, OnOk, string_bytes};
-ghost use Rattle.mx_driver.specs.VerdictLines.{clause_text};
 ghost use Rattle.mx_judge.specs.Listed.{listed};
 ghost use Rattle.mx_judge.specs.Judged as spec;
 
 use crate::entry_json::add_entries;
 use crate::reasons::{entered_in, reason_for};
 use crate::trace::Trace;
-use mx_driver::VerdictLine;
-use mx_explorer::{Clause, Verdict};
+use mx_explorer::{Verdict, VerdictLine};
 use mx_format::json::{add_number, add_word, start_word};
 use mx_plan::Plan;
 use mx_trace::Entry;
@@ -145,19 +143,8 @@ fn start_verdict(verdict: Verdict, text: &mut String) -> Result<(), AllocError>
         Verdict::Broken(index, clause) => {
             start_word("verdict", "broken", text)?;
             add_number("index", index, text)?;
-            add_word("clause", clause_word(clause), text)
+            add_word("clause", clause.word(), text)
         }
-    }
-}
-
-/// Returns the word of a clause in a verdict.
-pub fn clause_word(clause: Clause) -> &'static str
-    ensures { result.now ≡ clause_text clause }
-{
-    match clause {
-        Clause::Overlap => "overlap",
-        Clause::Number => "number",
-        Clause::Read => "read",
     }
 }
 

@@ -13,20 +13,6 @@ use mx_stamps::{NodeId, Stamp};
 use mx_trace::{Boxed, Cause, Outcome};
 use serde_json::Value;
 
-/// The causes of a refusal, in words.
-pub(crate) const CAUSES: [&str; 10] = [
-    "not idle",
-    "stamps spent",
-    "not waiting",
-    "not granted",
-    "numbers spent",
-    "not inside",
-    "no register",
-    "gap",
-    "full",
-    "below",
-];
-
 /// Reads the outcome of an event. The receipt of an exit goes into the box `room`.
 pub(crate) fn outcome_in(
     event: &Event,
@@ -107,17 +93,10 @@ fn left(node: NodeId, value: &Value, mut room: Boxed<Receipt>) -> Result<Outcome
 fn cause_in(value: &Value) -> Result<Cause, ItemFault>
     ensures { result ≡ spec.cause_in (view value.now) }
 {
-    match text_at(value, Member::Cause) {
-        "not idle" => Ok(Cause::NotIdle),
-        "stamps spent" => Ok(Cause::StampsSpent),
-        "not waiting" => Ok(Cause::NotWaiting),
-        "not granted" => Ok(Cause::NotGranted),
-        "numbers spent" => Ok(Cause::NumbersSpent),
-        "not inside" => Ok(Cause::NotInside),
-        "no register" => Ok(Cause::NoRegister),
-        "gap" => Ok(Cause::Gap(number_at(value, Member::Number)?)),
-        "full" => Ok(Cause::Full),
-        "below" => Ok(Cause::Below(number_at(value, Member::Number)?)),
-        _ => Err(ItemFault::Wrong(Member::Cause)),
+    match Cause::of_words(text_at(value, Member::Cause)) {
+        Some(Cause::Gap(_)) => Ok(Cause::Gap(number_at(value, Member::Number)?)),
+        Some(Cause::Below(_)) => Ok(Cause::Below(number_at(value, Member::Number)?)),
+        Some(cause) => Ok(cause),
+        None => Err(ItemFault::Wrong(Member::Cause)),
     }
 }

@@ -64,16 +64,7 @@ pub(crate) fn entered_in(entries: &[Entry]) -> u64
     ensures value { result ≡ spec.entered_in entries.now }
     ensures few { result ≤ length entries.now }
 {
-    entries.iter().filter(|entry| is_entry(entry)).count() as u64
-}
-
-fn is_entry(entry: &Entry) -> bool
-    ensures { result ≡ spec.is_entry entry.now }
-{
-    match (&entry.event, &entry.outcome) {
-        (Event::Enter(_), Outcome::Entered(_)) => true,
-        _ => false,
-    }
+    entries.iter().filter(|entry| entry.is_entry()).count() as u64
 }
 
 fn add_wrong_number(

@@ -6,11 +6,12 @@ ghost use Rattle.mx_judge.specs.Faults.{IsMessageOf};
 
 use crate::faults::TraceFault;
 use crate::members::Member;
-use crate::outcome_reader::{CAUSES, word_of_done};
+use crate::outcome_reader::word_of_done;
 use json::{Error, Scratch, Value};
 use mx_events::EventKind;
 use mx_lines::{FirstWords, KnownNames, Listed, Nearest, Quoted, add_escaped_text, nearest};
 use mx_plan::Plan;
+use mx_trace::CAUSES;
 use std::alloc::{AllocError, Global};
 use std::fmt;
 use std::fmt::Display;
@@ -128,7 +129,7 @@ fn known_words<'w>(
 }
 
 fn cause_words(alloc: Global) -> Result<Vec<&'static str>, AllocError> {
-    Vec::from_slice(alloc, &CAUSES)
+    CAUSES.iter().map(|cause| cause.words()).collect(alloc)
 }
 
 /// Returns the outcomes that the event of an object may have.

@@ -7,7 +7,7 @@ use Rattle.mx_events.specs.declared.event.Event.{Event}
 use Rattle.mx_explorer.specs.declared.verdict.Clause.{Clause}
 use Rattle.mx_explorer.specs.declared.verdict.Verdict.{Verdict}
 use Rattle.mx_explorer.specs.declared.verdict.Verdict.TheVariants.{Sound, Broken}
-use Rattle.mx_driver.specs.VerdictLines.{clause_text}
+use Rattle.mx_explorer.specs.VerdictLines.{clause_word}
 use Rattle.mx_judge.specs.Listed.{ReadTrace, place_of}
 use Rattle.mx_judge.specs.Reasons.{reason_at}
 use Rattle.mx_picture.specs.declared.marked.Marked.{Marked}
@@ -55,7 +55,7 @@ why_of clause word place reason =
     clause ++ codes ", " ++ word ++ codes " " ++ decimal place ++ codes ": " ++ reason
 
 abbrev pub why_text : Clause → Text → ℕ → Text → Text
-why_text clause = why_of (clause_text clause)
+why_text clause = why_of (clause_word clause)
 
 -- the mark of a trace with this verdict: the first event that breaks a rule
 abbrev pub marked_by : Fields → Text → ReadTrace → Verdict → Option EventMark

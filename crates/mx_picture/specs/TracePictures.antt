@@ -3,7 +3,7 @@ use Rattle.std.specs.Prelude.{ℕ, Option, None, Some, MatchResult, false}
 use Rattle.mx_plan.specs.Text.{Text}
 use Rattle.mx_plan.specs.Fields.{Fields}
 use Rattle.mx_explorer.specs.declared.verdict.Verdict.{Verdict}
-use Rattle.mx_driver.specs.VerdictLines.{verdict_status}
+use Rattle.mx_explorer.specs.VerdictLines.{verdict_status}
 use Rattle.mx_cli.specs.Printing.{IsWhole, Report}
 use Rattle.mx_cli.specs.Requests.{Part}
 use Rattle.mx_driver.specs.Viewed.{node_in}

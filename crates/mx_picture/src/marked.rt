@@ -6,7 +6,7 @@ ghost use Rattle.mx_judge.specs.Listed.{listed};
 ghost use Rattle.mx_picture.specs.Marks.{mark_of, marked_by, why_at, why_of, why_text};
 
 use mx_explorer::{Clause, Verdict};
-use mx_judge::{Trace, clause_word, reason_for};
+use mx_judge::{Trace, reason_for};
 use mx_plan::Plan;
 use std::alloc::{AllocError, Global};
 
@@ -64,7 +64,7 @@ fn why_text(
         string_bytes text ≡ why_text clause word.now place reason.now) }
 {
     let mut text = String::new(alloc);
-    add_why(clause_word(clause), word, place, reason, &mut text)?;
+    add_why(clause.word(), word, place, reason, &mut text)?;
     Ok(text)
 }
 

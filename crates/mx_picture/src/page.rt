@@ -13,7 +13,6 @@ use crate::sheet::Sheet;
 use crate::text::width_of;
 use mx_explorer::Verdict;
 use mx_format::name_of;
-use mx_judge::clause_word;
 use mx_plan::Plan;
 use std::alloc::AllocError;
 
@@ -155,7 +154,7 @@ fn heading_of(rows: &PictureRows<'_>, title: &Title<'_>) -> Result<String, Alloc
         Title::Run(_) => (),
         Title::Trace(_, Verdict::Sound) => text.push_str(", verdict sound")?,
         Title::Trace(_, Verdict::Broken(index, clause)) => {
-            let word = clause_word(*clause);
+            let word = clause.word();
             write!(text, ", verdict broken at {index}: {word}")?
         }
     }

@@ -6,7 +6,8 @@ ghost use Rattle.mx_driver.specs.Runs.{closing_text};
 ghost use Rattle.mx_scripts.specs.Files.{file_text};
 ghost use Rattle.mx_scripts.specs.Played.{events_of};
 
-use mx_driver::{View, verdict_status};
+use mx_driver::View;
+use mx_explorer::verdict_status;
 use mx_format::Letter;
 use mx_knowledge::Knowledge;
 use mx_nodelaws::Exclusion;

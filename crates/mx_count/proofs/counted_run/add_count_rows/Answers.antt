@@ -1,10 +1,11 @@
 use Rattle.std.proofs.Common.{◌≡◌, ◌∙◌, ◌++◌, [], ◌∷◌, List, ap, ap₂, arith, codes, length}
 use Rattle.std.specs.List.{count_by}
+use Rattle.mx_trace.specs.Trace.{is_entry}
 use Rattle.mx_trace.specs.declared.outcome.Entry.{Entry}
 use Rattle.mx_format.specs.Parts.{word_by}
 use Rattle.mx_count.specs.Counted.{parcel_rows, refusal_rows, time_rows}
 use Rattle.mx_count.specs.Kinds.{is_in}
-use Rattle.mx_count.specs.NodeCounts.{is_entry, node_rows}
+use Rattle.mx_count.specs.NodeCounts.{node_rows}
 use Rattle.mx_count.specs.Rows.{Row, rows_of, share_of}
 use Rattle.mx_count.specs.declared.kinds.Group.TheVariants.{Letters}
 use Rattle.mx_count.specs.declared.rows.Level.TheVariants.{Total}

@@ -2,7 +2,7 @@ use Rattle.std.proofs.Common.{◌≡◌, ◌∙◌, ◌++◌, List, ap, arith, s
 use Rattle.mx_explorer.specs.declared.verdict.Verdict.{Verdict}
 use Rattle.mx_explorer.specs.declared.verdict.Verdict.TheVariants.{Sound}
 use Rattle.mx_format.specs.Parts.{word_by}
-use Rattle.mx_driver.specs.VerdictLines.{verdict_status, verdict_text}
+use Rattle.mx_explorer.specs.VerdictLines.{verdict_status, verdict_text}
 use Rattle.mx_count.specs.Counted.{rows_in, rows_text}
 use Rattle.mx_count.specs.Rows.{Row, rows_of}
 use Rattle.mx_count.proofs.RowLemmas.{joined}

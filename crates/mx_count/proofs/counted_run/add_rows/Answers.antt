@@ -1,9 +1,9 @@
 use Rattle.std.proofs.Common.{◌∙◌, ◌++◌, ℕ, List, [], ap, ap₂, arith, if◌then◌else◌, length}
 use Rattle.std.specs.List.{count_by}
+use Rattle.mx_trace.specs.Trace.{is_entry}
 use Rattle.mx_trace.specs.declared.outcome.Entry.{Entry}
 use Rattle.mx_format.specs.Parts.{word_by}
 use Rattle.mx_count.specs.Counted.{count_rows, head_rows}
-use Rattle.mx_count.specs.NodeCounts.{is_entry}
 use Rattle.mx_count.specs.Rows.{rows_of}
 use Rattle.mx_count.proofs.RowLemmas.{joined_ok}
 use Rattle.mx_count.proofs.counted_run.add_rows.Goals as goal

@@ -8,5 +8,5 @@ returns c =
     let word = c.args.word.now in
     let place = c.args.place in
     let reason = c.args.reason.now in
-    c.in_ok-add_why.ensures ∙ ap (λ (s : Text). s ++ why_of c.clause_word.result.now word place reason) c.new-text.ensures.bytes
-    ∙ ap (λ (clause : Text). why_of clause word place reason) c.clause_word.ensures
+    c.in_ok-add_why.ensures ∙ ap (λ (s : Text). s ++ why_of c.word.result.now word place reason) c.new-text.ensures.bytes
+    ∙ ap (λ (clause : Text). why_of clause word place reason) c.word.ensures

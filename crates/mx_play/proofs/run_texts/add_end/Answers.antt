@@ -2,7 +2,7 @@ use Rattle.std.proofs.Common.{◌∙◌, ◌++◌, ap, arith, length, rules, str
 use Rattle.mx_format.specs.LetterTexts.{letter_text}
 use Rattle.mx_network.specs.Step.{ClusterState}
 use Rattle.mx_driver.specs.Runs.{closing_text}
-use Rattle.mx_driver.specs.VerdictLines.{verdict_status}
+use Rattle.mx_explorer.specs.VerdictLines.{verdict_status}
 use Rattle.mx_play.proofs.run_texts.add_end.Goals as goal
 
 pub add_closing-requires : goal.add_closing-requires

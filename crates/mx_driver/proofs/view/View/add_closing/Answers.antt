@@ -4,7 +4,7 @@ use Rattle.mx_explorer.specs.declared.verdict.Verdict.TheVariants.{Sound}
 use Rattle.mx_format.specs.Lines.{texts_from}
 use Rattle.mx_format.specs.StuckTexts.{WaiterState}
 use Rattle.mx_driver.specs.Shown.{shown_member, shown_waiters}
-use Rattle.mx_driver.specs.VerdictLines.{verdict_text}
+use Rattle.mx_explorer.specs.VerdictLines.{verdict_text}
 use Rattle.mx_driver.proofs.view.View.add_closing.Goals as goal
 
 pub returns-clause-text : goal.returns-clause-text

@@ -1,9 +1,9 @@
 //! The line of a verdict, its object of JSON, and its status.
 
 ghost use Rattle.std.specs.Prelude.{◌≡◌, ◌++◌, OnOk, Some, string_bytes};
-ghost use Rattle.mx_driver.specs.VerdictLines.{broken_json, clause_text, verdict_json, verdict_line, verdict_status, verdict_text};
+ghost use Rattle.mx_explorer.specs.VerdictLines.{broken_json, verdict_json, verdict_line, verdict_status, verdict_text};
 
-use mx_explorer::{Clause, Verdict};
+use crate::verdict::Verdict;
 use std::alloc::AllocError;
 use std::fmt;
 
@@ -18,7 +18,7 @@ impl fmt::Display for VerdictLine {
         match self.0 {
             Verdict::Sound => writeln!(f, "verdict sound"),
             Verdict::Broken(index, clause) => {
-                writeln!(f, "verdict broken at {index}: {}", name_of(clause))
+                writeln!(f, "verdict broken at {index}: {}", clause.word())
             }
         }
     }
@@ -40,7 +40,7 @@ fn add_verdict_json(verdict: Verdict, text: &mut String) -> Result<(), AllocErro
 {
     match verdict {
         Verdict::Sound => text.push_str("{\"verdict\":\"sound\"}\n"),
-        Verdict::Broken(index, clause) => add_broken_json(index, name_of(clause), text),
+        Verdict::Broken(index, clause) => add_broken_json(index, clause.word(), text),
     }
 }
 
@@ -52,16 +52,6 @@ fn add_broken_json(index: u64, clause: &str, text: &mut String) -> Result<(), Al
         text,
         "{{\"verdict\":\"broken\",\"index\":{index},\"clause\":\"{clause}\"}}\n"
     )
-}
-
-fn name_of(clause: Clause) -> &'static str
-    ensures { result.now ≡ clause_text clause }
-{
-    match clause {
-        Clause::Overlap => "overlap",
-        Clause::Number => "number",
-        Clause::Read => "read",
-    }
 }
 
 /// Returns the exit status for a verdict: 0 if the trace is sound, 4 if it is broken.

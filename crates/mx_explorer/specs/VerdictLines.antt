@@ -6,15 +6,15 @@ use Rattle.mx_explorer.specs.declared.verdict.Verdict.{Verdict}
 use Rattle.mx_explorer.specs.declared.verdict.Verdict.TheVariants.{Sound, Broken}
 use Rattle.mx_plan.specs.Text.{Text, line_feed}
 
-abbrev pub clause_text : Clause → Text
-clause_text Overlap = codes "overlap"
-clause_text Number = codes "number"
-clause_text Read = codes "read"
+abbrev pub clause_word : Clause → Text
+clause_word Overlap = codes "overlap"
+clause_word Number = codes "number"
+clause_word Read = codes "read"
 
 abbrev pub verdict_line : Verdict → Text
 verdict_line Sound = codes "verdict sound" ++ line_feed
 verdict_line (Broken k clause) =
-    codes "verdict broken at " ++ decimal k ++ codes ": " ++ clause_text clause ++ line_feed
+    codes "verdict broken at " ++ decimal k ++ codes ": " ++ clause_word clause ++ line_feed
 
 abbrev pub verdict_status : Verdict → ℕ
 verdict_status Sound = 0
@@ -29,7 +29,7 @@ broken_json k clause =
 
 abbrev pub verdict_json : Verdict → Text
 verdict_json Sound = codes "{\"verdict\":\"sound\"}\n"
-verdict_json (Broken k clause) = broken_json k (clause_text clause)
+verdict_json (Broken k clause) = broken_json k (clause_word clause)
 
 -- a verdict as JSON, or as a line
 abbrev pub verdict_text : Bool → Verdict → Text
