@@ -9,7 +9,6 @@ use mx_events::Event;
 use mx_judge::Trace;
 use mx_plan::Plan;
 use std::alloc::{AllocError, Global};
-use std::collections::HashMap;
 
 pub(crate) fn draw_trace<'a>(
     alloc: Global,
@@ -21,20 +20,15 @@ pub(crate) fn draw_trace<'a>(
     let mut rows = PictureRows::new(alloc, plan, part, fates_of(alloc, trace)?);
     rows.is_trace = true;
     rows.marked = marked;
-    let mut mail = Mail {
-        trace,
-        sent: 0,
-        flights: HashMap::new(alloc),
-    };
+    let mut sent = 0u64;
     for (index, entry) in trace.entries.iter().enumerate() {
-        let delivered = mail.delivered(&entry.event);
-        let before = mail.sent;
-        mail.send(index)?;
+        let before = sent;
+        sent = sent.saturating_add(trace.sent_by(index).len() as u64);
         let step = Step {
             index: index as u64,
             entry,
-            delivered,
-            sent: find_all(alloc, trace, before, mail.sent)?,
+            delivered: delivered(trace, &entry.event, before),
+            sent: find_all(alloc, trace, before, sent)?,
         };
         rows.draw(trace, &step)?;
     }
@@ -51,31 +45,10 @@ fn fates_of(alloc: Global, trace: &Trace) -> Result<KnownFates, AllocError> {
     Ok(fates)
 }
 
-/// The messages of a trace, and which of them were sent so far.
-#[derive(Drop)]
-struct Mail<'a> {
-    trace: &'a Trace,
-    /// How many messages were sent so far.
-    sent: u64,
-    /// For each number of a message that was sent so far, its flight: the last, if several have it.
-    flights: HashMap<u64, u64>,
-}
-
-impl Mail<'_> {
-    /// Returns the message that an event delivers, if it was sent before.
-    fn delivered(&self, event: &Event) -> Option<Sent> {
-        match event {
-            Event::Deliver(number) => self.trace.find(*self.flights.get(number)?),
-            _ => None,
-        }
-    }
-
-    /// Notes the messages that the event of this index sends.
-    fn send(&mut self, index: usize) -> Result<(), AllocError> {
-        for message in self.trace.sent_by(index) {
-            self.flights.insert(message.parcel, self.sent)?;
-            self.sent = self.sent.saturating_add(1);
-        }
-        Ok(())
+/// Returns the message that an event delivers, if it is one of the first `sent`.
+fn delivered(trace: &Trace, event: &Event, sent: u64) -> Option<Sent> {
+    match event {
+        Event::Deliver(number) if *number < sent => trace.find(*number),
+        _ => None,
     }
 }
