@@ -27,6 +27,7 @@ item_text item.NotEvent = codes "no event"
 item_text item.NoOutcome = codes "an event without outcome, as in a file of events"
 item_text (item.Wrong m) = key_of m ++ codes ": " ++ message_of m
 item_text item.NoSender = codes "a message before the first event"
+item_text item.SentBefore = codes "parcel: sent before"
 item_text item.TooMany = codes "more than 1000000 events"
 item_text item.Memory = codes "out of memory"
 
