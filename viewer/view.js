@@ -157,12 +157,12 @@ function drawRun() {
   fill("verdict", "Verdict: ", clause ? link : `${verdict} \u2713`);
   const gone = isOpen ? "lost" : "never delivered";
   byId("lost").nextSibling.textContent = ` also those ${gone}`;
-  const letters = [...["request", "grant", "other"].map(kind => sample(kind, kind, "arrives")),
-    sample("delivered again", "other again", "arrives"), sample(gone, "lost", "lost")];
+  const letters = ["request", "grant", "other"].map(kind => sample(kind, kind, "arrives"));
+  const fates = [sample("delivered again", "other again", "arrives"), sample(gone, "lost", "lost")];
   fill("legend", ...(ring.isMany ? Object.keys(OUTLINES).map(sign) : []), ...(known.way ? letters : []),
     ...(known.waits ? [sample("waits for", "waits", "waits")] : []),
     ...(tree.length ? [sample("tree"), sample("towards the privilege", "towards", "towards")] : []),
-    ...(isOpen ? [sample("cut link", "cut")] : []));
+    ...(known.way ? fates : []), ...(isOpen ? [sample("cut link", "cut")] : []));
 }
 
 /** Takes the lines of a run. The view stays, so that `show` has to follow. */
