@@ -55,7 +55,7 @@ const WHY = {
 ready = act => {
   if (!isBusy) return act();
   later.push(act);
-  return tell(`busy; then ${counted(later.length, "step")} more`);
+  return tell(`busy: ${later.length} more to do`);
 };
 
 /** Asks for a change, and takes what comes of it; of `try`, only if no line is at fault. Whether it was taken. */
@@ -153,8 +153,10 @@ function drawCurrent() {
   const current = view.at === last ? done - 1 : ends.findIndex(end => end > view.at);
   place.querySelector("[aria-current]")?.removeAttribute("aria-current");
   if (done) place.children[current]?.setAttribute("aria-current", "step");
-  reveal(place, place.querySelector(".fault, [aria-current]"));
+  revealLine();
 }
+
+const revealLine = () => reveal(byId("script"), byId("script").querySelector(".fault, [aria-current]"));
 
 function drawChoices() {
   const { registers } = [...nodesAfter(last).values()][0].told;
@@ -242,6 +244,8 @@ on("draft", "keydown", event => { if (event.key === "Enter" && event.ctrlKey) by
 onSubmit("add", "line", text => addLine(text.trim()));
 on("add", "submit", () => byId("add").reset());
 tabs.onmessage = ({ data }) => ready(() => data !== answer.version && change("now"));
+const lists = new ResizeObserver(() => { revealNode(); revealLine(); }); // they shrink as the panel grows
+["nodes", "script"].forEach(id => lists.observe(byId(id)));
 drawers.push(drawOthers, drawPanel, drawCurrent);
 drawChoices();
 drawScript();

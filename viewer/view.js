@@ -29,6 +29,8 @@ function reveal(list, item) {
   list.scrollTop += Math.min(box.top - top - 2, 0) || Math.max(box.bottom - bottom + 2, 0);
 }
 
+const revealNode = () => reveal(byId("nodes"), byId("nodes").querySelector(".chosen") ?? byId("nodes").querySelector(".acts"));
+
 /** Puts these into a place; what had the focus there gets it again. */
 function fill(id, ...children) {
   const place = byId(id), focused = document.activeElement, { dataset } = place.contains(focused) ? focused : { dataset: {} };
@@ -123,7 +125,7 @@ function draw(before) {
   drawNow();
   drawRows(before);
   drawers.forEach(it => it(before));
-  reveal(byId("nodes"), byId("nodes").querySelector(".chosen") ?? byId("nodes").querySelector(".acts"));
+  revealNode();
   byId("slider").value = at;
   byId("slider").setAttribute("aria-valuetext", at < 0 ? "start" : textAt(at));
 }
