@@ -18,7 +18,8 @@ KINDS = {  # the member that tells the kind of a line, and what else such a line
 TEXTS = """act node register from to outcome cause kind of phase fact verdict clause reason event parcel index number
     value writes count upto stamp top grant last hop mine records gapless lost line fault message""".split()
 LISTS = {"knows": ["fact", "values"], "values": [], "stuck": ["node", "for"]}  # of objects, and what each needs
-TYPES = {**dict.fromkeys(TEXTS, str), **dict.fromkeys(["ranges", "numbers", "cut", "heal", "for", "nodes", *LISTS], list), "registers": dict}
+TYPES = {**dict.fromkeys(TEXTS, str), **dict.fromkeys(["ranges", "numbers", "cut", "heal", "for", "nodes", *LISTS], list),
+         "registers": dict}
 
 encoded = json.JSONEncoder(separators=(",", ":")).encode
 

@@ -1,7 +1,7 @@
 // The places of the nodes, around the middle of the drawing: in a ring, or, of many nodes with a tree, as this tree.
 
 const FEW = 7; // of more nodes, a chosen one hides the parcels of others, a tree is drawn as one, and phases have no text
-const SHORTEST = 3; // characters of a name that has no room
+const LONGEST = 24, SHORTEST = 3; // characters that are shown of a name of many nodes, and of one that has no room
 
 /** The places in a ring of so many nodes, as far from the middle. */
 function ringPlaces(count, across, down) {
@@ -88,18 +88,16 @@ function manyPlaces(names, trees, size, room) {
 
 /** Names without the characters with which all begin, or all end; of what is left, the end, if that is too long. */
 function shortNames(names, length) {
-  const least = Math.min(...names.map(name => name.length)), [first] = names;
-  const common = (most, isSame) => { let count = 0; while (count < most && names.every(it => isSame(it, count))) count++; return count; };
-  const begin = common(least - 1, (it, i) => it[i] === first[i]);
-  const end = common(least - 1 - begin, (it, i) => it.at(-1 - i) === first.at(-1 - i));
-  const cores = names.map(it => it.slice(begin, it.length - end));
-  return names.map((it, i) => it.length <= length ? it : cores[i].length < length ? `\u2026${cores[i]}` : `\u2026${cores[i].slice(1 - length)}`);
+  const least = Math.min(...names.map(name => name.length)), isSame = i => names.every(name => name.at(i) === names[0].at(i));
+  const count = (most, place) => [...Array(most).keys()].findIndex(i => i === most - 1 || !isSame(place(i)));
+  const begin = count(least, i => i), end = count(least - begin, i => -1 - i);
+  return names.map(it => it.length <= length ? it : `\u2026${it.slice(begin, it.length - end).slice(1 - length)}`);
 }
 
 /** The place of each of many nodes in this room, with its size, and its name as far as that has room; nothing if that is too
   * small. */
 function placesIn(room, names, tree) {
-  const trees = levelsOf(names, tree), longest = Math.max(...names.map(name => name.length));
+  const trees = levelsOf(names, tree), longest = Math.min(Math.max(...names.map(name => name.length)), LONGEST);
   const sizeOf = length => ({ wide: 22 + 8.6 * Math.max(2, length) + (tree.length ? 10 : 0), high: 26, out: 26 });
   const lengths = Array.from({ length: Math.max(longest - SHORTEST, 0) + 1 }, (_, i) => longest - i);
   const length = lengths.find(it => manyPlaces(names, trees, sizeOf(it), room));

@@ -74,19 +74,18 @@ class Ring {
     Object.assign(this, { element, tree: run.tree, isMany: run.names.length > FEW });
     const margin = run.parcels.some(({ from, to }) => from === to) ? isNarrow || this.isMany ? 40 : 66 : 10;
     element.classList.toggle("many", this.isMany);
-    const { x, y } = this.isMany ? this.fill(run, margin) : this.surround(run, margin, isNarrow);
+    const { x, y } = this.isMany && this.fill(run, margin) || this.surround(run, margin, isNarrow);
     element.setAttribute("viewBox", [-x, -y, 2 * x, 2 * y].join(" "));
   }
 
-  /** Places many nodes so that they fill the drawing, as large as they have room; returns half its size. */
+  /** Places many nodes so that they fill the drawing, as large as they have room; returns half its size, if it has room. */
   fill({ names, tree }, margin) {
-    const box = this.element.getBoundingClientRect(), width = Math.max(box.width, 200), height = Math.max(box.height, 150);
-    const most = Math.max(1, Math.min(width / 620, height / 400));
-    const halves = Array.from({ length: 12 }, (_, i) => most * 0.85 ** i).map(scale => ({ x: width / 2 / scale, y: height / 2 / scale }));
+    const { width, height } = this.element.getBoundingClientRect(), scale = Math.max(1, Math.min(width / 620, height / 400));
+    const halves = [1, 1.2, 1.4, 1.7, 2, 3].map(more => ({ x: width / 2 / scale * more, y: height / 2 / scale * more }));
     return halves.find(({ x, y }) => (this.places = placesIn({ x: x - 1.5 * margin, y: y - margin }, names, tree)));
   }
 
-  /** Places few nodes; returns half the size of a drawing that surrounds them. */
+  /** Places nodes as far apart as they have to be; returns half the size of a drawing that surrounds them. */
   surround({ names, steps }, margin, isNarrow) {
     const most = steps.findLast(({ event }) => event?.outcome === "entered")?.event.number ?? 0, high = 46;
     const wide = 26 + 7.6 * Math.max(8, `inside ${most}`.length, ...names.map(name => name.length));
@@ -127,7 +126,8 @@ class Ring {
     const star = node.told?.knows.some(({ fact }) => fact === "has the privilege") ? " \u2605" : "";
     const kinds = { node: true, [node.phase]: true, acts: step?.node === name, marked: marked.includes(name), chosen: chosen.node === i };
     const button = { role: "button", tabindex: 0, "aria-pressed": kinds.chosen, "data-node": i };
-    const whole = `${name}, ${phaseText(node)}`, phase = this.isMany ? svg("title", {}, whole) : svg("text", { y: 14 }, phaseText(node));
+    const whole = `${name}, ${phaseText(node)}`;
+    const phase = this.isMany ? svg("title", {}, whole) : svg("text", { y: 14 }, phaseText(node));
     return svg("g", { ...button, "aria-label": whole, class: classes(kinds), transform: `translate(${xy(place)})` },
       svg("path", { d: outline(place.wide / 2, place.high / 2) }),
       svg("text", { y: this.isMany ? 5 : -4, class: "name" }, place.text + star), phase);
