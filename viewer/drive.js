@@ -122,8 +122,8 @@ function drawPanel() {
   fill("what", parcel ? `${fullText(parcel)}, ${state(parcel)}` : name ? `Node ${name}` : "Choose a node or a parcel");
   fill("facts", ...(name ? nodeTexts(...[view.at, Math.max(view.at - 1, -1)].map(at => nodesAfter(at).get(name))) : []));
   document.querySelectorAll("#drive [data-act]").forEach(drawButton);
-  document.querySelector("[data-do=undo]").disabled = !answer.canUndo;
-  document.querySelector("[data-do=redo]").disabled = !answer.canRedo;
+  document.querySelector("[data-do=undo]").setAttribute("aria-disabled", !answer.canUndo);
+  document.querySelector("[data-do=redo]").setAttribute("aria-disabled", !answer.canRedo);
 }
 
 /** What a line did: the outcome of its event, or how many events it has; or what it lost. */

@@ -234,6 +234,7 @@ function pressKey(event) {
   if (field && key === "Escape") field.blur();
   else if (field || presses && target.closest("button, a, summary") || event.ctrlKey || event.altKey || event.metaKey) return;
   else if (presses && target.dataset.node) press(event);
+  else if (word === "find") DO.find(); // at once, so that it gets what is typed next
   else if (word) ready(() => DO[word](event.shiftKey ? -1 : 1));
   else return;
   event.preventDefault();
