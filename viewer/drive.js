@@ -130,7 +130,8 @@ function drawPanel() {
 function outcomeOf(i) {
   const count = answer.ends[i] - (answer.ends[i - 1] ?? 0), { event, changes } = run.steps[answer.ends[i] - 1] ?? {};
   if (!(count > 0)) return {};
-  if (!event) return { told: changes.flatMap(({ lost }) => lost ? [`#${lost}`] : []).join(" ") };
+  const lost = changes.flatMap(({ lost }) => lost ? [`#${lost}`] : []);
+  if (!event) return { told: lost.length > 4 ? `${lost.length} parcels` : lost.join(" ") };
   return { told: count > 1 ? `${count} events` : partOf(event, 1).replace("delivered", ""), outcome: event.outcome };
 }
 

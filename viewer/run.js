@@ -139,10 +139,11 @@ function eventText({ event, ...rest }) {
 /** The text of an event, or of what a step changed without one. */
 function stepText({ event, place, changes }, parcels) {
   if (event) return `${place} ${eventText(event)}`;
-  const lost = changes.flatMap(({ lost }) => lost ? [fullText(parcels[+lost])] : []);
+  const all = changes.flatMap(({ lost }) => lost ? [fullText(parcels[+lost])] : []);
+  const lost = all.length > 4 ? `${all.length} parcels` : all.join(", ");
   const cuts = changes.flatMap(({ cut }) => cut ? [cut.join(" ")] : []), links = cuts.length > 4 ? `${cuts.length} links` : cuts.join(", ");
   const healed = changes.flatMap(({ heal }) => heal ? [heal.join(" ") || "all links"] : []).join(", ");
-  return [lost.length && `lost ${lost.join(", ")}`, links && `cut ${links}`, healed && `healed ${healed}`].filter(Boolean).join(", ");
+  return [lost && `lost ${lost}`, links && `cut ${links}`, healed && `healed ${healed}`].filter(Boolean).join(", ");
 }
 
 const waitText = ({ node, for: others }) => [node, "waits", ...(others.length ? ["for", ...others] : [])].join(" ");
