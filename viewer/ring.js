@@ -2,6 +2,7 @@
 
 const DRAWN = 48; // so many arrows at most
 const PARTS = [0.5, 0.42, 0.58, 0.34, 0.66, 0.26, 0.74]; // of an arrow, where the middle of its label may be
+const LANE = 40, LANES = 320; // how far lanes are apart, and where the last of many is
 const WIDTH = 6.7, CELL = 6; // of a character of a label; of the cells by which labels keep clear of all else
 const TIPS = { arrives: "M-12 -5.5L0 0L-12 5.5Z", lost: "M-7 -6L5 6M-7 6L5 -6", waits: "M-7 -4H1V4H-7Z",
   towards: "M-11 -8L1 0L-11 8" };
@@ -48,10 +49,11 @@ function edge(node, towards) {
   return mid(node, towards, Math.min((node.wide / 2 + 5) / x, (node.high / 2 + 5) / y));
 }
 
-/** The tail, the turn and the head of an arrow, bowed to the middle of the ring; of many, each has a lane. */
-function bow(a, b, lane) {
+/** The tail, the turn and the head of an arrow, bowed to the middle of the ring; of so many, each has a lane. */
+function bow(a, b, lane, count) {
   if (a === b) return loop(a, lane);
-  const { x, y } = unit(a, b), half = mid(a, b), far = (half.x * y < half.y * x ? -40 : 40) * (lane + 1);
+  const { x, y } = unit(a, b), half = mid(a, b), apart = Math.min(LANE, LANES / count);
+  const far = (half.x * y < half.y * x ? -apart : apart) * (lane + 1);
   const turn = { x: half.x - y * far, y: half.y + x * far };
   return [edge(a, turn), turn, edge(b, turn)];
 }
@@ -135,10 +137,10 @@ class Ring {
 
   /** All arrows, and their labels. */
   arrows(parcels, scene) {
-    const lanes = new Map(), ways = parcels.map(({ from, to }) => {
-      const pair = [from, to].sort().join(), lane = lanes.get(pair) ?? 0;
-      lanes.set(pair, lane + 1);
-      return bow(this.places.get(from), this.places.get(to), lane);
+    const pairOf = ({ from, to }) => [from, to].sort().join(), lanes = Map.groupBy(parcels, pairOf);
+    const ways = parcels.map(it => {
+      const all = lanes.get(pairOf(it));
+      return bow(this.places.get(it.from), this.places.get(it.to), all.indexOf(it), all.length);
     });
     const curves = ways.map(points => cellsNear(dots(points, 48), 1)), straight = cellsNear(this.lines, 1);
     const counts = new Map(), texts = new Set();
