@@ -30,11 +30,12 @@ def run(commands, folder, room, errors):
     return f"```sh\n{commands}```\n" + (f"\n```text\n{printed}```\n" if printed else "")
 
 
-def checks_of(path, room, errors, folder=ROOT):
-    """For each block of a page its first line, the page, and the block as it stands there and as it has to; and one
-    more check, that each block of the page is read."""
+def checks_of(path, room, errors, folder=ROOT, is_run=lambda commands: True):
+    """For each block of a page its first line, the page, and the block as it stands there and as it has to, if it is run;
+    and one more check, that each block of the page is read."""
     page = content(path)
-    checks = [(it[1].split("\n")[0], path, it[0], run(it[1], folder, room, errors)) for it in BLOCK.finditer(page)]
+    checks = [(it[1].split("\n")[0], path, it[0], run(it[1], folder, room, errors) if is_run(it[1]) else it[0])
+              for it in BLOCK.finditer(page)]
     fences = sum(shown.count("```") for _, _, shown, _ in checks)
     wanted = page.count("```") - 2 * (page.count("```rust\n") + page.count("```console\n"))
     return [*checks, ("a block that can't be read", "", str(wanted), str(fences or ""))]

@@ -13,6 +13,7 @@ const LINES = { // what a button adds to the script, of a node or of a parcel
   partition: () => `partition ${sides(true).join(" ")} | ${sides(false).join(" ")}`,
 };
 const tabs = new BroadcastChannel("drive"); // the other tabs of this browser
+const later = []; // what was pressed during a change
 let answer = JSON.parse(byId("answer").textContent), isBusy = false;
 
 const sides = isOff => [...byId("sides").querySelectorAll("input")].filter(it => it.checked === isOff).map(it => it.value);
@@ -50,13 +51,22 @@ const WHY = {
   partition: () => sides(true).length && sides(false).length ? "" : "Tick some of the nodes, and not all.",
 };
 
+/** Does what was pressed at once or, during a change, after it, in order. */
+ready = act => {
+  if (!isBusy) return act();
+  later.push(act);
+  return tell(`busy: ${later.length} more to do`);
+};
+
 /** Asks for a change, and takes what comes of it; of `try`, only if no line is at fault. Whether it was taken. */
 async function change(path, script = "") {
-  if (isBusy) return false;
   isBusy = true;
   const next = await ask(path, script).catch(({ message }) => tell(message, true));
   isBusy = false;
-  return Boolean(next) && settle(path, script, next);
+  const isTaken = Boolean(next) && settle(path, script, next);
+  if (!next || next.isOld) later.length = 0; // it was meant for another script
+  while (later.length && !isBusy) later.shift()();
+  return isTaken;
 }
 
 async function ask(path, script) {
@@ -67,11 +77,12 @@ async function ask(path, script) {
 }
 
 function settle(path, script, next) {
-  const { fault, isOld, version } = next, isRefused = path === "try" && fault && !isOld;
+  const { fault, isOld, version, note } = next, isRefused = path === "try" && fault && !isOld;
   if (!isRefused) take(next);
   if (isRefused) tell(`${linesOf(script)[fault.line]}: ${fault.text}`, true);
   else if (isOld) tell("Another tab has changed the script. This is it now; nothing else was done.", true);
   else tabs.postMessage(version);
+  if (note) tell(note);
   return !isOld && !isRefused;
 }
 
@@ -109,16 +120,18 @@ function drawPanel() {
   fill("stuck", fault ? faultText(run.fault, "mend the line, or undo") : stuck);
   fill("wrong", fault ? `line ${fault.line + 1}: ${fault.text}` : "");
   fill("what", parcel ? `${fullText(parcel)}, ${state(parcel)}` : name ? `Node ${name}` : "Choose a node or a parcel");
+  fill("facts", ...(name ? nodeTexts(...[view.at, Math.max(view.at - 1, -1)].map(at => nodesAfter(at).get(name))) : []));
   document.querySelectorAll("#drive [data-act]").forEach(drawButton);
-  document.querySelector("[data-do=undo]").disabled = !answer.canUndo;
-  document.querySelector("[data-do=redo]").disabled = !answer.canRedo;
+  document.querySelector("[data-do=undo]").setAttribute("aria-disabled", !answer.canUndo);
+  document.querySelector("[data-do=redo]").setAttribute("aria-disabled", !answer.canRedo);
 }
 
 /** What a line did: the outcome of its event, or how many events it has; or what it lost. */
 function outcomeOf(i) {
   const count = answer.ends[i] - (answer.ends[i - 1] ?? 0), { event, changes } = run.steps[answer.ends[i] - 1] ?? {};
   if (!(count > 0)) return {};
-  if (!event) return { told: changes.flatMap(({ lost }) => lost ? [`#${lost}`] : []).join(" ") };
+  const lost = changes.flatMap(({ lost }) => lost ? [`#${lost}`] : []);
+  if (!event) return { told: lost.length > 4 ? `${lost.length} parcels` : lost.join(" ") };
   return { told: count > 1 ? `${count} events` : partOf(event, 1).replace("delivered", ""), outcome: event.outcome };
 }
 
@@ -141,8 +154,10 @@ function drawCurrent() {
   const current = view.at === last ? done - 1 : ends.findIndex(end => end > view.at);
   place.querySelector("[aria-current]")?.removeAttribute("aria-current");
   if (done) place.children[current]?.setAttribute("aria-current", "step");
-  reveal(place, place.querySelector(".fault, [aria-current]"));
+  revealLine();
 }
+
+const revealLine = () => reveal(byId("script"), byId("script").querySelector(".fault, [aria-current]"));
 
 function drawChoices() {
   const { registers } = [...nodesAfter(last).values()][0].told;
@@ -179,18 +194,35 @@ function save() {
   setTimeout(() => URL.revokeObjectURL(link.href), 1000);
 }
 
-/** Shows the script as a text, or hides it. A text that was edited stays until it is run. */
+/** Shows the script as a text, with its line at fault selected, or hides it. A text that was edited stays until it is run. */
 function edit(isShown) {
+  const { fault, script } = answer, draft = byId("draft"), list = linesOf(draft.value);
   byId("text").hidden = !isShown;
-  if (isShown) byId("draft").focus();
+  if (!isShown) return;
+  draft.focus();
+  if (!fault || draft.value !== script) return;
+  const start = list.slice(0, fault.line).join("\n").length + (fault.line > 0);
+  draft.setSelectionRange(start, start + list[fault.line].length);
+  draft.scrollTop = (fault.line - draft.rows / 2) * draft.scrollHeight / list.length;
 }
 
-async function runDraft(event) {
-  event.preventDefault();
-  if (!await change("keep", byId("draft").value.replace(/\n+$/, ""))) return;
+async function runDraft(script) {
+  if (!await change("keep", script)) return;
   byId("text").reset();
   edit(Boolean(answer.fault));
 }
+
+/** Adds a line; one that is not taken comes back to the field. */
+async function addLine(line) {
+  if (line && !await add(line) && !byId("line").value) byId("line").value = line;
+}
+
+/** Lets a form do this with the text of its field, once the page is ready for it. */
+const onSubmit = (id, field, act) => on(id, "submit", event => {
+  const text = byId(field).value;
+  event.preventDefault();
+  ready(() => act(text));
+});
 
 Object.assign(DO, {
   undo: way => way < 0 ? DO.redo() : answer.canUndo && change("undo"), redo: () => answer.canRedo && change("redo"),
@@ -205,17 +237,16 @@ Object.assign(KEYS, { a: "ask", e: "enter", l: "leave", c: "cancel", t: "tick", 
 
 document.addEventListener("click", ({ target }) => {
   const button = target.closest("[data-act], [data-line]");
-  if (button) use(button);
+  if (button) ready(() => use(button));
 });
 on("drive", "input", drawPanel);
-on("text", "submit", runDraft);
-on("draft", "keydown", event => { if (event.key === "Enter" && event.ctrlKey) runDraft(event); });
-on("add", "submit", async event => {
-  event.preventDefault();
-  const line = byId("line").value.trim();
-  if (line && await add(line)) byId("line").value = "";
-});
-tabs.onmessage = ({ data }) => data !== answer.version && change("now");
+onSubmit("text", "draft", text => runDraft(text.replace(/\n+$/, "")));
+on("draft", "keydown", event => { if (event.key === "Enter" && event.ctrlKey) byId("text").requestSubmit(); });
+onSubmit("add", "line", text => addLine(text.trim()));
+on("add", "submit", () => byId("add").reset());
+tabs.onmessage = ({ data }) => ready(() => data !== answer.version && change("now"));
+const lists = new ResizeObserver(() => { revealNode(); revealLine(); }); // they shrink as the panel grows
+["nodes", "script"].forEach(id => lists.observe(byId(id)));
 drawers.push(drawOthers, drawPanel, drawCurrent);
 drawChoices();
 drawScript();

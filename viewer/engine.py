@@ -4,6 +4,7 @@ import itertools
 import os
 import re
 import resource
+import signal
 import subprocess
 import tempfile
 
@@ -25,16 +26,31 @@ def program():
     return found.stdout.strip()
 
 
+REASONS = {  # why a file can't be read, as `mx` says it
+    FileNotFoundError: "there is no file of this name", PermissionError: "who runs mx may not read it",
+    IsADirectoryError: "it is a folder", NotADirectoryError: "a part of its path is no folder",
+}
+
+
 def contents(path, what, most):
     """The bytes of a file."""
     try:
         with open(path, "rb") as file:
             text = file.read(most + 1)
     except (OSError, ValueError) as error:
-        raise Fault(f"cannot read the {what}: {error}")
+        reason = REASONS.get(type(error), "the system fails to read it")
+        raise Fault(f"cannot read {path}\n{path}: this file can't be read: {reason}")
     if len(text) > most:
         raise Fault(f"the {what} has more than {most} bytes")
     return text
+
+
+def limit_files(most):
+    """Bounds what is written to a file, also by the program, by so many bytes or fewer; returns how many."""
+    hard = resource.getrlimit(resource.RLIMIT_FSIZE)[1]
+    most = most if hard == resource.RLIM_INFINITY else min(most, hard)
+    resource.setrlimit(resource.RLIMIT_FSIZE, (most, hard))
+    return most
 
 
 class Engine:
@@ -43,7 +59,7 @@ class Engine:
 
     def __init__(self, path):
         self.program, self.plan = program(), contents(path, "plan", PLAN)
-        resource.setrlimit(resource.RLIMIT_FSIZE, (MOST, resource.getrlimit(resource.RLIMIT_FSIZE)[1]))  # also of the program
+        self.most = limit_files(MOST)
         status, printed, told = self.ran("explain", "-", text=self.plan)
         if status:
             raise Fault("the plan is at fault:\n" + re.sub("^-:", f"{path}:", printed or told, flags=re.MULTILINE).strip())
@@ -59,8 +75,10 @@ class Engine:
                 raise Fault(f"the program took more than {self.longest} seconds, and was ended")
             except OSError as error:
                 raise Fault(f"the program cannot be run: {error}")
+            if ended.returncode == -signal.SIGXFSZ:
+                raise Fault(f"the program printed more than {self.most} bytes")
             if ended.returncode < 0:
-                raise Fault(f"the program printed more than {MOST} bytes, or failed: signal {-ended.returncode}")
+                raise Fault(f"the program failed: {signal.strsignal(-ended.returncode)} (signal {-ended.returncode})")
             printed.seek(0)
             return ended.returncode, printed.read().decode(errors="replace"), ended.stderr.decode(errors="replace")
 

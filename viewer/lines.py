@@ -2,7 +2,7 @@
 
 Of a script, `mx replay --script --json` prints `{"line":N}` before whatever line N did: an event, `{"lost":K}`, `{"cut":[N]}`,
 `{"cut":[N,M]}`, or the same with `heal`, or `{"heal":[]}` of all links. A line that is refused is an object of `line`, `fault`
-and `message`; no event follows it."""
+and `message`; no event follows it. A first line `{"nodes":[N, ..]}` names the nodes of the plan, in its order."""
 import json
 import os
 import re
@@ -13,12 +13,13 @@ VIEWER = os.path.dirname(os.path.realpath(__file__))
 KINDS = {  # the member that tells the kind of a line, and what else such a line needs
     "act": ["outcome"], "kind": ["parcel", "from", "to"], "phase": ["node", "mine", "knows"],
     "stuck": [], "lost": [], "cut": [], "heal": [], "clause": ["verdict", "index"], "verdict": [], "fault": ["line", "message"],
-    "line": [],
+    "line": [], "nodes": [],
 }
 TEXTS = """act node register from to outcome cause kind of phase fact verdict clause reason event parcel index number
     value writes count upto stamp top grant last hop mine records gapless lost line fault message""".split()
 LISTS = {"knows": ["fact", "values"], "values": [], "stuck": ["node", "for"]}  # of objects, and what each needs
-TYPES = {**dict.fromkeys(TEXTS, str), **dict.fromkeys(["ranges", "numbers", "cut", "heal", "for", *LISTS], list), "registers": dict}
+TYPES = {**dict.fromkeys(TEXTS, str), **dict.fromkeys(["ranges", "numbers", "cut", "heal", "for", "nodes", *LISTS], list),
+         "registers": dict}
 
 encoded = json.JSONEncoder(separators=(",", ":")).encode
 
@@ -44,11 +45,11 @@ def member(key, value):
 
 
 def has_form(key, value):
-    """Whether the items of a list of numbers, of one or two names, or of pairs of numbers, are such."""
+    """Whether the items of a list of numbers, of names, of one or two names, or of pairs of numbers, are such."""
     if key == "ranges":
         return all(type(item) is list and len(item) == 2 and has_form("numbers", item) for item in value)
-    isnt = key not in ("numbers", "for", "cut", "heal")
-    return isnt or all(type(item) is str for item in value) and (key in ("numbers", "for") or (key == "cut") <= len(value) < 3)
+    isnt = key not in ("numbers", "for", "nodes", "cut", "heal")
+    return isnt or all(type(item) is str for item in value) and (key not in ("cut", "heal") or (key == "cut") <= len(value) < 3)
 
 
 def refused(number):
@@ -57,7 +58,8 @@ def refused(number):
 
 def read(line, counts):
     """What the page shows of a line, after so many of each kind."""
-    kind = next((key for key in KINDS if type(line) is dict and key in line), "verdict")
+    is_run = type(line) is dict and "algorithm" not in line  # which a plan has
+    kind = next((key for key in KINDS if is_run and key in line), "verdict")
     if counts["clause"] or counts["verdict"]:
         raise Fault("it follows the verdict")
     if counts["fault"] and kind not in ("phase", "stuck", "verdict"):
@@ -77,6 +79,8 @@ def is_below(text, count):
 
 def check(kind, line, counts):
     """Refuses a line that names what is not there."""
+    if kind == "nodes" and any(counts.values()):
+        raise Fault("it follows another line")
     if kind == "verdict" and line["verdict"] != "sound":
         raise Fault("clause is missing")
     if kind == "act" and not {"node", "parcel"} & set(line):

@@ -2,6 +2,7 @@
 
 const DRAWN = 48; // so many arrows at most
 const PARTS = [0.5, 0.42, 0.58, 0.34, 0.66, 0.26, 0.74]; // of an arrow, where the middle of its label may be
+const LANE = 40, LANES = 320; // how far lanes are apart, and where the last of many is
 const WIDTH = 6.7, CELL = 6; // of a character of a label; of the cells by which labels keep clear of all else
 const TIPS = { arrives: "M-12 -5.5L0 0L-12 5.5Z", lost: "M-7 -6L5 6M-7 6L5 -6", waits: "M-7 -4H1V4H-7Z",
   towards: "M-11 -8L1 0L-11 8" };
@@ -48,10 +49,11 @@ function edge(node, towards) {
   return mid(node, towards, Math.min((node.wide / 2 + 5) / x, (node.high / 2 + 5) / y));
 }
 
-/** The tail, the turn and the head of an arrow, bowed to the middle of the ring; of many, each has a lane. */
-function bow(a, b, lane) {
+/** The tail, the turn and the head of an arrow, bowed to the middle of the ring; of so many, each has a lane. */
+function bow(a, b, lane, count) {
   if (a === b) return loop(a, lane);
-  const { x, y } = unit(a, b), half = mid(a, b), far = (half.x * y < half.y * x ? -40 : 40) * (lane + 1);
+  const { x, y } = unit(a, b), half = mid(a, b), apart = Math.min(LANE, LANES / count);
+  const far = (half.x * y < half.y * x ? -apart : apart) * (lane + 1);
   const turn = { x: half.x - y * far, y: half.y + x * far };
   return [edge(a, turn), turn, edge(b, turn)];
 }
@@ -60,7 +62,7 @@ function bow(a, b, lane) {
 function loop(node, lane) {
   const { x, y } = node.x || node.y ? unit({ x: 0, y: 0 }, node) : { x: 0, y: -1 };
   const at = (far, side) => ({ x: node.x + x * far - y * side, y: node.y + y * far + x * side });
-  const far = 100 + 48 * lane + Math.abs(x) * node.wide / 2;
+  const far = node.high + node.out * (1 + lane * 8 / 9) + Math.abs(x) * node.wide / 2;
   return [edge(node, at(40, 20)), at(far, 0), edge(node, at(40, -20))];
 }
 
@@ -70,14 +72,29 @@ function tip(kind, [, turn, head]) {
 }
 
 class Ring {
-  constructor(element, { names, steps, parcels, tree }, isNarrow) {
+  constructor(element, run, isNarrow) {
+    Object.assign(this, { element, tree: run.tree, isMany: run.names.length > FEW });
+    const margin = run.parcels.some(({ from, to }) => from === to) ? isNarrow || this.isMany ? 40 : 66 : 10;
+    element.classList.toggle("many", this.isMany);
+    const { x, y } = this.isMany && this.fill(run, margin) || this.surround(run, margin, isNarrow);
+    element.setAttribute("viewBox", [-x, -y, 2 * x, 2 * y].join(" "));
+  }
+
+  /** Places many nodes so that they fill the drawing, as large as they have room; returns half its size, if it has room. */
+  fill({ names, tree }, margin) {
+    const { width, height } = this.element.getBoundingClientRect(), scale = Math.max(1, Math.min(width / 620, height / 400));
+    const halves = [1, 1.2, 1.4, 1.7, 2, 3].map(more => ({ x: width / 2 / scale * more, y: height / 2 / scale * more }));
+    return halves.find(({ x, y }) => (this.places = placesIn({ x: x - 1.5 * margin, y: y - margin }, names, tree)));
+  }
+
+  /** Places nodes as far apart as they have to be; returns half the size of a drawing that surrounds them. */
+  surround({ names, steps }, margin, isNarrow) {
     const most = steps.findLast(({ event }) => event?.outcome === "entered")?.event.number ?? 0, high = 46;
     const wide = 26 + 7.6 * Math.max(8, `inside ${most}`.length, ...names.map(name => name.length));
-    Object.assign(this, { element, tree, places: placesOf(names, tree, { wide, high }, isNarrow) });
-    const reach = (way, least) => Math.max(...[...this.places.values()].map(it => Math.abs(it[way])), names.length > 1 ? least : 0);
-    const margin = parcels.some(({ from, to }) => from === to) ? isNarrow ? 40 : 66 : 10;
-    const right = reach("x", 0) + wide / 2 + margin, bottom = reach("y", 150) + high / 2 + margin;
-    element.setAttribute("viewBox", [-right, -bottom, 2 * right, 2 * bottom].join(" "));
+    const places = fewPlaces(names.length, { wide, high }, isNarrow);
+    const reach = (way, least) => Math.max(...places.map(it => Math.abs(it[way])), names.length > 1 ? least : 0);
+    this.places = new Map(names.map((name, i) => [name, { ...places[i], wide, high, out: 54, text: name }]));
+    return { x: reach("x", 0) + wide / 2 + margin, y: reach("y", 150) + high / 2 + margin };
   }
 
   /** What is drawn of a scene; of too many arrows, those that the scene is about. */
@@ -111,29 +128,19 @@ class Ring {
     const star = node.told?.knows.some(({ fact }) => fact === "has the privilege") ? " \u2605" : "";
     const kinds = { node: true, [node.phase]: true, acts: step?.node === name, marked: marked.includes(name), chosen: chosen.node === i };
     const button = { role: "button", tabindex: 0, "aria-pressed": kinds.chosen, "data-node": i };
-    return svg("g", { ...button, "aria-label": `${name}, ${phaseText(node)}`, class: classes(kinds),
-      transform: `translate(${xy(place)})` }, svg("path", { d: outline(place.wide / 2, place.high / 2) }),
-      svg("text", { y: -4, class: "name" }, name + star), svg("text", { y: 14 }, phaseText(node)));
-  }
-
-  /** Lines to the nodes that this one waits for. */
-  waits(name, node) {
-    const others = waitsFor(node).filter(other => other !== name && this.places.has(other));
-    return others.map(other => {
-      const a = this.places.get(name), b = this.places.get(other);
-      const points = [edge(a, b), mid(a, b), edge(b, a)];
-      this.lines.push(...dots(points, 48));
-      return svg("g", { class: "waits" }, svg("title", {}, `${name} waits for ${other}`),
-        svg("path", { d: pathOf(points) }), tip("waits", points));
-    });
+    const whole = `${name}, ${phaseText(node)}`;
+    const phase = this.isMany ? svg("title", {}, whole) : svg("text", { y: 14 }, phaseText(node));
+    return svg("g", { ...button, "aria-label": whole, class: classes(kinds), transform: `translate(${xy(place)})` },
+      svg("path", { d: outline(place.wide / 2, place.high / 2) }),
+      svg("text", { y: this.isMany ? 5 : -4, class: "name" }, place.text + star), phase);
   }
 
   /** All arrows, and their labels. */
   arrows(parcels, scene) {
-    const lanes = new Map(), ways = parcels.map(({ from, to }) => {
-      const pair = [from, to].sort().join(), lane = lanes.get(pair) ?? 0;
-      lanes.set(pair, lane + 1);
-      return bow(this.places.get(from), this.places.get(to), lane);
+    const pairOf = ({ from, to }) => [from, to].sort().join(), lanes = Map.groupBy(parcels, pairOf);
+    const ways = parcels.map(it => {
+      const all = lanes.get(pairOf(it));
+      return bow(this.places.get(it.from), this.places.get(it.to), all.indexOf(it), all.length);
     });
     const curves = ways.map(points => cellsNear(dots(points, 48), 1)), straight = cellsNear(this.lines, 1);
     const counts = new Map(), texts = new Set();

@@ -10,13 +10,14 @@ const EFFECTS = { // of an outcome, on the node of its event
   left: () => ({ phase: "idle" }), cancelled: () => ({ phase: "idle" }),
 };
 
+const counted = (count, word) => `${count} ${word}${count === 1 ? "" : "s"}`;
 const unique = items => [...new Set(items)].filter(item => item !== undefined);
 
 /** Each step has an event, or changes that a script made without one; its node, the parcels that it sent, the lines of nodes
   * after it, and a place, which its address names: the number of an event. The run of a script is open: it may go on. */
 function readRun(lines, isDriven) {
   const isOpen = isDriven || lines.some(({ line, verdict }) => line && !verdict);
-  const run = { steps: [], parcels: [], told: [], links: [], verdict: lines.at(-1), count: 0, isOpen };
+  const run = { steps: [], parcels: [], told: [], links: [], nodes: [], verdict: lines.at(-1), count: 0, isOpen };
   const nodeOf = ({ node, parcel }) => node ?? run.parcels[+parcel]?.to;
   let number; // of the line of a script that did what follows
   for (const line of lines) {
@@ -27,6 +28,7 @@ function readRun(lines, isDriven) {
     else if (line.lost || line.cut || line.heal) addChange(run, line, number);
     else if (line.fault) run.fault = line;
     else if (line.stuck) run.stuck = line.stuck;
+    else if (line.nodes) run.nodes = line.nodes;
     else if (!line.verdict) number = line.line;
   }
   run.steps.forEach(({ event }, at) => run.parcels[+event?.parcel]?.deliveries.push(at));
@@ -54,11 +56,11 @@ function shapeOf({ told, steps }) {
   return { algorithm: ALGORITHMS[word], tree: unique(tree).map(pair => pair.split(",")) };
 }
 
-/** The nodes: those of the last lines of nodes in their order, which is the plan's, and then all others. */
-function namesOf({ told, steps, parcels }) {
+/** The nodes: those of the plan, or of the last lines of nodes, in their order, which is the plan's, and then all others. */
+function namesOf({ nodes, told, steps, parcels }) {
   const closing = [...told, ...steps.flatMap(step => step.told)].map(line => line.node).reverse();
   const others = [...steps.map(step => step.node), ...parcels.flatMap(({ from, to }) => [from, to])];
-  return unique([...unique(closing).reverse(), ...others]);
+  return unique([...nodes, ...unique(closing).reverse(), ...others]);
 }
 
 /** The nodes after a step, each with its phase, its last section, and the line of it that still holds. */
@@ -137,10 +139,11 @@ function eventText({ event, ...rest }) {
 /** The text of an event, or of what a step changed without one. */
 function stepText({ event, place, changes }, parcels) {
   if (event) return `${place} ${eventText(event)}`;
-  const lost = changes.flatMap(({ lost }) => lost ? [fullText(parcels[+lost])] : []);
+  const all = changes.flatMap(({ lost }) => lost ? [fullText(parcels[+lost])] : []);
+  const lost = all.length > 4 ? `${all.length} parcels` : all.join(", ");
   const cuts = changes.flatMap(({ cut }) => cut ? [cut.join(" ")] : []), links = cuts.length > 4 ? `${cuts.length} links` : cuts.join(", ");
   const healed = changes.flatMap(({ heal }) => heal ? [heal.join(" ") || "all links"] : []).join(", ");
-  return [lost.length && `lost ${lost.join(", ")}`, links && `cut ${links}`, healed && `healed ${healed}`].filter(Boolean).join(", ");
+  return [lost && `lost ${lost}`, links && `cut ${links}`, healed && `healed ${healed}`].filter(Boolean).join(", ");
 }
 
 const waitText = ({ node, for: others }) => [node, "waits", ...(others.length ? ["for", ...others] : [])].join(" ");
