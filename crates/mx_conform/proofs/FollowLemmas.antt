@@ -1,9 +1,10 @@
 -- A trace that is followed has the turns of the cluster that follows it.
-use Rattle.std.proofs.Common.{◌≡◌, ◌∙◌, ◌⊎◌, ℕ, zero, suc, ◌+◌, ◌<◌, ◌&&◌, List, [], ◌∷◌, ◌++◌, Bool, true, false, Option, Some, None, Result, Ok, Err, length, ap, append_assoc, append-nil, inl, inr, refl, subst, sym}
+use Rattle.std.proofs.Common.{◌≡◌, ◌∙◌, ◌⊎◌, ℕ, zero, suc, ◌+◌, ◌-◌, ◌<◌, ◌≤◌, ◌&&◌, ◌==◌, nat_lt, arith, List, [], ◌∷◌, ◌++◌, Bool, true, false, Option, Some, None, Result, Ok, Err, length, ap, append_assoc, append-nil, inl, inr, refl, subst, sym}
 use Rattle.std.specs.Prelude.{drop, position, slice_get}
 use Rattle.std.specs.List.{list_all}
 use Rattle.std.specs.Option.{option_map_or}
-use Rattle.mx_stamps.proofs.Choices.{and_true, bool_cases, eq_true}
+use Rattle.mx_stamps.proofs.Choices.{and_true, cond_false, cond_true, eq_true, lt_is, lt_not}
+use Rattle.mx_format.specs.Lines.{texts_from}
 use Rattle.mx_nodelaws.specs.Core.{Core}
 use Rattle.mx_member.specs.declared.parcel.Parcel.{Parcel}
 use Rattle.mx_events.specs.declared.event.Event.{Event}
@@ -22,7 +23,7 @@ use Rattle.mx_conform.specs.Hidden.{hides, is_gossip}
 use Rattle.mx_conform.specs.declared.hidden.Hidden.{Hidden}
 use Rattle.mx_conform.specs.declared.follower.Way.{Way}
 use Rattle.mx_conform.specs.declared.follower.Way.TheVariants.{Passed, Unsent, Done}
-use Rattle.mx_conform.specs.Following.{Followed, act_by, after_step, cleared, conforms, delivered, delivery_of, done, flushed, follow, go, is_outcome_at, is_shown_at, passing, way_of, way_of_letter, with_hidden, with_letter, with_message, with_messages}
+use Rattle.mx_conform.specs.Following.{Followed, act_by, after_step, cleared, conforms, delivered, delivery_of, done, flushed, follow, go, is_hidden, is_outcome_at, is_shown_at, passed, shown_from, shown_one, way_of, way_of_letter, with_hidden, with_letter, with_message, with_messages}
 use Rattle.mx_conform.proofs.TurnLemmas.{Turn, Enters, Leaves, turns, turns-append, turns_of}
 
 -- ---- the turn of an event
@@ -133,17 +134,44 @@ module _ {H S M : Type 0} (core : Core H S M) where
     either_quiet g k true = delivered_quiet g k
     either_quiet g k false = nothing_more g
 
+    passed_quiet : (k : ℕ) (g : ClusterState S M) → AddsQuietly g (passed core parts h k g)
+    passed_quiet k g = either_quiet g k (is_hidden core parts h (slice_get g.sent k))
+
+    chosen_quiet : (g new : ClusterState S M) (b : Bool) → AddsQuietly g new → AddsQuietly g (if b then new else g)
+    chosen_quiet g new true more = more
+    chosen_quiet g new false more = nothing_more g
+
     flushed_quiet : (n k : ℕ) (g : ClusterState S M) → AddsQuietly g (flushed core parts h n k g)
     unfolding flushed
     flushed_quiet zero k g = nothing_more g
-    flushed_quiet (suc n) k g = passing_quiet (slice_get g.sent k)
-      where
-        passing_quiet : (found : Option (ℕ × ℕ × Parcel M)) → AddsQuietly g (passing core parts h g k found (flushed core parts h n (k + 1)))
-        passing_quiet None = nothing_more g
-        passing_quiet (Some parcel) =
-            let b = hides parts h parcel in
-            let mid = if b then delivered core g k else g in
-            after_quiet g mid (flushed core parts h n (k + 1) mid) (either_quiet g k b) (flushed_quiet n (k + 1) mid)
+    flushed_quiet (suc n) k g =
+        let mid = passed core parts h k g in
+        chosen_quiet g (flushed core parts h n (k + 1) mid) (nat_lt k (length g.sent))
+        (after_quiet g mid (flushed core parts h n (k + 1) mid) (passed_quiet k g) (flushed_quiet n (k + 1) mid))
+
+    -- one more parcel, and the end
+    pub flushed_more : (m k : ℕ) (g : ClusterState S M) → k < m → k < length g.sent → flushed core parts h (m - k) k g ≡ flushed core parts h (m - (k + 1)) (k + 1) (passed core parts h k g)
+    unfolding flushed
+    flushed_more m k g below there =
+        let left : m - k ≡ suc (m - (k + 1)) = omega arith in
+        ap (λ n. flushed core parts h n k g) left
+        ∙ cond_true (nat_lt k (length g.sent)) (flushed core parts h (m - (k + 1)) (k + 1) (passed core parts h k g)) g (lt_is k (length g.sent) there)
+
+    pub flushed_end : (n k : ℕ) (g : ClusterState S M) → length g.sent ≤ k → flushed core parts h n k g ≡ g
+    unfolding flushed
+    flushed_end zero k g over = refl
+    flushed_end (suc n) k g over =
+        cond_false (nat_lt k (length g.sent)) (flushed core parts h n (k + 1) (passed core parts h k g)) g (lt_not k (length g.sent) over)
+
+    pub flushed_none : (k : ℕ) (g : ClusterState S M) → flushed core parts h (k - k) k g ≡ g
+    unfolding flushed
+    flushed_none k g = let none : k - k ≡ 0 = omega arith in ap (λ n. flushed core parts h n k g) none
+
+-- the letters that are shown, as texts of numbers
+pub shown_texts : {M : Type 0} (parts : M → Parts) (h : Hidden) (k : ℕ) (ps : List (ℕ × ℕ × Parcel M)) → shown_from parts h k ps ≡ texts_from (shown_one parts h) k ps
+unfolding shown_from
+shown_texts parts h k [] = refl
+shown_texts parts h k (p ∷ ps) = ap (λ l. shown_one parts h k p ++ l) (shown_texts parts h (k + 1) ps)
 
 -- ---- the messages of an event change neither the cluster nor what agrees
 
@@ -196,7 +224,7 @@ module _ {H S M : Type 0} (core : Core H S M) (parts : M → Parts) (f : Followe
       let whole : last.trace ≡ T ++ own ∷ quiet.rest = quiet.adds ∙ ap (λ t. t ++ quiet.rest) item.1 ∙ append_assoc T (own ∷ []) quiet.rest in
       let here : slice_get last.trace (length T) ≡ Some own = ap (λ (t : List Entry). slice_get t (length T)) whole ∙ get_first T own quiet.rest in
       let told : is_told item.0 entry.outcome ≡ true =
-        sym (ap (λ (x : Option Entry). option_map_or (λ (y : Entry). is_told y.outcome entry.outcome) x false) here) ∙ agrees in
+      sym (ap (λ (x : Option Entry). option_map_or (λ (y : Entry). is_told y.outcome entry.outcome) x false) here) ∙ agrees in
       let turn = done_turn letters entry.event e entry.outcome way ∙ same_turn e item.0 entry.outcome told in
       ap turns whole ∙ turns-append T (own ∷ quiet.rest)
       ∙ ap (λ ts. turns T ++ (turns_of (mark_of e item.0) ++ ts)) quiet.quiet

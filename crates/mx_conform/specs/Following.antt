@@ -1,5 +1,5 @@
 -- Following a trace: its events are done in a cluster of the plan, and what they send is compared.
-use Rattle.std.specs.Prelude.{ℕ, zero, suc, ◌+◌, ◌-◌, ◌&&◌, Bool, true, false, List, [], ◌∷◌, ◌++◌, Option, Some, None, Result, Ok, Err, drop, length, position, remove, slice_get, slice_index, if◌then◌else◌}
+use Rattle.std.specs.Prelude.{ℕ, zero, suc, ◌+◌, ◌-◌, ◌&&◌, Bool, true, false, List, [], ◌∷◌, ◌++◌, Option, Some, None, Result, Ok, Err, drop, length, nat_lt, position, remove, slice_get, slice_index, if◌then◌else◌}
 use Rattle.std.specs.List.{list_all}
 use Rattle.std.specs.Option.{option_map_or}
 use Rattle.mx_nodelaws.specs.Core.{Core}
@@ -83,27 +83,31 @@ is_outcome_at trace k told =
     option_map_or (λ (entry : Entry). is_told entry.outcome told) (slice_get trace k) false
 
 module _ {H S M : Type 0} (core : Core H S M) (parts : M → Parts) (h : Hidden) where
-  -- a parcel, if it is there, is delivered if it is hidden; and what follows goes on
-  abbrev pub passing : ClusterState S M → ℕ → Option (ℕ × ℕ × Parcel M)
-      → (ClusterState S M → ClusterState S M) → ClusterState S M
-  passing g k None go_on = g
-  passing g k (Some parcel) go_on = go_on (if hides parts h parcel then delivered core g k else g)
+  abbrev pub is_hidden : Option (ℕ × ℕ × Parcel M) → Bool
+  is_hidden parcel = option_map_or (hides parts h) parcel false
+
+  -- the k-th parcel is delivered, if it is hidden
+  abbrev pub passed : ℕ → ClusterState S M → ClusterState S M
+  passed k g = if is_hidden (slice_get g.sent k) then delivered core g k else g
 
   -- the hidden parcels among the next n, from number k on, are delivered one after another, with
   -- those that they send in turn
   unfoldable pub flushed : ℕ → ℕ → ClusterState S M → ClusterState S M
   flushed zero k g = g
-  flushed (suc n) k g = passing g k (slice_get g.sent k) (flushed n (k + 1))
+  flushed (suc n) k g = if nat_lt k (length g.sent) then flushed n (k + 1) (passed k g) else g
 
   abbrev pub with_hidden : ℕ → ClusterState S M → ClusterState S M
   with_hidden k = flushed (18446744073709551615 - k) k
 
 module _ {M : Type 0} (parts : M → Parts) (h : Hidden) where
+  -- the number k of a parcel, if the trace has to show it
+  abbrev pub shown_one : ℕ → (ℕ × ℕ × Parcel M) → List ℕ
+  shown_one k parcel = if shows parts h parcel then k ∷ [] else []
+
   -- the numbers of these parcels, from k on, that the trace has to show
   unfoldable pub shown_from : ℕ → List (ℕ × ℕ × Parcel M) → List ℕ
   shown_from k [] = []
-  shown_from k (parcel ∷ parcels) =
-      if shows parts h parcel then k ∷ shown_from (k + 1) parcels else shown_from (k + 1) parcels
+  shown_from k (parcel ∷ parcels) = shown_one k parcel ++ shown_from (k + 1) parcels
 
 -- ---- the messages of an event
 

@@ -8,6 +8,7 @@ use crate::agreement::{is_shown_by, is_told};
 use crate::hidden::{Hidden, is_gossip, is_release};
 use mx_format::Letter;
 use mx_judge::Message;
+use mx_member::SentParcel;
 use mx_network::{Cluster, Event, StepFault};
 use mx_nodelaws::Exclusion;
 use mx_trace::{Entry, Outcome};
@@ -203,12 +204,9 @@ where
         ensures value { result ≡ position
             (spec.is_shown_at C.Msg.parts self.now.cluster.sent message.now) self.now.missing }
     {
-        for (place, number) in self.missing.iter().enumerate() {
-            if is_shown_at(&self.cluster, message, *number) {
-                return Some(place);
-            }
-        }
-        None
+        self.missing
+            .iter()
+            .position(|number| is_shown_at(&self.cluster, message, *number))
     }
 }
 
@@ -235,15 +233,30 @@ where
         (cluster.new ≡ spec.with_hidden C.core C.Msg.parts hidden from cluster.old) }
 {
     for number in from..u64::MAX {
-        let is_hidden = match cluster.sent_parcel(number) {
-            Some(sent) => hidden.hides(&sent),
-            None => return Ok(()),
-        };
-        if is_hidden {
-            deliver(cluster, number)?;
+        if number >= cluster.sent() {
+            return Ok(());
         }
+        deliver_if_hidden(cluster, hidden, number)?;
     }
     Ok(())
+}
+
+/// Delivers a parcel, if it is hidden.
+fn deliver_if_hidden<C: Exclusion>(
+    cluster: &mut Cluster<C>,
+    hidden: Hidden,
+    number: u64,
+) -> Result<(), AllocError>
+where
+    C::Msg: Letter,
+    ensures { OnOk result
+        (cluster.new ≡ spec.passed C.core C.Msg.parts hidden number cluster.old) }
+{
+    match cluster.sent_parcel(number) {
+        Some(sent) if hidden.hides(&sent) => {}
+        _ => return Ok(()),
+    }
+    deliver(cluster, number)
 }
 
 /// Delivers a parcel, if that can be done.
@@ -279,9 +292,24 @@ where
         ++ spec.shown_from C.Msg.parts hidden from (drop from cluster.now.sent)) }
 {
     for (number, sent) in cluster.parcels_from(from) {
-        if hidden.shows(&sent) {
-            shown.push(number)?;
-        }
+        add_shown(hidden, number, &sent, shown)?;
     }
+    Ok(())
+}
+
+/// Appends the number of a parcel, if it is a letter that the trace has to show.
+fn add_shown<M: Letter>(
+    hidden: Hidden,
+    number: u64,
+    sent: &SentParcel<'_, M>,
+    shown: &mut Vec<u64>,
+) -> Result<(), AllocError>
+    ensures { OnOk result (shown.new.items ≡ shown.old.items ++ spec.shown_one M.parts hidden
+        number (sent.now.from, sent.now.to, sent.now.parcel.now)) }
+{
+    if !hidden.shows(sent) {
+        return Ok(());
+    }
+    shown.push(number)?;
     Ok(())
 }
