@@ -20,8 +20,8 @@ use Rattle.mx_picture.specs.TracePictures.{IsTracePictured}
 use Rattle.mx_play.specs.AskedFiles.{AsksStart}
 use Rattle.mx_play.specs.Played.{Plays}
 use Rattle.mx_play.specs.Reasons.{CanBeRead}
-use Rattle.mx_scripts.specs.Printed.{IsOnScript, IsScript}
-use Rattle.mx_scripts.specs.Replayed.{IsReplayedScript}
+use Rattle.mx_event_files.specs.Printed.{IsOnScript, IsScript}
+use Rattle.mx_shown_scripts.specs.Replayed.{IsReplayedScript}
 
 -- What each task does with its files, by what the source states about names, by whether the outputs
 -- take all bytes, and by what is seen of the outputs

@@ -13,6 +13,7 @@ use mx_conform::Conform;
 use mx_count::Count;
 use mx_draw::{Draw, Explore};
 use mx_driver::{Check, Replay};
+use mx_event_files::{OnScript, Script};
 use mx_explain::explain;
 use mx_io::{Output, Source, Store};
 use mx_jobs::Host;
@@ -20,7 +21,7 @@ use mx_judge::Judge;
 use mx_live::run_live;
 use mx_picture::{Picture, PictureScript, TracePicture};
 use mx_play::{Lines, play};
-use mx_scripts::{OnScript, ReplayScript, Script};
+use mx_shown_scripts::ReplayScript;
 use std::alloc::Global;
 
 /// Runs the words of a command line, without the program's name, with all that a process offers:

@@ -25,9 +25,10 @@ use Rattle.mx_draw.specs.Walk.{StepperState, at_first}
 use Rattle.mx_draw.specs.Runs.{after_placed, after_run, next_of, or_stay, ran, schedule_of}
 use Rattle.mx_draw.specs.Drawn.{drawn_events, drawn_file, parcels_in}
 use Rattle.mx_draw.proofs.RunLemmas.{placed, played_run}
-use Rattle.mx_scripts.specs.Played.{events_of, AreReadable, HasSmallNumber}
-use Rattle.mx_scripts.proofs.PlayedLemmas.{noted}
-use Rattle.mx_scripts.proofs.ReadLemmas.{read_back}
+use Rattle.mx_format.specs.Files.{events_of}
+use Rattle.mx_event_files.specs.Played.{AreReadable, HasSmallNumber}
+use Rattle.mx_event_files.proofs.PlayedLemmas.{noted}
+use Rattle.mx_event_files.proofs.ReadLemmas.{read_back}
 
 -- ---- the numbers that are drawn
 

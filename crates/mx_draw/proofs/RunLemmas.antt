@@ -12,13 +12,14 @@ use Rattle.mx_events.specs.declared.event.Event.TheVariants.{Deliver}
 use Rattle.mx_plan.specs.Fields.{Fields}
 use Rattle.mx_plan.specs.declared.shape.Shape.{Shape}
 use Rattle.mx_plan.specs.declared.shape.Shape.TheVariants.{Ricart, Maekawa, Raymond}
-use Rattle.mx_explorer.specs.Drawn.{IsDrawn, after_words, drawn, word}
+use Rattle.mx_events.specs.Arguments.{IsWithin}
+use Rattle.mx_explorer.specs.Drawn.{after_words, drawn, word}
 use Rattle.mx_explorer.specs.Place.{place_of}
-use Rattle.mx_explorer.proofs.DrawnEvents.{event_is_drawn}
+use Rattle.mx_explorer.proofs.DrawnEvents.{event_is_within}
 use Rattle.mx_driver.specs.Runs.{at_rest}
 use Rattle.mx_cli.specs.declared.request.Conditions.{Conditions}
-use Rattle.mx_scripts.specs.Played.{IsPlayed, StaysPlayed}
-use Rattle.mx_scripts.proofs.PlayedLemmas.{played_at_rest, plays_step}
+use Rattle.mx_event_files.specs.Played.{IsPlayed, StaysPlayed}
+use Rattle.mx_event_files.proofs.PlayedLemmas.{played_at_rest, plays_step}
 use Rattle.mx_draw.specs.Walk.{StepperState, at_first, looked}
 use Rattle.mx_draw.specs.Runs.{after_placed, after_run, next_of, or_stay, ran}
 use Rattle.mx_draw.specs.Drawn.{LeadsAs, drawn_events}
@@ -40,20 +41,20 @@ module _ (P : Event → Type 0) (sent : ℕ) (each : (k : ℕ) → P (Deliver (s
 module _ {H S M : Type 0} (core : Core H S M) (nodes registers : ℕ) where
   -- the event of a step names nodes and registers that are there
   step_named : (conditions : Option Conditions) (g : ClusterState S M) (w : StepperState) → 0 < nodes → 0 < registers
-      → IfSome (next_of core conditions g nodes registers w).event (IsDrawn nodes registers)
+      → IfSome (next_of core conditions g nodes registers w).event (IsWithin nodes registers)
   step_named None g w n r =
-      placed (IsDrawn nodes registers) (length g.sent) (λ k. tt) (drawn nodes registers w.words)
-      (event_is_drawn nodes registers (after_words 1 w.words) n r (word w.words % 16))
+      placed (IsWithin nodes registers) (length g.sent) (λ k. (tt, tt)) (drawn nodes registers w.words)
+      (event_is_within nodes registers (after_words 1 w.words) n r (word w.words % 16))
   step_named (Some conditions) g w n r = next_named nodes registers n r core conditions g (looked (length g.sent) w)
 
   -- ---- where they lead
 
-  plays_or_stay : (g : ClusterState S M) (e : Event) (s : Result (ClusterState S M) StepFault) → step_of core g e ≡ s → IsDrawn nodes registers e
+  plays_or_stay : (g : ClusterState S M) (e : Event) (s : Result (ClusterState S M) StepFault) → step_of core g e ≡ s → IsWithin nodes registers e
       → StaysPlayed core nodes registers g (or_stay g s)
   plays_or_stay g e (Err f) is over = λ start played. played
   plays_or_stay g e (Ok new) is over = plays_step core nodes registers g new e is over
 
-  plays_after : (g : ClusterState S M) (o : Option Event) → IfSome o (IsDrawn nodes registers) → StaysPlayed core nodes registers g (after_placed core g o)
+  plays_after : (g : ClusterState S M) (o : Option Event) → IfSome o (IsWithin nodes registers) → StaysPlayed core nodes registers g (after_placed core g o)
   plays_after g None over = λ start played. played
   plays_after g (Some e) over = plays_or_stay g e (step_of core g e) refl over
 

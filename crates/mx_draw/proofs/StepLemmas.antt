@@ -14,7 +14,8 @@ use Rattle.mx_member.specs.Member.{MemberState}
 use Rattle.mx_events.specs.declared.event.Event.{Event}
 use Rattle.mx_events.specs.declared.event.Event.TheVariants.{Deliver}
 use Rattle.mx_network.specs.Step.{ClusterState}
-use Rattle.mx_explorer.specs.Drawn.{IsDrawn, after_words, word}
+use Rattle.mx_events.specs.Arguments.{IsWithin}
+use Rattle.mx_explorer.specs.Drawn.{after_words, word}
 use Rattle.mx_cli.specs.declared.request.Conditions.{Conditions}
 use Rattle.mx_draw.specs.Walk.{Draw, Step, StepperState, act_by, acted, actor, byte_of, chosen, is_delivery, idle_by, is_empty, with_words, inside_by, is_ready_at, member_act, next_step, own_step, repeated, step_by, taken_up, without, ready_from, waiting_by}
 
@@ -33,11 +34,11 @@ module _ (P : Event → Type 0) where
   either_step false x y first second = second
 
 module _ (nodes registers : ℕ) where
-  abbrev Drawn : Event → Type 0
-  Drawn = IsDrawn nodes registers
+  abbrev Within : Event → Type 0
+  Within = IsWithin nodes registers
 
   abbrev Named : Option Event → Type 0
-  Named o = IfSome o Drawn
+  Named o = IfSome o Within
 
   either_node : (b : Bool) (i j : ℕ) → i < nodes → j < nodes → (if b then i else j) < nodes
   either_node true i j first second = first
@@ -46,17 +47,17 @@ module _ (nodes registers : ℕ) where
   module _ (n : 0 < nodes) (r : 0 < registers) where
     idle_named : (k i gapless : ℕ) (g : Lcg) → i < nodes → Named (idle_by k nodes i gapless g).0
     idle_named k i gapless g lt =
-        either Drawn (nat_lt k 2) _ _ lt (either Drawn (nat_eq k 2) _ _ (lt, mod-lt (word g) n) (either Drawn (nat_eq k 3) _ _ lt tt))
+        either Within (nat_lt k 2) _ _ (lt, tt) (either Within (nat_eq k 2) _ _ (lt, (mod-lt (word g) n, tt)) (either Within (nat_eq k 3) _ _ (lt, (tt, tt)) tt))
 
     waiting_named : (k i : ℕ) (may_enter is_calm : Bool) → i < nodes → Named (waiting_by k i may_enter is_calm)
     waiting_named k i may_enter is_calm lt =
-        either_event Drawn (nat_eq k 0) _ _ lt (either_event Drawn may_enter _ _ lt (either_event Drawn (nat_lt k 4 || is_calm) _ _ lt tt))
+        either_event Within (nat_eq k 0) _ _ (lt, tt) (either_event Within may_enter _ _ (lt, tt) (either_event Within (nat_lt k 4 || is_calm) _ _ (lt, tt) tt))
 
     inside_named : (k i : ℕ) (has_gap : Bool) (g : Lcg) → i < nodes → Named (inside_by k nodes registers i has_gap g).0
     inside_named k i has_gap g lt =
-        either Drawn has_gap _ _ (lt, mod-lt (i + 1 + word g % max (nodes - 1) 1) n)
-        (either Drawn (nat_lt k 5) _ _ (lt, mod-lt (word g) r)
-        (either Drawn (nat_lt k 10) _ _ (lt, mod-lt (word g) r) lt))
+        either Within has_gap _ _ (lt, (mod-lt (i + 1 + word g % max (nodes - 1) 1) n, tt))
+        (either Within (nat_lt k 5) _ _ (lt, (mod-lt (word g) r, tt))
+        (either Within (nat_lt k 10) _ _ (lt, (mod-lt (word g) r, (tt, tt))) (lt, tt)))
 
     act_named : (phase : Phase) (i gap : ℕ) (may_enter is_calm : Bool) (g : Lcg) → i < nodes → Named (act_by phase nodes registers i gap may_enter is_calm g).0
     act_named Idle i gap may_enter is_calm g lt = idle_named (word g % 16) i (gap - 1) (after_words 1 g) lt
@@ -82,14 +83,14 @@ module _ (nodes registers : ℕ) where
           node_named (slice_get members (actor core members nodes chance (word g % nodes))) is_calm _ (after_words 1 g) node
 
       -- the event of the next step names nodes and registers that are there
-      pub next_named : (conditions : Conditions) (g : ClusterState S M) (w : StepperState) → IfSome (next_step core conditions g nodes registers w).event (IsDrawn nodes registers)
+      pub next_named : (conditions : Conditions) (g : ClusterState S M) (w : StepperState) → IfSome (next_step core conditions g nodes registers w).event (IsWithin nodes registers)
       next_named conditions g w =
           let after = with_words (after_words 1 w.words) w in
           let k = word w.words in
-          either_step Drawn (nat_lt (byte_of k) conditions.repeat) _ _
-          (either_step Drawn (nat_eq w.seen 0) _ _ tt tt)
-          (either_step Drawn (is_delivery (k % 64) (is_empty w.flying)) _ _
-          (either_event Drawn (nat_lt (byte_of (word (after_words 1 after.words))) conditions.loss) _ _ tt tt)
+          either_step Within (nat_lt (byte_of k) conditions.repeat) _ _
+          (either_step Within (nat_eq w.seen 0) _ _ tt (tt, tt))
+          (either_step Within (is_delivery (k % 64) (is_empty w.flying)) _ _
+          (either_event Within (nat_lt (byte_of (word (after_words 1 after.words))) conditions.loss) _ _ tt (tt, tt))
           (acted_named g.members (is_empty w.flying) (k % 64) after.words))
 
 -- where a parcel is delivered, one is under way

@@ -11,8 +11,8 @@ use Rattle.mx_plan.specs.declared.shape.Shape.{Shape}
 use Rattle.mx_plan.specs.declared.shape.Shape.TheVariants.{Ricart, Maekawa, Raymond}
 use Rattle.mx_driver.specs.Runs.{at_rest}
 use Rattle.mx_cli.specs.Printing.{IsWhole, Report}
-use Rattle.mx_scripts.specs.Files.{file_text}
-use Rattle.mx_scripts.specs.Played.{IsEventFile, events_of}
+use Rattle.mx_format.specs.Files.{file_text, events_of}
+use Rattle.mx_event_files.specs.Played.{IsEventFile}
 use Rattle.mx_draw.specs.Runs.{after_run}
 use Rattle.mx_cli.specs.declared.request.RandomRun.{RandomRun}
 

@@ -3,19 +3,19 @@
 ghost use Rattle.std.specs.Prelude.{◌≡◌, ◌≤◌, ◌^◌, [], Ok, string_bytes, IfOk};
 ghost use Rattle.mx_plan.specs.Events.{events_at};
 ghost use Rattle.mx_plan.specs.Fields.{IsPlan};
-ghost use Rattle.mx_scripts.specs.Files.{file_text};
-ghost use Rattle.mx_scripts.specs.Played.{IsEventFile, IsFileOf, events_of};
+ghost use Rattle.mx_format.specs.Files.{file_text, events_of};
+ghost use Rattle.mx_event_files.specs.Played.{IsEventFile, IsFileOf};
 ghost use Rattle.mx_draw.specs.Runs.{after_run, schedule_of};
 ghost use Rattle.mx_draw.specs.Drawn.{IsDraw, LeadsAs, drawn_events, drawn_file, parcels_in};
 
 use crate::random_run::run;
 use mx_cli::{Command, RandomRun, Stop, print};
 use mx_driver::by_shape;
+use mx_format::file_of;
 use mx_io::Output;
 use mx_network::Cluster;
 use mx_nodelaws::Exclusion;
 use mx_plan::Plan;
-use mx_scripts::file_of;
 use mx_stamps::MAX_EVENTS;
 use std::alloc::{AllocError, Global};
 

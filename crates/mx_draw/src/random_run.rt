@@ -1,7 +1,7 @@
 //! A random run of a number of steps.
 
 ghost use Rattle.std.specs.Prelude.{◌≡◌, ◌<◌, ◌≤◌, length, OnOk};
-ghost use Rattle.mx_scripts.specs.Played.{StaysPlayed};
+ghost use Rattle.mx_event_files.specs.Played.{StaysPlayed};
 ghost use Rattle.mx_draw.specs.Walk.{at_first, state_of};
 ghost use Rattle.mx_draw.specs.Reads.{AddsNoVainRead};
 ghost use Rattle.mx_draw.specs.Runs.{after_placed, after_run, next_of, ran};

@@ -1,6 +1,5 @@
 pub mod RunLemmas
 pub mod SinkLemmas
-pub mod EventLemmas
 pub mod ReplayLemmas
 pub mod ShownLemmas
 pub mod ViewedLemmas

@@ -1,5 +1,5 @@
 -- The texts of events, one after another.
-use Rattle.std.proofs.Common.{◌≡◌, ◌∙◌, ℕ, zero, suc, ◌+◌, ◌<◌, ◌≤◌, Bool, true, false, List, [], ◌∷◌, ◌++◌, length, take, drop, get_or, ap, sym, refl, append_assoc, Result, Ok, Err, subst, inl, inr, arith}
+use Rattle.std.proofs.Common.{◌≡◌, ◌∙◌, ℕ, ◌+◌, ◌<◌, ◌≤◌, Bool, true, false, List, [], ◌∷◌, ◌++◌, length, take, drop, get_or, ap, sym, refl, append_assoc, Result, Ok, Err, subst, inl, inr, arith}
 use Rattle.std.specs.Bool.{⊤}
 use Rattle.std.specs.Io.KnownBytes.{Appends, Keeps}
 use Rattle.std.specs.List.{concat}
@@ -23,7 +23,8 @@ use Rattle.mx_cli.specs.declared.faults.Fault.TheVariants.{NoParcel}
 use Rattle.mx_io.specs.declared.output.OutputFault.{OutputFault}
 use Rattle.mx_io.specs.declared.output.OutputFault.TheVariants as output_fault
 use Rattle.mx_cli.proofs.OutputLemmas.{appends_more, some_keeps}
-use Rattle.mx_driver.specs.Runs.{AllNameNodes, NamesNodes, StopsAt, Texts, after_texts, at_rest, report_from, stepped}
+use Rattle.mx_events.specs.Arguments.{IsWithin}
+use Rattle.mx_driver.specs.Runs.{StopsAt, Texts, after_texts, at_rest, report_from, stepped}
 use Rattle.mx_driver.specs.Sinks.{IsTold, SinkTells}
 use Rattle.mx_io.specs.Outputs.{refused_by}
 use Rattle.mx_cli.specs.Printing.{AppendsSome, Course, End, IsReport, Prints, Report, ShowsOne, Sight, comes_to, course_of, ends, has_fault, refused_on, stop_of, whole}
@@ -41,21 +42,16 @@ grows {H} {S} {M} core g new e step =
     )
 
 -- an event of nodes of the plan
-pub has_nodes : {S M : Type 0} (g : ClusterState S M) (e : Event) → NamesNodes (length g.members) e → NamesNoNode g e → ⊥
-has_nodes g (event.Want i j) lt (inl le) = let h = lt.0 in absurd (omega (arith, h, le))
-has_nodes g (event.Want i j) lt (inr le) = let h = lt.1 in absurd (omega (arith, h, le))
-has_nodes g (event.Deliver k) lt le = le
-has_nodes g _ lt le = absurd (omega (arith, lt, le))
+pub has_nodes : {S M : Type 0} (g : ClusterState S M) (e : Event) (registers : ℕ) → IsWithin (length g.members) registers e → NamesNoNode g e → ⊥
+has_nodes g (event.Want i j) registers lt (inl le) = let h = lt.0 in absurd (omega (arith, h, le))
+has_nodes g (event.Want i j) registers lt (inr le) = let h = lt.1.0 in absurd (omega (arith, h, le))
+has_nodes g (event.Deliver k) registers lt le = le
+has_nodes g _ registers lt le = let h = lt.0 in absurd (omega (arith, h, le))
 
 -- an event that stops a run delivers a parcel that was not sent
 pub stops_without : {G : Type 0} (k : ℕ) (wanted : Result G StepFault) → IsFaultOf wanted step_fault.NoParcel → StopsAt k wanted (stop.Fault (NoParcel k))
 stops_without k wanted (inl memory) = let bad : step_fault.NoParcel ≡ step_fault.Memory = memory.0 in cc
 stops_without k wanted (inr none) = inr (refl, none)
-
-pub named_at : (n : ℕ) (es : List Event) (k : ℕ) (d : Event) → AllNameNodes n es → k < length es → NamesNodes n (get_or es k d)
-named_at n [] k d all lt = absurd (omega (arith, lt))
-named_at n (e ∷ es) zero d all lt = all.0
-named_at n (e ∷ es) (suc k) d all lt = named_at n es k d all.1 (omega (arith, lt))
 
 -- a list that ends by an item has one
 pub has_newest : (xs front : List Entry) (x : Entry) → xs ≡ front ++ x ∷ [] → 0 < length xs

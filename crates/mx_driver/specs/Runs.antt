@@ -1,12 +1,10 @@
 -- What is printed of a run of events, for any algorithm.
-use Rattle.std.specs.Prelude.{ℕ, ◌≡◌, ◌⊎◌, ◌+◌, ◌<◌, ⊤, IfSome, List, [], ◌∷◌, ◌++◌, Result, Ok, Err, length, drop}
+use Rattle.std.specs.Prelude.{ℕ, ◌≡◌, ◌⊎◌, ◌+◌, List, [], ◌∷◌, ◌++◌, Result, Ok, Err, length, drop}
 use Rattle.mx_stamps.specs.Lists.{each_below}
 use Rattle.mx_nodelaws.specs.Core.{Core}
 use Rattle.mx_member.specs.Steps.{start_of}
 use Rattle.mx_network.specs.Step.{ClusterState, step_of}
-use Rattle.mx_events.specs.Events.{node_of}
 use Rattle.mx_events.specs.declared.event.Event.{Event}
-use Rattle.mx_events.specs.declared.event.Event.TheVariants.{Want}
 use Rattle.mx_network.specs.declared.faults.StepFault.{StepFault}
 use Rattle.mx_network.specs.declared.faults.StepFault.TheVariants as step_fault
 use Rattle.mx_trace.specs.declared.outcome.Entry.{Entry}
@@ -26,15 +24,6 @@ use Rattle.mx_explorer.specs.VerdictLines.{verdict_line}
 -- these texts, and then those of a report
 abbrev pub after_texts : List Text → Report → Report
 after_texts texts r = record { texts = texts ++ r.texts; end = r.end }
-
--- the event names only nodes below n
-abbrev pub NamesNodes : ℕ → Event → Type 0
-NamesNodes n (Want node other) = (node < n) × (other < n)
-NamesNodes n e = IfSome (node_of e) (λ node. node < n)
-
-abbrev pub AllNameNodes : ℕ → List Event → Type 0
-AllNameNodes n [] = ⊤
-AllNameNodes n (e ∷ es) = NamesNodes n e × AllNameNodes n es
 
 -- event k did not happen: it delivers a parcel that was not sent, or memory ran out
 abbrev pub StopsAt : {G : Type 0} → ℕ → Result G StepFault → Stop → Type 0

@@ -1,10 +1,11 @@
 //! The driver: applies the events of a plan in order, and lets a sink print each, or only see it.
 
-ghost use Rattle.std.specs.Prelude.{◌≡◌, [], length, string_bytes, OnOk, IfErr, true, false};
+ghost use Rattle.std.specs.Prelude.{◌≡◌, ℕ, [], length, string_bytes, OnOk, IfErr, true, false};
 ghost use Rattle.mx_network.specs.Step.{step_of};
 ghost use Rattle.mx_cli.specs.Printing.{IsReport, Prints, null_output, sight};
 ghost use Rattle.mx_driver.specs.Jobs.{run_by};
-ghost use Rattle.mx_driver.specs.Runs.{AllNameNodes, NamesNodes, StopsAt, report_from};
+ghost use Rattle.mx_events.specs.Arguments.{AreEventsWithin, IsWithin};
+ghost use Rattle.mx_driver.specs.Runs.{StopsAt, report_from};
 ghost use Rattle.mx_driver.specs.Sinks.{IsTold, IsToldBy, report_by};
 
 use crate::by_shape;
@@ -35,7 +36,7 @@ pub fn drive<K, O: Output>(
 ) -> Result<u8, Stop>
 where
     K: Sink<Cluster<Ricart>> + Sink<Cluster<Maekawa>> + Sink<Cluster<Raymond>>,
-    requires { AllNameNodes (length plan.now.nodes) events.now }
+    requires { AreEventsWithin (length plan.now.nodes) (length plan.now.registers) events.now }
     ensures prints { Prints (IsReport (report_by (record {
       ricart = ⟦<K as Sink<Cluster<Ricart>>>⟧.texts sink.old plan.now;
       maekawa = ⟦<K as Sink<Cluster<Maekawa>>>⟧.texts sink.old plan.now;
@@ -64,7 +65,7 @@ fn drive_events<C: Exclusion, K: Sink<Cluster<C>>, O: Output>(
     out: &mut O,
 ) -> Result<u8, Stop>
     requires members { length cluster.members ≡ length plan.now.nodes }
-    requires named { AllNameNodes (length plan.now.nodes) events.now }
+    requires named { AreEventsWithin (length plan.now.nodes) (length plan.now.registers) events.now }
     ensures prints { Prints (IsReport
         (report_from C.core (K.texts sink.old plan.now) 0 cluster events.now))
         (sight O.Output out.old) (sight O.Output out.new) result }
@@ -100,7 +101,7 @@ fn drive_event<C: Exclusion, K: Sink<Cluster<C>>>(
     sink: &mut K,
     text: &mut String,
 ) -> Result<(), Stop>
-    requires named { NamesNodes (length cluster.old.members) event.now }
+    requires named { IsWithin (length cluster.old.members) (length plan.now.registers) event.now }
     requires empty { string_bytes text.old ≡ [] }
     ensures ok { OnOk result (step_of C.core cluster.old event.now ≡ Ok cluster.new) }
     ensures text { OnOk result (string_bytes text.new
@@ -118,7 +119,7 @@ fn drive_event<C: Exclusion, K: Sink<Cluster<C>>>(
 
 /// Applies the event of this index.
 fn apply<C: Exclusion>(index: u64, event: &Event, cluster: &mut Cluster<C>) -> Result<(), Stop>
-    requires named { NamesNodes (length cluster.old.members) event.now }
+    requires named { (registers : ℕ) × IsWithin (length cluster.old.members) registers event.now }
     ensures ok { OnOk result (step_of C.core cluster.old event.now ≡ Ok cluster.new) }
     ensures err { IfErr result (StopsAt index (step_of C.core cluster.old event.now)) }
 {
@@ -161,7 +162,7 @@ impl Output for NullOutput {
 pub fn observe<K>(alloc: Global, plan: &Plan, events: &[Event], sink: &mut K) -> Result<u8, Stop>
 where
     K: Sink<Cluster<Ricart>> + Sink<Cluster<Maekawa>> + Sink<Cluster<Raymond>>,
-    requires { AllNameNodes (length plan.now.nodes) events.now }
+    requires { AreEventsWithin (length plan.now.nodes) (length plan.now.registers) events.now }
     ensures prints { Prints (IsReport (run_by plan.now plan.now.shape events.now))
         null_output null_output result }
     ensures told { OnOk result (IsToldBy (record {

@@ -3,7 +3,7 @@
 ghost use Rattle.std.specs.Prelude.{IfOk, length, option_map, string_bytes};
 ghost use Rattle.mx_cli.specs.Printing.{Prints, sight};
 ghost use Rattle.mx_cli.specs.Requests.{view_of};
-ghost use Rattle.mx_driver.specs.Runs.{AllNameNodes};
+ghost use Rattle.mx_events.specs.Arguments.{AreEventsWithin};
 ghost use Rattle.mx_driver.specs.Viewed.{IsFound, IsReplayed, IsShown, IsUnknownLine};
 
 use crate::driver::drive;
@@ -45,7 +45,7 @@ fn show<O: Output>(
     events: &[Event],
     out: &mut O,
 ) -> Result<u8, Stop>
-    requires { AllNameNodes (length plan.now.nodes) events.now }
+    requires { AreEventsWithin (length plan.now.nodes) (length plan.now.registers) events.now }
     ensures prints { Prints (IsShown (view_of options.now) plan.now events.now)
         (sight O.Output out.old) (sight O.Output out.new) result }
 {

@@ -1,6 +1,7 @@
 -- The arguments that an event requires after its word, and those that it has.
 use Rattle.std.specs.Prelude.{ℕ, ◌<◌, ◌&&◌, ⊤, Bool, true, false, List, [], ◌∷◌, Option, Some, None, option_map}
 use Rattle.std.specs.Option.{option_and_then}
+use Rattle.mx_stamps.specs.Lists.{IsIn}
 use Rattle.mx_events.specs.declared.argument.Argument.{Argument}
 use Rattle.mx_events.specs.declared.argument.Argument.TheVariants as argument
 use Rattle.mx_events.specs.declared.argument.ArgumentKind.{ArgumentKind}
@@ -100,3 +101,7 @@ AreWithin nodes registers (a ∷ others) =
 -- the event names only nodes below `nodes` and registers below `registers`
 abbrev pub IsWithin : ℕ → ℕ → Event → Type 0
 IsWithin nodes registers e = AreWithin nodes registers (given e)
+
+-- each of these events does
+abbrev pub AreEventsWithin : ℕ → ℕ → List Event → Type 0
+AreEventsWithin nodes registers es = (e : Event) → IsIn e es → IsWithin nodes registers e

@@ -8,7 +8,7 @@ use Rattle.mx_cli.specs.Printing.{Course, End, Report, comes_to, has_fault, has_
 use Rattle.mx_cli.specs.Reports.{Seen}
 use Rattle.mx_cli.specs.Requests.{text_of}
 use Rattle.mx_driver.specs.Commands.{IsCheck, IsReplay}
-use Rattle.mx_scripts.specs.Printed.{IsScript}
+use Rattle.mx_event_files.specs.Printed.{IsScript}
 use Rattle.mx_explain.specs.Reports.{AreShown, last_line, nothing_at_fault}
 use Rattle.mx_explain.specs.declared.explanation.ExplainedFiles.{ExplainedFiles}
 

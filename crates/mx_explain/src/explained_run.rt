@@ -11,9 +11,9 @@ use crate::explanation::ExplainedFiles;
 use crate::notes::Notes;
 use mx_cli::{FileNames, Files, Named, Stop, fetch_both, run_files, stop_for};
 use mx_driver::{Check, NullOutput, observe};
+use mx_event_files::run_script;
 use mx_io::Source;
 use mx_plan::{Needs, Plan, read_events};
-use mx_scripts::run_script;
 use std::alloc::Global;
 
 /// Carries out what is explained, and notes its events. Ends as the command does over an output

@@ -1,17 +1,9 @@
 -- Events drawn from the words of a generator.
-use Rattle.std.specs.Prelude.{ℕ, zero, suc, ◌<◌, ◌%◌, List, [], ◌∷◌, IfSome, nat_lt, if◌then◌else◌}
+use Rattle.std.specs.Prelude.{ℕ, zero, suc, ◌%◌, List, [], ◌∷◌, nat_lt, if◌then◌else◌}
 use Rattle.rand_pcg.specs.Lcg.{Lcg}
 use Rattle.rand_pcg.specs.Pcg.{pcg32}
-use Rattle.mx_events.specs.Events.{node_of}
 use Rattle.mx_events.specs.declared.event.Event.{Event}
 use Rattle.mx_events.specs.declared.event.Event.TheVariants.{Ask, Enter, Read, Write, Leave, Cancel, Tick, Want, Settle, Deliver, Restart}
-
--- the event names only nodes below `nodes` and registers below `registers`
-abbrev pub IsDrawn : ℕ → ℕ → Event → Type 0
-IsDrawn nodes registers (Read i register) = (i < nodes) × (register < registers)
-IsDrawn nodes registers (Write i register value) = (i < nodes) × (register < registers)
-IsDrawn nodes registers (Want i j) = (i < nodes) × (j < nodes)
-IsDrawn nodes registers e = IfSome (node_of e) (λ i. i < nodes)
 
 -- the next word (32-bit number) of a generator, and (below) the generator after this many words
 abbrev pub word : Lcg → ℕ

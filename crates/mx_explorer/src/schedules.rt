@@ -1,8 +1,8 @@
 //! Schedules (lists of events), drawn at random from a seed.
 
 ghost use Rattle.std.specs.Prelude.{◌≡◌, ◌<◌, ◌≤◌, ◌%◌, IfOk, length, vec_len};
-ghost use Rattle.mx_stamps.specs.Lists.{IsIn};
-ghost use Rattle.mx_explorer.specs.Drawn.{IsDrawn, after_drawn, after_words, arguments, drawn, drawn_list, event_by, word};
+ghost use Rattle.mx_events.specs.Arguments.{AreEventsWithin};
+ghost use Rattle.mx_explorer.specs.Drawn.{after_drawn, after_words, arguments, drawn, drawn_list, event_by, word};
 ghost use Rattle.mx_explorer.specs.Weather.{generator_of};
 
 use mx_plan::Plan;
@@ -22,8 +22,8 @@ pub fn schedule(alloc: Global, seed: u64, steps: u64, plan: &Plan) -> Result<Vec
     ensures value { IfOk result (λ v. v.items ≡ drawn_list steps (length plan.now.nodes)
         (length plan.now.registers) (generator_of seed)) }
     ensures count { IfOk result (λ v. vec_len v ≡ steps) }
-    ensures named { IfOk result (λ v. (e : Event) → IsIn e v.items
-        → IsDrawn (length plan.now.nodes) (length plan.now.registers) e) }
+    ensures named { IfOk result (λ v.
+        AreEventsWithin (length plan.now.nodes) (length plan.now.registers) v.items) }
 {
     let (nodes, registers) = (plan.nodes(), plan.registers());
     let mut words = Pcg32::seed_from_u64(seed);

@@ -2,3 +2,4 @@ pub mod Places
 pub mod NodeLemmas
 pub mod PlanLemmas
 pub mod FactLemmas
+pub mod FileLemmas

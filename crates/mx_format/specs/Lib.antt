@@ -8,6 +8,7 @@ pub mod Words
 pub mod Members
 pub mod EventJson
 pub mod EventArrays
+pub mod Files
 pub mod LetterTexts
 pub mod Parts
 pub mod ParcelTexts

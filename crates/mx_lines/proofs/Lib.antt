@@ -1,3 +1,4 @@
 pub mod EscapeLemmas
 mod NumberLemmas
 mod SideLemmas
+pub mod WithinLemmas

@@ -1,12 +1,9 @@
 -- What becomes of a parcel. One is overtaken if a later one from the same node to the same was
 -- delivered.
-use Rattle.std.specs.Prelude.{ℕ, ◌+◌, ◌*◌, Bool, List, Option, None, Some, if◌then◌else◌, max, nat_lt, replicate, slice_index_or, slice_set}
+use Rattle.std.specs.Prelude.{ℕ, Bool, List, Option, None, Some, if◌then◌else◌, max, nat_lt, replicate, slice_index_or, slice_set}
+use Rattle.mx_stamps.specs.Links.{link_of}
 use Rattle.mx_picture.specs.declared.fates.Fate.{Fate}
 use Rattle.mx_picture.specs.declared.fates.Fate.TheVariants.{Overtaken, UnderWay}
-
--- the index of the link from one node to another, in lists of the links between 21 nodes
-abbrev pub link_of : ℕ → ℕ → ℕ
-link_of from to = from * 21 + to
 
 -- for each link, the greatest number of a delivered parcel, or 0: at first
 abbrev pub none_delivered : List ℕ

@@ -4,9 +4,9 @@ ghost use Rattle.std.specs.Prelude.{length};
 ghost use Rattle.mx_cli.specs.Printing.{Prints, sight};
 ghost use Rattle.mx_cli.specs.Requests.{part_of};
 ghost use Rattle.mx_driver.specs.Jobs.{run_by};
-ghost use Rattle.mx_driver.specs.Runs.{AllNameNodes};
+ghost use Rattle.mx_events.specs.Arguments.{AreEventsWithin};
 ghost use Rattle.mx_picture.specs.Pictures.{DrawsEvents, IsPartOf, IsPictured, IsRunDrawn};
-ghost use Rattle.mx_scripts.specs.Printed.{IsOnScript};
+ghost use Rattle.mx_event_files.specs.Printed.{IsOnScript};
 
 use crate::drawing::Drawing;
 use crate::losses::Losses;
@@ -15,10 +15,10 @@ use crate::page::page_of;
 use crate::part::ShownPart;
 use mx_cli::{Command, PicturePart, Stop, print};
 use mx_driver::{node_in, observe};
+use mx_event_files::file_of_bytes;
 use mx_io::Output;
 use mx_network::Event;
 use mx_plan::{Plan, read_events};
-use mx_scripts::file_of_bytes;
 use std::alloc::Global;
 
 /// `picture`: a picture of the outcomes of the events that the text lists.
@@ -92,7 +92,7 @@ fn draw<O: Output>(
     losses: Losses,
     out: &mut O,
 ) -> Result<u8, Stop>
-    requires { AllNameNodes (length plan.now.nodes) events.now }
+    requires { AreEventsWithin (length plan.now.nodes) (length plan.now.registers) events.now }
     ensures prints { Prints (IsRunDrawn (part_of picture.now.part) plan.now events.now)
         (sight O.Output out.old) (sight O.Output out.new) result }
 {
@@ -130,7 +130,7 @@ fn print_picture<O: Output>(
     losses: Losses,
     out: &mut O,
 ) -> Result<u8, Stop>
-    requires { AllNameNodes (length plan.now.nodes) events.now }
+    requires { AreEventsWithin (length plan.now.nodes) (length plan.now.registers) events.now }
     ensures prints { Prints (DrawsEvents plan.now events.now
         (run_by plan.now plan.now.shape events.now).end)
         (sight O.Output out.old) (sight O.Output out.new) result }

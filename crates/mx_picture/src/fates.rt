@@ -2,16 +2,13 @@
 
 ghost use Rattle.std.specs.Prelude.{◌≡◌, ◌<◌, nat_eq};
 ghost use Rattle.std.specs.HashMap.{get};
-ghost use Rattle.mx_picture.specs.Fates.{fate_of, is_overtaken, link_of, none_delivered, with_delivery};
+ghost use Rattle.mx_picture.specs.Fates.{fate_of, is_overtaken, none_delivered, with_delivery};
 
 use crate::sent::Route;
 use mx_events::Event;
-use mx_stamps::{MAX_NODES, NodeId};
+use mx_stamps::{LINKS, link};
 use std::alloc::{AllocError, Global};
 use std::collections::HashMap;
-
-/// The number of links in the greatest cluster: one from each node to each, itself included.
-const LINKS: usize = 441;
 
 /// What becomes of a parcel.
 #[derive(Clone, Copy, PartialEq)]
@@ -33,13 +30,6 @@ pub(crate) struct KnownFates {
     known: HashMap<u64, Fate>,
     /// For each link, the greatest flight that was delivered so far, or 0.
     newest: [u64; LINKS],
-}
-
-fn link(from: NodeId, to: NodeId) -> usize
-    ensures value { result ≡ link_of from to }
-    ensures below { result < 441 }
-{
-    usize::from(from.get()) * usize::from(MAX_NODES) + usize::from(to.get())
 }
 
 impl KnownFates {

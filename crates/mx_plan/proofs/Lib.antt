@@ -4,3 +4,4 @@ pub mod TextLemmas
 pub mod NameLemmas
 pub mod PlanLemmas
 pub mod EventLemmas
+pub mod WithinLemmas

@@ -1,5 +1,6 @@
 ghost use Rattle.std.specs.Prelude.{◌≡◌, ◌≤◌, ◌∷◌, IfErr, IfOk, IsTrue, Err, Ok, length, map};
 ghost use Rattle.serde_json.specs.View.{view};
+ghost use Rattle.mx_events.specs.Arguments.{AreEventsWithin};
 ghost use Rattle.mx_plan.specs.Values.{Gives};
 ghost use Rattle.mx_plan.specs.NameLists.{number_in};
 ghost use Rattle.mx_plan.specs.Events as spec;
@@ -28,7 +29,9 @@ use std::alloc::Global;
 /// of an event is checked before its names. A list of more than 1,000,000 events is refused at
 /// event 1,000,000, before its events are read. Returns `Memory` if memory runs out.
 pub fn read_events(alloc: Global, text: &[u8], plan: &Plan) -> Result<Vec<Event>, PlanFault>
-    ensures { Gives (spec.events_at plan.now text.now) result }
+    ensures gives { Gives (spec.events_at plan.now text.now) result }
+    ensures within { IfOk result (λ events. AreEventsWithin (length plan.now.nodes)
+        (length plan.now.registers) events.items) }
 {
     let value = parse(alloc, text)?;
     events_in(alloc, &value, plan)

@@ -16,7 +16,8 @@ use Rattle.mx_lines.specs.declared.errors.OwnWord.{OwnWord}
 use Rattle.mx_lines.specs.declared.errors.OwnWord.TheVariants.{Show, Undo, Redo, Events, Script, Save, Mark, Help, End}
 use Rattle.mx_lines.specs.declared.line.ScriptLine.{ScriptLine}
 use Rattle.mx_lines.specs.declared.line.ScriptLine.TheVariants as script_line
-use Rattle.mx_scripts.proofs.OverLemmas.{any, IsLineOver, line_over, LineOver, or_wrong, passed}
+use Rattle.mx_lines.proofs.WithinLemmas.{any, line_within, LineWithin, or_wrong, passed}
+use Rattle.mx_lines.specs.Within.{IsLineWithin}
 use Rattle.mx_plan.specs.Fields.{Fields}
 use Rattle.mx_play.specs.Commands.{IsOverPlan}
 
@@ -62,7 +63,7 @@ module _ (p : Fields) where
   own_over word [] = alone_over word
   own_over word (text ∷ more) = one_over word text (length more == 0)
 
-  doing_over : (read : ScriptLine) → IsLineOver (length names.nodes) (length names.registers) read → Over (doing read)
+  doing_over : (read : ScriptLine) → IsLineWithin (length names.nodes) (length names.registers) read → Over (doing read)
   doing_over (script_line.Does line) h = h
   doing_over script_line.Expects h = tt
   doing_over script_line.Nothing h = tt
@@ -76,8 +77,8 @@ module _ (p : Fields) where
   command_over [] = tt
   command_over (word ∷ arguments) =
       either_over (own_word word) _ _ (λ own. own_over own arguments)
-      (passed (LineOver names) Over (line_of names (word ∷ arguments)) _
-      (line_over names (word ∷ arguments)) doing_over)
+      (passed (LineWithin names) Over (line_of names (word ∷ arguments)) _
+      (line_within names (word ∷ arguments)) doing_over)
 
   -- what the words of a line ask for is over the names
   pub input_over : (words : List Text) (command : SessionCommand)

@@ -1,32 +1,29 @@
 -- What lines make of a session.
-use Rattle.std.proofs.Common.{◌≡◌, ◌≤◌, ◌-◌, ◌∙◌, ◌⊎◌, ℕ, zero, suc, List, [], ◌∷◌, ◌++◌, length, take, drop, refl, sym, ap, ap₂, subst, append_assoc, arith, inl, inr, Vec}
+use Rattle.std.proofs.Common.{◌≡◌, ◌≤◌, ◌-◌, ◌∙◌, ℕ, zero, suc, List, [], ◌∷◌, ◌++◌, length, take, drop, refl, sym, ap, ap₂, subst, append_assoc, arith, inl, inr, Vec}
 use Rattle.std.specs.declared.alloc.Global.{Global}
 use Rattle.std.proofs.lemmas.Grind.{flat_map-append}
-use Rattle.std.specs.Prelude.{string_bytes}
+use Rattle.std.specs.Prelude.{string_bytes, codes}
 use Rattle.std.specs.Str.{IsUtf8, trim}
-use Rattle.mx_stamps.specs.Lists.{IsIn}
 use Rattle.mx_stamps.proofs.Lists.{append_nil}
 use Rattle.mx_nodelaws.specs.Core.{Core}
-use Rattle.mx_events.specs.declared.event.Event.{Event}
-use Rattle.mx_explorer.specs.Drawn.{IsDrawn}
+use Rattle.mx_events.proofs.WithinLemmas.{more_within, none_within}
+use Rattle.mx_events.specs.Arguments.{AreEventsWithin}
 use Rattle.mx_lines.specs.declared.line.Line.{Line}
 use Rattle.mx_lines.specs.declared.orders.Order.{Order}
 use Rattle.mx_plan.specs.Text.{Text}
 use Rattle.mx_plan.specs.Fields.{Fields}
 use Rattle.mx_driver.proofs.RunLemmas.{members_at_rest}
 use Rattle.mx_scripts.specs.Lines.{Performs, Repeats}
-use Rattle.mx_scripts.specs.Played.{AreOver}
-use Rattle.mx_scripts.specs.Scripts.{IsOver}
-use Rattle.mx_scripts.specs.States.{IsDrawnOf, RunState}
+use Rattle.mx_lines.specs.Within.{IsOrderWithin}
+use Rattle.mx_scripts.specs.States.{IsEventWithin, RunState}
 use Rattle.mx_scripts.specs.Told.{IsTold}
 use Rattle.mx_scripts.specs.declared.state.SessionEvent.{SessionEvent}
 use Rattle.mx_scripts.specs.declared.state.SessionEvent.TheVariants.{Happens, IsLost, LinksChange}
-use Rattle.mx_scripts.proofs.LineLemmas.{next_drawn}
+use Rattle.mx_scripts.proofs.LineLemmas.{next_within}
 use Rattle.mx_play.specs.Histories.{CanLead, Leads, Makes, events_in, first_state}
 use Rattle.mx_play.specs.Sessions.{AddsOne, IsSession, SessionState, Undone, all_lines, at_start, line_events, undone_in}
 use Rattle.mx_play.specs.Executions.{IsDone, IsRedone, IsUndone, line_text}
 use Rattle.mx_play.specs.Printed.{steps_text}
-use Rattle.std.specs.Prelude.{codes}
 use Rattle.mx_play.specs.declared.printed_events.PrintedEvents.{PrintedEvents}
 use Rattle.mx_play.specs.declared.session.DoneLine.{DoneLine}
 use Rattle.mx_play.proofs.HistoryLemmas.{Adds, leads_append, leads_members, leads_one, leads_split, makes_leads, told_adds}
@@ -35,40 +32,33 @@ use Rattle.mx_play.proofs.HistoryLemmas.{Adds, leads_append, leads_members, lead
 
 module _ (nodes registers : ℕ) where
   abbrev Over : List SessionEvent → Type 0
-  Over es = AreOver nodes registers (events_in es)
-
-  over_in : (e f : Event) (es : List Event) → IsDrawn nodes registers e → AreOver nodes registers es → (f ≡ e) ⊎ IsIn f es → IsDrawn nodes registers f
-  over_in e f es drawn over (inl is) = subst (λ (x : Event). IsDrawn nodes registers x) (sym is) drawn
-  over_in e f es drawn over (inr h) = over f h
-
-  over_more : (e : Event) (es : List Event) → IsDrawn nodes registers e → AreOver nodes registers es → AreOver nodes registers (e ∷ es)
-  over_more e es drawn over = λ f h. over_in e f es drawn over h
+  Over es = AreEventsWithin nodes registers (events_in es)
 
   pub over_none : Over []
-  over_none = λ f h. absurd h
+  over_none = none_within nodes registers
 
-  over_cons : (e : SessionEvent) (es : List SessionEvent) → IsDrawnOf nodes registers e → Over es → Over (e ∷ es)
-  over_cons (Happens e) es drawn over = over_more e (events_in es) drawn over
+  over_cons : (e : SessionEvent) (es : List SessionEvent) → IsEventWithin nodes registers e → Over es → Over (e ∷ es)
+  over_cons (Happens e) es drawn over = more_within nodes registers e (events_in es) drawn over
   over_cons (IsLost k) es drawn over = over
   over_cons (LinksChange change) es drawn over = over
 
   over_append : (es fs : List SessionEvent) → Over es → Over fs → Over (es ++ fs)
   over_append [] fs x y = y
-  over_append (Happens e ∷ es) fs x y = over_more e (events_in (es ++ fs)) (x e (inl refl)) (over_append es fs (λ f h. x f (inr h)) y)
+  over_append (Happens e ∷ es) fs x y = more_within nodes registers e (events_in (es ++ fs)) (x e (inl refl)) (over_append es fs (λ f h. x f (inr h)) y)
   over_append (IsLost k ∷ es) fs x y = over_append es fs x y
   over_append (LinksChange change ∷ es) fs x y = over_append es fs x y
 
   over_first : (es fs : List SessionEvent) → Over (es ++ fs) → Over es
   over_first [] fs x = over_none
-  over_first (Happens e ∷ es) fs x = over_more e (events_in es) (x e (inl refl)) (over_first es fs (λ f h. x f (inr h)))
+  over_first (Happens e ∷ es) fs x = more_within nodes registers e (events_in es) (x e (inl refl)) (over_first es fs (λ f h. x f (inr h)))
   over_first (IsLost k ∷ es) fs x = over_first es fs x
   over_first (LinksChange change ∷ es) fs x = over_first es fs x
 
-  module _ {H S M : Type 0} (core : Core H S M) (o : Order) (of : IsOver nodes registers o) where
+  module _ {H S M : Type 0} (core : Core H S M) (o : Order) (of : IsOrderWithin nodes registers o) where
     performs_over : (done : ℕ) (es : List SessionEvent) (old new : RunState S M) → Performs core o done old es new → Over es
     performs_over done [] old new x = over_none
     performs_over done (e ∷ es) old new x =
-        over_cons e es (next_drawn old.fates old.cluster.sent nodes registers o done e of x.1) (performs_over (suc done) es x.0 new x.4)
+        over_cons e es (next_within old.fates old.cluster.sent nodes registers o done e of x.1) (performs_over (suc done) es x.0 new x.4)
 
     repeats_over : (times : ℕ) (es : List SessionEvent) (old new : RunState S M) → Repeats core o times old es new → Over es
     repeats_over zero es old new x = subst (λ (l : List SessionEvent). Over l) (sym x.1) over_none
@@ -110,7 +100,7 @@ module _ {H S M : Type 0} (core : Core H S M) (p : Fields) (shape : H) where
   G = IsSession core p shape
 
   abbrev O : List SessionEvent → Type 0
-  O es = AreOver (length p.nodes) (length p.registers) (events_in es)
+  O es = AreEventsWithin (length p.nodes) (length p.registers) (events_in es)
 
   -- lines, and then others
   parts : (xs ys : List DoneLine) (old last : RunState S M) → Leads core old (line_events (xs ++ ys)) last → (mid : RunState S M) × Leads core old (line_events xs) mid × Leads core mid (line_events ys) last
@@ -196,7 +186,7 @@ module _ {H S M : Type 0} (core : Core H S M) (p : Fields) (shape : H) where
   same_holds a b same g = subst G (sym same) g
 
   module _ (letter_text : Fields → M → Text) (line : Line) (from : Text) (a c : SessionState S M) (now : RunState S M) (last : DoneLine) (es : List SessionEvent) (start printed : PrintedEvents) (t t' : Text)
-      (over : IsOver (length p.nodes) (length p.registers) line.order) (repeats : Repeats core line.order line.times a.state es now) (told : IsTold core (AddsOne core letter_text p) es a.state now start printed)
+      (over : IsOrderWithin (length p.nodes) (length p.registers) line.order) (repeats : Repeats core line.order line.times a.state es now) (told : IsTold core (AddsOne core letter_text p) es a.state now start printed)
       (no_events : start.events.items ≡ []) (no_text : string_bytes start.text ≡ []) (empty : t ≡ [])
       (state : c.state ≡ now) (typed : IsUtf8 from → string_bytes last.text ≡ trim from) (done : last.events ≡ printed.events) (lines : c.lines ≡ a.lines ++ last ∷ []) (undone : c.undone ≡ [])
       (text : t' ≡ t ++ line_text printed.events.items (string_bytes printed.text)) where

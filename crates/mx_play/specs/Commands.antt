@@ -10,7 +10,7 @@ use Rattle.mx_lines.specs.declared.commands.SessionCommand.TheVariants.{Does, En
 use Rattle.mx_lines.specs.declared.errors.LineError.{LineError}
 use Rattle.mx_plan.specs.Text.{Text}
 use Rattle.mx_plan.specs.Fields.{Fields}
-use Rattle.mx_scripts.specs.Scripts.{IsOver}
+use Rattle.mx_lines.specs.Within.{IsOrderWithin}
 use Rattle.mx_scripts.specs.declared.line_failure.LineFailure.TheVariants.{WrongWord}
 use Rattle.mx_play.specs.Lines.{IsFirstLine}
 use Rattle.mx_play.specs.declared.input_fault.InputFault.{InputFault}
@@ -22,7 +22,7 @@ use Rattle.mx_play.specs.declared.line_sources.TheConstants.{MAX_LINE}
 -- if the command does a line of a script, an event in that line names only nodes and registers of
 -- the plan
 abbrev pub IsOverPlan : Fields → SessionCommand → Type 0
-IsOverPlan p (Does line) = IsOver (length p.nodes) (length p.registers) line.order
+IsOverPlan p (Does line) = IsOrderWithin (length p.nodes) (length p.registers) line.order
 IsOverPlan p _ = ⊤
 
 -- if the input is a command, the same holds of that command

@@ -9,9 +9,9 @@ use Rattle.mx_plan.specs.Text.{Text}
 use Rattle.mx_plan.specs.Fields.{Fields}
 use Rattle.mx_knowledge.specs.Facts.{Known}
 use Rattle.mx_scripts.specs.Expectations.{IsMet, IsNotMet}
-use Rattle.mx_scripts.specs.Files.{file_text}
+use Rattle.mx_format.specs.Files.{file_text, events_of}
 use Rattle.mx_scripts.specs.Lines.{Repeats, StopsWithin}
-use Rattle.mx_scripts.specs.Played.{AreOver, events_of}
+use Rattle.mx_events.specs.Arguments.{AreEventsWithin}
 use Rattle.mx_scripts.specs.declared.line_failure.LineFailure.{LineFailure}
 use Rattle.mx_scripts.specs.declared.line_failure.LineFailure.TheVariants.{Memory}
 use Rattle.mx_scripts.specs.declared.state.SessionEvent.{SessionEvent}
@@ -99,7 +99,7 @@ module _ {H S M : Type 0} (core : Core H S M) (letter_text : Fields → M → Te
     pub made : Text
     pub makes : Makes core letter_text p old.state last.events.items new.state made
     pub printed : text ≡ line_text last.events.items made
-    pub over : AreOver (length p.nodes) (length p.registers) (events_in last.events.items)
+    pub over : AreEventsWithin (length p.nodes) (length p.registers) (events_in last.events.items)
     pub lines : new.lines ≡ old.lines ++ last ∷ []
     pub undone : new.undone ≡ []
 

@@ -10,7 +10,7 @@ use Rattle.mx_knowledge.specs.Facts.{Known}
 use Rattle.mx_cli.specs.Reports.{Seen}
 use Rattle.mx_io.specs.Stored.{Stored, Stores}
 use Rattle.mx_driver.specs.Runs.{closing_text}
-use Rattle.mx_scripts.specs.Played.{AreOver}
+use Rattle.mx_events.specs.Arguments.{AreEventsWithin}
 use Rattle.mx_play.specs.Commands.{AsksFor, HasFault, ends}
 use Rattle.mx_play.specs.Executions.{HasExecuted, Saved, ShowsOnly}
 use Rattle.mx_play.specs.Histories.{events_in}
@@ -90,7 +90,7 @@ module _ {H S M : Type 0} (core : Core H S M) (letter_text : Fields → M → Te
     pub stores : Stores store store' saved
     pub replays : RunsTo core (at_start core p shape).state.cluster
         (events_in (line_events last.lines)) last.state.cluster
-    pub over : AreOver (length p.nodes) (length p.registers) (events_in (line_events last.lines))
+    pub over : AreEventsWithin (length p.nodes) (length p.registers) (events_in (line_events last.lines))
     pub printed : Appends out.out out'.out
         (text ++ closing_text core letter_text p last.state.cluster)
     pub reports : Appends out.err out'.err told

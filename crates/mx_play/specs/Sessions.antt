@@ -5,7 +5,7 @@ use Rattle.std.specs.declared.alloc.Global.{Global}
 use Rattle.mx_nodelaws.specs.Core.{Core}
 use Rattle.mx_plan.specs.Text.{Text}
 use Rattle.mx_plan.specs.Fields.{Fields}
-use Rattle.mx_scripts.specs.Played.{AreOver}
+use Rattle.mx_events.specs.Arguments.{AreEventsWithin}
 use Rattle.mx_scripts.specs.States.{RunState}
 use Rattle.mx_scripts.specs.declared.state.SessionEvent.{SessionEvent}
 use Rattle.mx_play.specs.Histories.{CanLead, Leads, events_in, first_state, made_text}
@@ -49,7 +49,7 @@ pub record IsSession {H S M : Type 0} (core : Core H S M) (p : Fields) (shape : 
   pub leads : Leads core (first_state core p shape) (line_events s.lines) s.state
   pub members : length s.state.cluster.members ≡ length p.nodes
   pub redoes : CanLead core (first_state core p shape) (line_events (all_lines s))
-  pub over : AreOver (length p.nodes) (length p.registers) (events_in (line_events (all_lines s)))
+  pub over : AreEventsWithin (length p.nodes) (length p.registers) (events_in (line_events (all_lines s)))
 
 module _ {H S M : Type 0} (core : Core H S M) (letter_text : Fields → M → Text) (p : Fields) where
   -- an event, which leads from one state to another, was added to those of a line, and what is

@@ -10,7 +10,7 @@ ghost use Rattle.mx_play.specs.Sessions.{IsSession};
 ghost use Rattle.mx_play.specs.declared.session.DoneLine.{DoneLine};
 ghost use Rattle.mx_play.specs.Executions.{CanRefuseLine, DoesOr, HasExecuted, HasExpected, IsDone, Saved, line_text};
 ghost use Rattle.mx_play.specs.Views.{mark_line};
-ghost use Rattle.mx_scripts.specs.Scripts.{IsOver};
+ghost use Rattle.mx_lines.specs.Within.{IsOrderWithin};
 
 use crate::help::add_words;
 use crate::input_fault::InputFault;
@@ -105,7 +105,7 @@ fn do_line<C: Exclusion + Knowledge>(
 where
     C::Msg: Letter,
     requires is { IsSession C.core setting.now.plan.now setting.now.shape.now session.old }
-    requires over { IsOver (length setting.now.plan.now.nodes)
+    requires over { IsOrderWithin (length setting.now.plan.now.nodes)
         (length setting.now.plan.now.registers) line.now.order }
     requires empty { string_bytes text.old ≡ [] }
     ensures done { IfOk result (λ fault.

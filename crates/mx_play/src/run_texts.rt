@@ -3,16 +3,15 @@
 ghost use Rattle.std.specs.Prelude.{◌≡◌, ◌++◌, length, string_bytes, IfOk, OnOk};
 ghost use Rattle.mx_format.specs.LetterTexts.{letter_text};
 ghost use Rattle.mx_driver.specs.Runs.{closing_text};
-ghost use Rattle.mx_scripts.specs.Files.{file_text};
-ghost use Rattle.mx_scripts.specs.Played.{events_of};
+ghost use Rattle.mx_format.specs.Files.{file_text, events_of};
 
 use mx_driver::View;
 use mx_explorer::verdict_status;
-use mx_format::Letter;
+use mx_format::{Letter, add_file};
 use mx_knowledge::Knowledge;
 use mx_nodelaws::Exclusion;
 use mx_plan::Plan;
-use mx_scripts::{State, add_file};
+use mx_scripts::State;
 use std::alloc::{AllocError, Global};
 
 pub(crate) fn add_events<C: Exclusion>(

@@ -9,7 +9,7 @@ use Rattle.mx_events.specs.declared.event.Event.{Event}
 use Rattle.mx_events.specs.declared.event.Event.TheVariants as event
 use Rattle.mx_scripts.specs.Fates.{Fates, arrived, can_pass, grown, lost, noted}
 use Rattle.mx_scripts.specs.UnderWay.{HasLink, IsGone, IsListed, taken_out, without}
-use Rattle.mx_scripts.specs.Links.{link_of}
+use Rattle.mx_stamps.specs.Links.{link_of}
 use Rattle.mx_scripts.specs.States.{Brings, RunState}
 use Rattle.mx_scripts.specs.declared.state.SessionEvent.TheVariants.{Happens}
 use Rattle.mx_scripts.specs.declared.under_way.ListedParcel.{ListedParcel}

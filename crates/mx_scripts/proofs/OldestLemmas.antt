@@ -8,7 +8,8 @@ use Rattle.mx_lines.specs.declared.orders.Scope.{Scope}
 use Rattle.mx_lines.specs.declared.orders.Scope.TheVariants.{Link}
 use Rattle.mx_scripts.specs.Fates.{Fates, IsBelow, IsFirst, IsOldest, IsOver, is_held, is_in, is_wanted, older}
 use Rattle.mx_scripts.specs.UnderWay.{HasLink, IsGone, IsListed, IsOff, IsPassed}
-use Rattle.mx_scripts.specs.Links.{is_cut, link_of}
+use Rattle.mx_scripts.specs.Links.{is_cut}
+use Rattle.mx_stamps.specs.Links.{link_of}
 use Rattle.mx_scripts.specs.declared.in_flight.Wanted.{Wanted}
 use Rattle.mx_scripts.specs.declared.in_flight.Wanted.TheVariants.{Arriving}
 use Rattle.mx_scripts.specs.declared.under_way.ListedParcel.{ListedParcel}

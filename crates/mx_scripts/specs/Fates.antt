@@ -7,7 +7,8 @@ use Rattle.mx_lines.specs.declared.orders.Scope.{Scope}
 use Rattle.mx_lines.specs.declared.orders.Scope.TheVariants.{All, Link}
 use Rattle.mx_scripts.specs.declared.in_flight.Wanted.{Wanted}
 use Rattle.mx_scripts.specs.declared.in_flight.Wanted.TheVariants.{Waiting, Arriving}
-use Rattle.mx_scripts.specs.Links.{LinkState, changed, is_cut, link_of, uncut}
+use Rattle.mx_scripts.specs.Links.{LinkState, changed, is_cut, uncut}
+use Rattle.mx_stamps.specs.Links.{link_of}
 
 -- for each parcel that was sent, whether it is no longer under way; for each link, the number of
 -- the parcel that was delivered last over it; and which links are cut

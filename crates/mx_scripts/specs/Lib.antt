@@ -1,6 +1,4 @@
-pub mod Files
-pub mod Played
-pub mod Scripts
+pub mod Failures
 pub mod Links
 pub mod Fates
 pub mod UnderWay
@@ -9,9 +7,3 @@ pub mod Standstill
 pub mod Expectations
 pub mod Told
 pub mod Lines
-pub mod Happenings
-pub mod ScriptFiles
-pub mod Objects
-pub mod ShownScripts
-pub mod Printed
-pub mod Replayed

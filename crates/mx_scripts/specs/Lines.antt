@@ -1,5 +1,5 @@
 -- What a line of a script does.
-use Rattle.std.specs.Prelude.{ℕ, zero, suc, ◌≡◌, ◌≤◌, ◌<◌, ◌⊎◌, Bool, false, List, [], ◌∷◌, ◌++◌, Option, Some, None, Ok, Err, if◌then◌else◌, length, map, slice_get, slice_index_or, min, take, ◌+◌, ◌-◌, ◌^◌, ◌/◌, ◌%◌}
+use Rattle.std.specs.Prelude.{ℕ, zero, suc, ◌≡◌, ◌≤◌, ◌<◌, ◌⊎◌, Bool, false, List, [], ◌∷◌, ◌++◌, Option, Some, None, Ok, Err, if◌then◌else◌, length, slice_index_or, ◌+◌, ◌-◌, ◌/◌, ◌%◌}
 use Rattle.std.specs.Borrow.{Bor}
 use Rattle.mx_stamps.specs.declared.limits.TheConstants.{MAX_EVENTS}
 use Rattle.mx_nodelaws.specs.Core.{Core}
@@ -21,10 +21,9 @@ use Rattle.mx_lines.specs.declared.orders.Order.TheVariants as order
 use Rattle.mx_lines.specs.declared.orders.Scope.TheVariants.{Link}
 use Rattle.mx_scripts.specs.Expectations.{IsMet, IsNotMet}
 use Rattle.mx_scripts.specs.Fates.{Fates, IsFirst, NoneWaits, can_arrive, is_under_way, is_waiting}
-use Rattle.mx_scripts.specs.Links.{is_across, link_of}
-use Rattle.mx_scripts.specs.Scripts.{IsLineOf}
+use Rattle.mx_scripts.specs.Links.{is_across}
+use Rattle.mx_stamps.specs.Links.{link_of}
 use Rattle.mx_scripts.specs.States.{Bars, Brings, IsAllowed, IsNotApplied, RunState}
-use Rattle.mx_scripts.specs.declared.happenings.Happening.{Happening}
 use Rattle.mx_scripts.specs.declared.line_failure.LineFailure.{LineFailure}
 use Rattle.mx_scripts.specs.declared.line_failure.LineFailure.TheVariants as failure
 use Rattle.mx_scripts.specs.declared.state.SessionEvent.{SessionEvent}
@@ -106,14 +105,6 @@ Misreads p text why =
     (words : List (Bor Text)) × (error : LineError) × AreWords (before_comment text) words
     × (line_of (known_of p) (texts_of words) ≡ Err error) × (why ≡ failure.WrongWord error)
 
--- the number of a line after `done` others: they count from 1, up to the greatest of 64 bits
-abbrev pub number_after : ℕ → ℕ
-number_after done = min (done + 1) (2 ^ 64 - 1)
-
--- these events, as what line `number` did
-abbrev pub of_line : ℕ → List SessionEvent → List Happening
-of_line number = map (λ event. record { line = number; event = event })
-
 module _ {H S M : Type 0} (core : Core H S M) where
   -- after `done` of its events, an order asks for these events in turn, and then for no more. Each
   -- is allowed, and together they lead from the old state to the new one
@@ -175,15 +166,6 @@ module _ {H S M : Type 0} (core : Core H S M) where
     DoesText text old es new =
         (read : ScriptLine) × ReadsLine p text read × DoesRead text read old es new
 
-    -- all lines were done, each in the state to which those before it lead, the first of them after
-    -- `done` others; and this is what they did
-    abbrev pub DoesAll : ℕ → List Text → RunState S M → List Happening → RunState S M → Type 0
-    DoesAll done [] old happened new = (new ≡ old) × (happened ≡ [])
-    DoesAll done (text ∷ texts) old happened new =
-        (mid : RunState S M) × (es : List SessionEvent) × (rest : List Happening)
-        × DoesText text old es mid × (happened ≡ of_line (number_after done) es ++ rest)
-        × DoesAll (suc done) texts mid rest new
-
     -- why a line is not done: memory ran out, a word is wrong, its order stops, or the newest item
     -- has not the outcome that it expects
     abbrev pub IsNotDone : Text → RunState S M → LineFailure → Type 0
@@ -193,17 +175,3 @@ module _ {H S M : Type 0} (core : Core H S M) where
         ⊎ (((line : Line) × ReadsLine p text (script_line.Does line)
         × StopsWithin line.order line.times old why)
         ⊎ (ReadsLine p text script_line.Expects × IsNotMet text old.cluster.trace why)))
-
-    -- the first n lines were done, and did this; the next one is not done, for this reason
-    pub record StopsAt (texts : List Text) (old : RunState S M) (n : ℕ)
-        (happened : List Happening) (mid : RunState S M) (why : LineFailure) : Type 0 where
-      pub does : DoesAll 0 (take n texts) old happened mid
-      pub text : Text
-      pub next : slice_get texts n ≡ Some text
-      pub not_done : IsNotDone text mid why
-
-    -- the text is the line of the first line that is not done
-    abbrev pub StopsBy : List Text → RunState S M → Text → Type 0
-    StopsBy texts old line =
-        (n : ℕ) × (why : LineFailure) × (happened : List Happening) × (mid : RunState S M)
-        × StopsAt texts old n happened mid why × IsLineOf (number_after n) why line

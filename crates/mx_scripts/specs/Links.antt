@@ -1,5 +1,6 @@
 -- Which links are cut.
-use Rattle.std.specs.Prelude.{ℕ, zero, suc, ◌+◌, ◌*◌, ◌/◌, ◌%◌, ◌&&◌, Bool, true, false, List, nat_lt, not, replicate, slice_index_or, slice_set}
+use Rattle.std.specs.Prelude.{ℕ, zero, suc, ◌/◌, ◌%◌, ◌&&◌, Bool, true, false, List, nat_lt, not, replicate, slice_index_or, slice_set}
+use Rattle.mx_stamps.specs.Links.{link_of}
 use Rattle.mx_lines.specs.Sides.{crosses}
 use Rattle.mx_lines.specs.declared.orders.LinkChange.{LinkChange}
 use Rattle.mx_lines.specs.declared.orders.LinkChange.TheVariants.{Cut, CutAll, HealLink, HealNode, Heal}
@@ -8,10 +9,6 @@ use Rattle.mx_lines.specs.declared.sides.Sides.{Sides}
 -- for each link, whether it is cut
 pub record LinkState : Type 0 where
   pub cut : List Bool
-
--- the index of the link from one node to another, in lists of the links between 21 nodes
-abbrev pub link_of : ℕ → ℕ → ℕ
-link_of from to = from * 21 + to
 
 abbrev pub uncut : LinkState
 uncut = record { cut = replicate 441 false }

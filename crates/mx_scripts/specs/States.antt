@@ -7,9 +7,9 @@ use Rattle.mx_lines.specs.declared.errors.LineFault.{LineFault}
 use Rattle.mx_lines.specs.declared.errors.LineFault.TheVariants.{LinkCut, TooMany}
 use Rattle.mx_network.specs.Step.{ClusterState, step_of}
 use Rattle.mx_network.specs.declared.faults.StepFault.{StepFault}
-use Rattle.mx_explorer.specs.Drawn.{IsDrawn}
+use Rattle.mx_events.specs.Arguments.{IsWithin}
 use Rattle.mx_scripts.specs.Fates.{Fates, at_first, can_pass, is_under_way, lost, noted, relinked}
-use Rattle.mx_scripts.specs.Scripts.{failure_of_step}
+use Rattle.mx_scripts.specs.Failures.{failure_of_step}
 use Rattle.mx_scripts.specs.declared.line_failure.LineFailure.{LineFailure}
 use Rattle.mx_scripts.specs.declared.line_failure.LineFailure.TheVariants as failure
 use Rattle.mx_scripts.specs.declared.state.SessionEvent.{SessionEvent}
@@ -46,10 +46,10 @@ Bars s (Some (Happens e)) fault =
 Bars s _ fault = ⊥
 
 -- an event of the cluster names nodes below `nodes` and registers below `registers`
-abbrev pub IsDrawnOf : ℕ → ℕ → SessionEvent → Type 0
-IsDrawnOf nodes registers (Happens e) = IsDrawn nodes registers e
-IsDrawnOf nodes registers (IsLost k) = ⊤
-IsDrawnOf nodes registers (LinksChange change) = ⊤
+abbrev pub IsEventWithin : ℕ → ℕ → SessionEvent → Type 0
+IsEventWithin nodes registers (Happens e) = IsWithin nodes registers e
+IsEventWithin nodes registers (IsLost k) = ⊤
+IsEventWithin nodes registers (LinksChange change) = ⊤
 
 module _ {H S M : Type 0} (core : Core H S M) where
   -- the event happens, and leads from one state to another; only a parcel that is under way is

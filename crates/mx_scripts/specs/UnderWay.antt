@@ -2,7 +2,7 @@
 use Rattle.std.specs.Prelude.{ℕ, zero, suc, ◌≡◌, ◌≤◌, ◌<◌, ⊤, Bool, true, IsTrue, List, [], ◌∷◌, Option, Some, None, false, length, slice_get, slice_index_or}
 use Rattle.mx_events.specs.declared.event.Event.{Event}
 use Rattle.mx_events.specs.declared.event.Event.TheVariants.{Deliver}
-use Rattle.mx_scripts.specs.Links.{link_of}
+use Rattle.mx_stamps.specs.Links.{link_of}
 use Rattle.mx_scripts.specs.declared.under_way.ListedParcel.{ListedParcel}
 
 -- the parcel, if it was sent, is not under way over this link

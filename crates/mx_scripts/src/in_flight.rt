@@ -1,12 +1,13 @@
 ghost use Rattle.std.specs.Prelude.{◌≡◌, ◌<◌, ℕ, false, IfNone, IfSome, None, OnErr, OnOk, slice_get, slice_index_or};
 ghost use Rattle.mx_scripts.specs.Fates.{IsFirst, arrived, at_first, can_arrive, can_pass, delivered, grown, is_held, is_in, is_under_way, is_waiting, is_wanted, is_within, lost, noted, relinked};
-ghost use Rattle.mx_scripts.specs.Links.{is_across, is_cut, link_of};
+ghost use Rattle.mx_scripts.specs.Links.{is_across, is_cut};
+ghost use Rattle.mx_stamps.specs.Links.{link_of};
 
-use crate::links::{LINKS, Links, link};
+use crate::links::Links;
 use mx_lines::{LinkChange, Scope, Sides};
 use mx_network::{Cluster, Event};
 use mx_nodelaws::Exclusion;
-use mx_stamps::NodeId;
+use mx_stamps::{LINKS, NodeId, link};
 use std::alloc::{AllocError, Global};
 use std::marker::Model;
 

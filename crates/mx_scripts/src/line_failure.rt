@@ -1,7 +1,7 @@
 //! Why a line of a script is not done, and what is printed of it.
 
 ghost use Rattle.std.specs.Prelude.{◌≡◌, Some, string_bytes, IfOk};
-ghost use Rattle.mx_scripts.specs.Scripts.{IsRefused, script_line};
+ghost use Rattle.mx_scripts.specs.Failures.{IsRefused, script_line};
 
 use crate::expectation::add_other_outcome;
 use mx_lines::{FirstWords, LineError, LineFault, message, message_of_line, words_in};
@@ -22,7 +22,7 @@ pub enum LineFailure {
 
 impl From<AllocError> for LineFailure {
     ghost use Rattle.std.specs.Prelude.{◌≡◌};
-    ghost use Rattle.mx_scripts.specs.declared.line_failure.LineFailure.TheVariants.{Memory};
+    ghost use Rattle.mx_scripts.specs.declared.line_failure.LineFailure.TheVariants.{Memory, Refused};
 
     ghost from_gives = { λ _ failure. failure ≡ Memory };
 
@@ -32,9 +32,6 @@ impl From<AllocError> for LineFailure {
 }
 
 impl<T: Drop> From<AllocFailed<T>> for LineFailure {
-    ghost use Rattle.std.specs.Prelude.{◌≡◌};
-    ghost use Rattle.mx_scripts.specs.declared.line_failure.LineFailure.TheVariants.{Memory};
-
     ghost from_gives = { λ _ failure. failure ≡ Memory };
 
     fn from(_e: AllocFailed<T>) -> LineFailure {
@@ -43,9 +40,6 @@ impl<T: Drop> From<AllocFailed<T>> for LineFailure {
 }
 
 impl From<LineFault> for LineFailure {
-    ghost use Rattle.std.specs.Prelude.{◌≡◌};
-    ghost use Rattle.mx_scripts.specs.declared.line_failure.LineFailure.TheVariants.{Refused};
-
     ghost from_gives = { λ fault failure. failure ≡ Refused fault };
 
     fn from(fault: LineFault) -> LineFailure {
@@ -54,8 +48,7 @@ impl From<LineFault> for LineFailure {
 }
 
 impl From<StepFault> for LineFailure {
-    ghost use Rattle.std.specs.Prelude.{◌≡◌};
-    ghost use Rattle.mx_scripts.specs.Scripts.{failure_of_step};
+    ghost use Rattle.mx_scripts.specs.Failures.{failure_of_step};
 
     ghost from_gives = { λ fault failure. failure ≡ failure_of_step fault };
 
@@ -92,9 +85,12 @@ impl fmt::Display for RefusedLine {
     }
 }
 
-/// Returns the refused line with its message. Lack of memory as the `failure` is an error here.
-/// `trace` is that of all events before it.
-pub(crate) fn refused_line(
+/// Returns the refused line with its message. `trace` is that of all events before it.
+///
+/// # Errors
+///
+/// Returns `AllocError` if the `failure` is lack of memory, or if memory runs out.
+pub fn refused_line(
     alloc: Global,
     plan: &Plan,
     number: u64,

@@ -2,14 +2,11 @@
 
 ghost use Rattle.std.specs.Prelude.{◌≡◌, ◌<◌, ◌/◌, ◌%◌, ℕ, false, IfNone, IfSome};
 ghost use Rattle.mx_scripts.specs.Fates.{IsFirst};
-ghost use Rattle.mx_scripts.specs.Links.{changed, is_across, is_cut, link_of, uncut, with_link, with_node};
+ghost use Rattle.mx_scripts.specs.Links.{changed, is_across, is_cut, uncut, with_link, with_node};
 
 use mx_lines::{LinkChange, Sides};
-use mx_stamps::{MAX_NODES, NodeId};
+use mx_stamps::{LINKS, NodeId, link};
 use std::marker::Model;
-
-/// How many links the greatest cluster has: one from each node to each, itself included.
-pub(crate) const LINKS: usize = 441;
 
 const NODES: usize = 21;
 
@@ -25,13 +22,6 @@ impl Model for Links {
     ghost Value = { LinkState };
 
     ghost view = { λ l. record { cut = l.cut } };
-}
-
-pub(crate) fn link(from: NodeId, to: NodeId) -> usize
-    ensures value { result ≡ link_of from to }
-    ensures below { result < 441 }
-{
-    usize::from(from.get()) * usize::from(MAX_NODES) + usize::from(to.get())
 }
 
 /// Returns the nodes that a link leads from and to.

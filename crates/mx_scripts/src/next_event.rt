@@ -3,7 +3,8 @@
 ghost use Rattle.std.specs.Prelude.{◌≡◌, ◌<◌, ◌≤◌, None, Some, IfErr, IfOk, IfSome, OnOk, length, slice_index_or};
 ghost use Rattle.mx_scripts.specs.Fates.{IsFirst, NoneWaits, can_arrive, is_waiting};
 ghost use Rattle.mx_scripts.specs.Lines.{FindsFirst, IsAgain, IsNext, IsNoNext, Misses, Once, arrival, cut, loss_of};
-ghost use Rattle.mx_scripts.specs.Links.{is_across, link_of};
+ghost use Rattle.mx_scripts.specs.Links.{is_across};
+ghost use Rattle.mx_stamps.specs.Links.{link_of};
 ghost use Rattle.mx_scripts.specs.States.{Admits, Bars, IsAllowed};
 
 use crate::in_flight::Wanted;

@@ -5,10 +5,11 @@ ghost use Rattle.mx_lines.specs.declared.orders.Scope.{Scope};
 ghost use Rattle.mx_scripts.specs.Fates.{IsBelow, IsFirst, IsOldest, IsOver, is_wanted, older};
 
 use crate::in_flight::Wanted;
-use crate::links::{LINKS, ends, link};
+use crate::links::ends;
 use crate::state::State;
 use mx_lines::Scope;
 use mx_nodelaws::Exclusion;
+use mx_stamps::link;
 
 /// Returns the lesser of two numbers, or the only one.
 fn older(one: Option<u64>, other: Option<u64>) -> Option<u64>

@@ -65,20 +65,3 @@ pub trait Recorder<R: Led> {
         Ok(())
     }
 }
-
-#[derive(Clone, Copy)]
-pub(crate) struct NoRecorder;
-
-impl<C: Exclusion> Recorder<State<C>> for NoRecorder {
-    fn line(&mut self, _number: u64) {}
-
-    fn event(
-        &mut self,
-        _plan: &Plan,
-        _event: &SessionEvent,
-        _before: u64,
-        _state: &State<C>,
-    ) -> Result<(), AllocError> {
-        Ok(())
-    }
-}

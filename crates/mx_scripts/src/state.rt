@@ -58,7 +58,8 @@ impl<C: Exclusion> State<C> {
         })
     }
 
-    pub(crate) fn of(alloc: Global, cluster: Cluster<C>) -> Self
+    /// Takes over a cluster, of whose parcels none counts as under way.
+    pub fn of(alloc: Global, cluster: Cluster<C>) -> Self
         ensures { result ≡ before_any cluster }
     {
         State {
@@ -81,7 +82,7 @@ impl<C: Exclusion> State<C> {
         &self.in_flight
     }
 
-    pub(crate) fn trace(&self) -> &[Entry]
+    pub fn trace(&self) -> &[Entry]
         ensures { result.now ≡ self.now.cluster.trace }
     {
         self.cluster.trace()

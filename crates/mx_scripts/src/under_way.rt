@@ -3,9 +3,9 @@
 ghost use Rattle.std.specs.Prelude.{◌≡◌, ◌≤◌, ◌<◌, ◌^◌, ◌+◌, ◌-◌, ◌++◌, ◌∷◌, [], ℕ, Bool, List, false, IsTrue, OnErr, OnOk, length, slice_get, slice_set};
 ghost use Rattle.mx_scripts.specs.UnderWay.{IsListed, IsListedOver, IsOff, IsPassed, taken_out, without};
 
-use crate::links::{LINKS, link};
 use mx_network::{Cluster, Event};
 use mx_nodelaws::Exclusion;
+use mx_stamps::{LINKS, link};
 use std::alloc::{AllocError, Global};
 use std::marker::Model;
 

@@ -1,6 +1,6 @@
 use Rattle.std.proofs.Common.{◌∙◌, ap, arith, string_bytes, sym}
 use Rattle.mx_network.specs.Step.{ClusterState}
-use Rattle.mx_scripts.proofs.PlayedLemmas.{file_if_played, file_of_trace}
+use Rattle.mx_event_files.proofs.PlayedLemmas.{file_if_played, file_of_trace}
 use Rattle.mx_draw.proofs.draw_command.file_after.Goals as goal
 
 pub file_of-requires : goal.file_of-requires

@@ -5,7 +5,7 @@ use Rattle.mx_driver.proofs.RunLemmas.{has_nodes, stops_without}
 use Rattle.mx_driver.proofs.driver.apply.Goals as goal
 
 pub unreachable-requires : goal.unreachable-requires
-unreachable-requires g c = has_nodes c.args.cluster.now c.args.event.now c.requires.named (c.advance.ensures.no_node.0 (c.in-Err-NoNode.is ∙ ap Err c.in-Err-NoNode.field-0-is))
+unreachable-requires g c = has_nodes c.args.cluster.now c.args.event.now c.requires.named.0 c.requires.named.1 (c.advance.ensures.no_node.0 (c.in-Err-NoNode.is ∙ ap Err c.in-Err-NoNode.field-0-is))
 
 pub returns-in-Err-NoParcel-clause-err : goal.returns-in-Err-NoParcel-clause-err
 returns-in-Err-NoParcel-clause-err g c =

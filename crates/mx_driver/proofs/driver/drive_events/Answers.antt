@@ -1,15 +1,17 @@
 use Rattle.std.proofs.Common.{◌≡◌, ◌∙◌, ◌++◌, ◌+◌, [], ap, sym, subst, refl, rules, ℕ, List, Err, length, string_bytes}
 use Rattle.std.specs.Io.KnownBytes.{Appends}
+use Rattle.mx_stamps.proofs.Lists.{in_at}
 use Rattle.mx_network.specs.Step.{step_of}
 use Rattle.mx_events.specs.declared.event.Event.{Event}
 use Rattle.mx_plan.specs.Text.{Text}
 use Rattle.mx_plan.specs.Fields.{Fields}
-use Rattle.mx_driver.specs.Runs.{NamesNodes, StopsAt, Texts, report_from}
+use Rattle.mx_events.specs.Arguments.{IsWithin}
+use Rattle.mx_driver.specs.Runs.{StopsAt, Texts, report_from}
 use Rattle.mx_cli.specs.Printing.{comes_to, ends, has_status, sight, stop_of}
 use Rattle.mx_cli.specs.declared.stop.Stop.TheVariants as stop
 use Rattle.mx_cli.proofs.OutputLemmas.{Appends-nil}
 use Rattle.mx_cli.proofs.ReadLemmas.{err_is}
-use Rattle.mx_driver.proofs.RunLemmas.{grows, named_at, remaining, remaining_end, remaining_ok, run_ends, run_goes_on, run_lacks, run_refused, run_stops, told_end, told_more}
+use Rattle.mx_driver.proofs.RunLemmas.{grows, remaining, remaining_end, remaining_ok, run_ends, run_goes_on, run_lacks, run_refused, run_stops, told_end, told_more}
 use Rattle.mx_driver.proofs.driver.drive_events.Goals as goal
 
 pub loop-index-init : goal.loop-index-init
@@ -24,9 +26,8 @@ pub drive_event-requires : goal.drive_event-requires
 drive_event-requires g c =
     let p = c.args.plan.now in
     let event = c.index-events-index.result in
-    let named = named_at (length p.nodes) c.args.events.now c.loop-index.index event c.requires.named c.loop-index-test.true in
-    let there : NamesNodes (length c.loop-index.cluster.members) event =
-    subst (λ (n : ℕ). NamesNodes n event) (sym c.loop-index.invariant.members) (subst (λ (e : Event). NamesNodes (length p.nodes) e) (sym c.index-events-index.is) named) in
+    let named = c.requires.named event (in_at c.args.events.now c.loop-index.index event c.loop-index-test.true c.index-events-index.is) in
+    let there = subst (λ (n : ℕ). IsWithin n (length p.registers) event) (sym c.loop-index.invariant.members) named in
     (search rules, (there, c.clear.ensures.bytes))
 
 pub returns-in_err-drive_event : goal.returns-in_err-drive_event

@@ -3,7 +3,7 @@ use Rattle.mx_stamps.specs.Lists.{IsIn}
 use Rattle.mx_stamps.proofs.Lists.{append_append, append_nil}
 use Rattle.mx_explorer.specs.Drawn.{after_drawn, drawn_list}
 use Rattle.mx_explorer.specs.Weather.{generator_of}
-use Rattle.mx_explorer.proofs.DrawnEvents.{all_drawn}
+use Rattle.mx_explorer.proofs.DrawnEvents.{all_within}
 use Rattle.mx_explorer.proofs.schedules.schedule.Goals as goal
 
 pub loop-init : goal.loop-init
@@ -39,4 +39,4 @@ returns-clause-value c = whole c
 
 pub returns-clause-named : goal.returns-clause-named
 returns-clause-named c = λ e h.
-    all_drawn c.args.steps (length c.args.plan.now.nodes) (length c.args.plan.now.registers) (generator_of c.args.seed) (omega (arith, c.nodes-nodes.ensures)) (omega (arith, c.registers-registers.ensures)) e (subst (IsIn e) (whole c) h)
+    all_within c.args.steps (length c.args.plan.now.nodes) (length c.args.plan.now.registers) (generator_of c.args.seed) (omega (arith, c.nodes-nodes.ensures)) (omega (arith, c.registers-registers.ensures)) e (subst (IsIn e) (whole c) h)

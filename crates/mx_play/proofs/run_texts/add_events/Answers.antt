@@ -1,8 +1,7 @@
 use Rattle.std.proofs.Common.{◌≡◌, ◌∙◌, ◌++◌, List, OnOk, ap, rules, string_bytes, subst}
 use Rattle.mx_network.specs.Step.{ClusterState}
 use Rattle.mx_trace.specs.declared.outcome.Entry.{Entry}
-use Rattle.mx_scripts.specs.Files.{file_text}
-use Rattle.mx_scripts.specs.Played.{events_of}
+use Rattle.mx_format.specs.Files.{file_text, events_of}
 use Rattle.mx_play.proofs.run_texts.add_events.Goals as goal
 
 pub cluster-requires : goal.cluster-requires

@@ -2,7 +2,7 @@ use Rattle.std.proofs.Common.{◌∙◌, refl, subst}
 use Rattle.mx_cli.specs.Printing.{IsWhole, sight}
 use Rattle.mx_cli.proofs.FrameLemmas.{whole_prints}
 use Rattle.mx_plan.specs.Text.{Text}
-use Rattle.mx_scripts.specs.Played.{IsEventFile}
+use Rattle.mx_event_files.specs.Played.{IsEventFile}
 use Rattle.mx_draw.specs.Drawn.{drawn_file}
 use Rattle.mx_draw.proofs.draw_command.DrawCommand.run.Goals as goal
 

@@ -3,8 +3,8 @@ use Rattle.mx_plan.specs.Text.{Text}
 use Rattle.mx_cli.specs.Printing.{Prints, sight}
 use Rattle.mx_cli.specs.Requests.{part_of}
 use Rattle.mx_cli.proofs.FrameLemmas.{prints_as}
-use Rattle.mx_scripts.specs.Printed.{IsOnScript}
-use Rattle.mx_scripts.proofs.StopLemmas.{script_stops}
+use Rattle.mx_event_files.specs.Printed.{IsOnScript}
+use Rattle.mx_event_files.proofs.StopLemmas.{script_stops}
 use Rattle.mx_picture.specs.Pictures.{IsPictured}
 use Rattle.mx_picture.proofs.command.PictureScriptCommand.run.Goals as goal
 

@@ -1,5 +1,6 @@
 use Rattle.std.proofs.Common.{◌≡◌, ◌∙◌, arith, sym, true}
-use Rattle.mx_scripts.specs.Links.{is_cut, link_of}
+use Rattle.mx_scripts.specs.Links.{is_cut}
+use Rattle.mx_stamps.specs.Links.{link_of}
 use Rattle.mx_scripts.proofs.OldestLemmas.{shut_link}
 use Rattle.mx_scripts.proofs.state.State.is_shut.Goals as goal
 

@@ -1,7 +1,7 @@
 use Rattle.std.proofs.Common.{ℕ, slice_get, subst}
 use Rattle.mx_lines.specs.declared.orders.Scope.TheVariants.{Link}
 use Rattle.mx_scripts.specs.Fates.{IsOldest, IsOver, is_wanted}
-use Rattle.mx_scripts.specs.Links.{link_of}
+use Rattle.mx_stamps.specs.Links.{link_of}
 use Rattle.mx_scripts.proofs.OldestLemmas.{first_of_oldest, none_of_oldest, rest_of_link}
 use Rattle.mx_scripts.proofs.state.State.oldest.Goals as goal
 

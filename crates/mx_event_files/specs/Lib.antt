@@ -1,0 +1,4 @@
+pub mod Played
+pub mod Scripts
+pub mod ScriptFiles
+pub mod Printed

@@ -1,5 +1,0 @@
-use Rattle.mx_scripts.proofs.ReadLemmas.{read_back}
-use Rattle.mx_scripts.proofs.files.reads_back.Goals as goal
-
-pub returns : goal.returns
-returns c = λ valid readable. read_back c.args.plan.now valid c.args.events.now readable

@@ -1,5 +1,0 @@
-use Rattle.mx_scripts.proofs.StopLemmas.{refused_stops}
-use Rattle.mx_scripts.proofs.script.refuse.Goals as goal
-
-pub returns-in-Ok-refused : goal.returns-in-Ok-refused
-returns-in-Ok-refused g c = refused_stops c.args.number c.args.failure c.in-Ok.line c.stop_with.result c.in-Ok.ensures c.stop_with.ensures

@@ -1,0 +1,3 @@
+mod HappeningLemmas
+mod ResultLemmas
+mod ShownLemmas

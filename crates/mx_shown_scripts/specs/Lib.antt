@@ -1,0 +1,4 @@
+pub mod Happenings
+pub mod Objects
+pub mod ShownScripts
+pub mod Replayed
