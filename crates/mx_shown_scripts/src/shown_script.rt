@@ -13,7 +13,7 @@ ghost use Rattle.mx_scripts.specs.Told.{IsBroughtTo};
 
 use crate::objects::{add_change, add_line, add_lost};
 use mx_cli::Stop;
-use mx_driver::View;
+use mx_driver::{Sink, View};
 use mx_event_files::Happening;
 use mx_explorer::verdict_status;
 use mx_format::{Letter, Waiter};

@@ -18,7 +18,7 @@ returns-in-Err c =
     let x = c.index-items-index.result in
     let fault = c.in-Err.fault in
     let wanted = rest view item list_fault items nothing 0 in
-    let found = refused (k + 1) t c.item_in.result (item (view x) t.names) fault c.item_in.ensures c.in-Err.ensures.err in
+    let found = refused (k + 1) t c.item_in-item.result (item (view x) t.names) fault c.item_in-item.ensures c.in-Err.ensures.err in
     let named = λ (e : ItemFault) (is : with_item (k + 1) t (item (view x) t.names) ≡ Err e).
     c.loop-index.invariant ∙ rest_err view item list_fault items t k x e c.loop-index-test.true (ap (λ v. with_item (k + 1) t (item (view v) t.names)) (sym c.index-items-index.is) ∙ is) in
     subst (λ (f : TraceFault). GivesTrace wanted (Err f)) (sym c.of_item.ensures)
@@ -31,7 +31,7 @@ loop-index-preserved c =
     let k = c.loop-index.index in
     let x = c.index-items-index.result in
     let more = listed c.add_item.new.trace in
-    let read = added (k + 1) t more c.item_in.result (item_of c.args.plan.now (view c.index-items-index.result) t.names) c.item_in.ensures c.in_default.ensures.ok in
+    let read = added (k + 1) t more c.item_in-item.result (item_of c.args.plan.now (view c.index-items-index.result) t.names) c.item_in-item.ensures c.in_default.ensures.ok in
     let is = ap (λ v. with_item (k + 1) t (item (view v) t.names)) (sym c.index-items-index.is) ∙ read in
     c.loop-index.invariant ∙ rest_ok view item list_fault c.args.items.now t more k x c.loop-index-test.true is
 

@@ -17,7 +17,7 @@ returns-in-Err c =
     let k = c.lines.number in
     let rest = c.lines.rest.now in
     let fault = c.in-Err.fault in
-    let found = refused k t c.line_in.result (line_item p c.split_line.result.0.now t.names) fault c.line_in.ensures c.in-Err.ensures.err in
+    let found = refused k t c.line_in-item.result (line_item p c.split_line.result.0.now t.names) fault c.line_in-item.ensures c.in-Err.ensures.err in
     let here = subst (λ (l : Text). RefusesItem (with_item k t (line_item p l t.names)) fault) c.split_line.ensures.line found in
     let named = λ (e : ItemFault) (is : with_item k t (line_item p (before_first is_feed rest) t.names) ≡ Err e). c.lines.invariant.same ∙ line_refused p t k rest e is in
     subst (λ (f : TraceFault). GivesTrace (from_lines p nothing 1 c.args.text.now) (Err f)) (sym c.of_line.ensures)
@@ -29,7 +29,7 @@ returns-then-line-rest c =
     let t = listed c.lines.trace in
     let more = listed c.add_item.new.trace in
     let line = c.split_line.result.0.now in
-    let is = added c.lines.number t more c.line_in.result (line_item p line t.names) c.line_in.ensures c.in_default.ensures.ok in
+    let is = added c.lines.number t more c.line_in-item.result (line_item p line t.names) c.line_in-item.ensures c.in_default.ensures.ok in
     let here = subst (λ (l : Text). with_item c.lines.number t (line_item p l t.names) ≡ Ok more) c.split_line.ensures.line is in
     c.lines.invariant.same ∙ lines_end p t c.lines.number c.lines.rest.now more (ap length (sym c.split_line.ensures.line) ∙ c.if-line-rest.true) here
 
@@ -40,7 +40,7 @@ lines-preserved c =
     let more = listed c.add_item.new.trace in
     let rest = c.lines.rest.now in
     let line = c.split_line.result.0.now in
-    let is = added c.lines.number t more c.line_in.result (line_item p line t.names) c.line_in.ensures c.in_default.ensures.ok in
+    let is = added c.lines.number t more c.line_in-item.result (line_item p line t.names) c.line_in-item.ensures c.in_default.ensures.ok in
     let here = subst (λ (l : Text). with_item c.lines.number t (line_item p l t.names) ≡ Ok more) c.split_line.ensures.line is in
     let same : length line ≡ length (before_first is_feed rest) = ap length c.split_line.ensures.line in
     let less : length (before_first is_feed rest) < length rest = omega (arith, within_text rest, same) in
