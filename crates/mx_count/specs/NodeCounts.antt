@@ -1,5 +1,5 @@
 -- The counts of each node of a cluster.
-use Rattle.std.specs.Prelude.{ℕ, ◌&&◌, Bool, true, false, List, [], ◌∷◌, Option, Some, None, codes, nat_eq, slice_get}
+use Rattle.std.specs.Prelude.{ℕ, ◌&&◌, Bool, false, List, [], ◌∷◌, Option, Some, None, codes, nat_eq, slice_get}
 use Rattle.std.specs.List.{count_by, flat_map, range_with_len}
 use Rattle.mx_events.specs.Events.{node_of}
 use Rattle.mx_events.specs.declared.event.Event.{Event}
