@@ -9,7 +9,7 @@ use crate::links::ends;
 use crate::state::State;
 use mx_lines::Scope;
 use mx_nodelaws::Exclusion;
-use mx_stamps::link;
+use mx_stamps::{LINKS, link};
 
 /// Returns the lesser of two numbers, or the only one.
 fn older(one: Option<u64>, other: Option<u64>) -> Option<u64>

@@ -13,7 +13,7 @@ ghost use Rattle.mx_scripts.specs.Told.{IsBroughtTo};
 
 use crate::objects::{add_change, add_line, add_lost};
 use mx_cli::Stop;
-use mx_driver::{View, verdict_status};
+use mx_driver::{Sink, View, verdict_status};
 use mx_event_files::Happening;
 use mx_format::{Letter, Waiter};
 use mx_io::Output;
