@@ -1,6 +1,6 @@
 //! `conform`: follows a trace by the rules of the plan's algorithm.
 
-ghost use Rattle.std.specs.Prelude.{◌≡◌, ◌×◌};
+ghost use Rattle.std.specs.Prelude.{◌≡◌};
 ghost use Rattle.mx_cli.specs.Printing.{Prints, sight};
 ghost use Rattle.mx_judge.specs.Listed.{listed};
 ghost use Rattle.mx_conform.specs.Printed.{IsConformance, IsFollowed, conform_status};
