@@ -1,5 +1,5 @@
 -- What `conform` prints.
-use Rattle.std.specs.Prelude.{◌≡◌, ◌++◌, ℕ, Bool, MatchBool, true, List, [], Option, Some, None, Result, Ok, Err, codes, decimal, slice_get, if◌then◌else◌}
+use Rattle.std.specs.Prelude.{◌≡◌, ◌++◌, ℕ, Bool, MatchBool, MatchResult, true, List, [], Option, Some, None, codes, decimal, slice_get, if◌then◌else◌}
 use Rattle.std.specs.Option.{option_map_or}
 use Rattle.mx_plan.specs.Text.{Text, line_feed}
 use Rattle.mx_plan.specs.Fields.{Fields}
@@ -13,7 +13,6 @@ use Rattle.mx_judge.specs.Judged.{IsVerdictOf, counts_line, counts_members, judg
 use Rattle.mx_judge.specs.Listed.{ReadTrace, place_of}
 use Rattle.mx_judge.specs.Messages.{SentMessage}
 use Rattle.mx_judge.specs.Traces.{place_word, trace_at}
-use Rattle.mx_judge.specs.declared.faults.TraceFault.{TraceFault}
 use Rattle.mx_conform.specs.Departures.{departure_in}
 
 abbrev pub conform_status : Option ℕ → ℕ
@@ -80,10 +79,9 @@ IsFollowed is_json p word t messages r =
     (text : Text) × IsConformText is_json p word t (departure_in p t) text
     × IsWhole text (conform_status (departure_in p t)) r
 
-abbrev pub IsConformed : Bool → Fields → Text → Result ReadTrace TraceFault → Report → Type 0
-IsConformed is_json p word (Ok t) r = IsFollowed is_json p word t t.messages r
-IsConformed is_json p word (Err fault) r = IsFaultReport fault r
-
--- a report of `conform` on the trace in a text
+-- a report of `conform` on the trace in a text; or the line of the fault of a text that lists no
+-- trace
 abbrev pub IsConformance : Bool → Fields → Text → Report → Type 0
-IsConformance is_json p text = IsConformed is_json p (place_word text) (trace_at p text)
+IsConformance is_json p text r =
+    MatchResult (trace_at p text)
+    (λ t. IsFollowed is_json p (place_word text) t t.messages r) (λ fault. IsFaultReport fault r)

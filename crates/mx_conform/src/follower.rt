@@ -1,7 +1,6 @@
 //! Following a trace: its events are done in a cluster of the plan, and what they send is compared.
 
-ghost use Rattle.std.specs.Prelude.{◌≡◌, ◌≤◌, OnOk, IfOk, drop, length, option_map_or, false};
-ghost use Rattle.std.specs.Prelude.{position};
+ghost use Rattle.std.specs.Prelude.{◌≡◌, ◌++◌, [], OnOk, drop, position};
 ghost use Rattle.mx_conform.specs.Following as spec;
 
 use crate::agreement::{is_shown_by, is_told};
