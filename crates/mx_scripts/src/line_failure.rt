@@ -22,7 +22,7 @@ pub enum LineFailure {
 
 impl From<AllocError> for LineFailure {
     ghost use Rattle.std.specs.Prelude.{◌≡◌};
-    ghost use Rattle.mx_scripts.specs.declared.line_failure.LineFailure.TheVariants.{Memory, Refused};
+    ghost use Rattle.mx_scripts.specs.declared.line_failure.LineFailure.TheVariants.{Memory};
 
     ghost from_gives = { λ _ failure. failure ≡ Memory };
 
@@ -32,6 +32,9 @@ impl From<AllocError> for LineFailure {
 }
 
 impl<T: Drop> From<AllocFailed<T>> for LineFailure {
+    ghost use Rattle.std.specs.Prelude.{◌≡◌};
+    ghost use Rattle.mx_scripts.specs.declared.line_failure.LineFailure.TheVariants.{Memory};
+
     ghost from_gives = { λ _ failure. failure ≡ Memory };
 
     fn from(_e: AllocFailed<T>) -> LineFailure {
@@ -40,6 +43,9 @@ impl<T: Drop> From<AllocFailed<T>> for LineFailure {
 }
 
 impl From<LineFault> for LineFailure {
+    ghost use Rattle.std.specs.Prelude.{◌≡◌};
+    ghost use Rattle.mx_scripts.specs.declared.line_failure.LineFailure.TheVariants.{Refused};
+
     ghost from_gives = { λ fault failure. failure ≡ Refused fault };
 
     fn from(fault: LineFault) -> LineFailure {
@@ -48,6 +54,7 @@ impl From<LineFault> for LineFailure {
 }
 
 impl From<StepFault> for LineFailure {
+    ghost use Rattle.std.specs.Prelude.{◌≡◌};
     ghost use Rattle.mx_scripts.specs.Failures.{failure_of_step};
 
     ghost from_gives = { λ fault failure. failure ≡ failure_of_step fault };
