@@ -24,6 +24,7 @@ use Rattle.mx_event_files.specs.ScriptFiles.{IsFileOfScript, StopsFrom}
 use Rattle.mx_lines.specs.Within.{IsLineWithin, IsOrderWithin}
 use Rattle.mx_lines.proofs.WithinLemmas.{read_within}
 use Rattle.mx_event_files.proofs.PlayedLemmas.{file_of_played, noted, plays_step}
+use Rattle.mx_scripts.proofs.LineLemmas.{next_within}
 use Rattle.mx_scripts.specs.States.{Brings, IsAllowed, IsEventWithin, RunState, before_any}
 use Rattle.mx_event_files.specs.declared.happening.Happening.{Happening}
 use Rattle.mx_scripts.specs.declared.line_failure.LineFailure.{LineFailure}
