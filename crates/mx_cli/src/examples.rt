@@ -189,8 +189,7 @@ A trace is what `mx judge` reads, with the messages that each event sends. Its e
 after another by the algorithm of the plan. An event conforms if it has the outcome that the rules
 give, and sends the letters that they send, in any order. What the trace leaves out of a message is
 not compared: only parcel, from, to and kind are needed. The first event that departs is named, with
-its letters that no rule sends, those that are missing, and what its node knew before it. In a trace that conforms no two nodes are inside together, and the n-th section
-entered has the number n.
+its letters that no rule sends, those that are missing, and what its node knew before it.
 
 Reads, writes, wants, settling and gossip are passed over, and so are the causes of refusals. If
 the trace has no message of a node to itself, such letters are delivered at once; and so are those

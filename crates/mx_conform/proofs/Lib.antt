@@ -1,2 +1,2 @@
-mod TurnLemmas
 mod FollowLemmas
+mod ReportLemmas

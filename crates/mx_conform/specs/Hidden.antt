@@ -1,6 +1,5 @@
 -- The letters that a program may do without.
-use Rattle.std.specs.Prelude.{ℕ, ◌&&◌, ◌||◌, Bool, false, List, codes, nat_eq, not}
-use Rattle.std.specs.List.{list_any}
+use Rattle.std.specs.Prelude.{ℕ, ◌&&◌, ◌||◌, Bool, false, codes, nat_eq, not}
 use Rattle.std.specs.Str.{bytes_eq}
 use Rattle.mx_member.specs.declared.parcel.Parcel.{Parcel}
 use Rattle.mx_member.specs.declared.parcel.Parcel.TheVariants.{Guard}
@@ -21,11 +20,6 @@ abbrev pub is_gossip : SentMessage → Bool
 is_gossip message =
     bytes_eq message.kind (codes "\"want\"") || bytes_eq message.kind (codes "\"base\"")
     || bytes_eq message.kind (codes "\"records\"")
-
--- a trace with these messages leaves out each kind of which it has none
-abbrev pub hidden_in : List SentMessage → Hidden
-hidden_in messages =
-    record { own = not (list_any is_own messages); got = not (list_any is_got messages) }
 
 module _ {M : Type 0} (parts : M → Parts) where
   -- the parcel is one of those that are left out

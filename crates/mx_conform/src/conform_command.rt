@@ -2,7 +2,6 @@
 
 ghost use Rattle.std.specs.Prelude.{◌≡◌};
 ghost use Rattle.mx_cli.specs.Printing.{Prints, sight};
-ghost use Rattle.mx_judge.specs.Listed.{listed};
 ghost use Rattle.mx_conform.specs.Printed.{IsConformance, IsFollowed, conform_status};
 
 use crate::conformance::first_departure;
@@ -21,7 +20,7 @@ pub struct Conform {
 }
 
 impl Command for Conform {
-    ghost reports = { λ c p text. IsConformance c.is_json p text };
+    ghost reports = { λ _ p text. IsConformance p text };
 
     fn run<O: Output>(
         &self,
@@ -45,8 +44,8 @@ fn follow<O: Output>(
     is_json: bool,
     out: &mut O,
 ) -> Result<u8, Stop>
-    ensures prints { Prints (IsFollowed is_json plan.now word.now (listed trace.now)
-        (listed trace.now).messages) (sight O.Output out.old) (sight O.Output out.new) result }
+    ensures prints { Prints IsFollowed
+        (sight O.Output out.old) (sight O.Output out.new) result }
 {
     if trace.messages.is_empty() {
         return Err(stop_with(alloc, "mx: trace: no messages\n"));

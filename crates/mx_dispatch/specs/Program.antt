@@ -40,7 +40,7 @@ DoesTask told files (picture_trace part) = Runs (IsTracePictured part) told file
 DoesTask told files (count is_json) = Runs (IsCount is_json) told files
 DoesTask told files (count_script is_json) = Runs (IsOnScript (IsCount is_json)) told files
 DoesTask told files (judge is_json) = Runs (IsJudgement is_json) told files
-DoesTask told files (conform is_json) = Runs (IsConformance is_json) told files
+DoesTask told files (conform is_json) = Runs IsConformance told files
 DoesTask told files (explain is_script) = Explains told files.plan files.text is_script
 -- these need more than files
 DoesTask told files (live options) = λ t u old new status. Declines old new status
