@@ -6,7 +6,7 @@ _mx() {
         *" ${COMP_WORDS[COMP_CWORD - 1]} "*) return ;;
     esac
     if [ "$COMP_CWORD" -le "$at" ]; then
-        words="check replay explore live draw script play picture count judge conform explain help"
+        words="check replay explore live draw script play picture count judge explain help"
     elif [[ ${COMP_WORDS[at]} != help && $word != -* ]]; then
         mapfile -t COMPREPLY < <(compgen -f -- "$word")
         return
@@ -22,9 +22,8 @@ _mx() {
             picture) words="--from --to --node --letters --script --trace --help" ;;
             count) words="--json --script --help" ;;
             judge) words="--json --help" ;;
-            conform) words="--json --help" ;;
             explain) words="--script --help" ;;
-            help) words="check replay explore live draw script play picture count judge conform explain" ;;
+            help) words="check replay explore live draw script play picture count judge explain" ;;
         esac
     fi
     mapfile -t COMPREPLY < <(compgen -W "$words" -- "$word")

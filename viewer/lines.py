@@ -1,5 +1,4 @@
-"""Reads what `mx replay --json`, `mx judge --json` or `mx conform --json` prints, and makes the page of it: for ./page, ./drive
-and ./shiviz.
+"""Reads what `mx replay --json` or `mx judge --json` prints, and makes the page of it: for ./page, ./drive and ./shiviz.
 
 Of a script, `mx replay --script --json` prints `{"line":N}` before whatever line N did: an event, `{"lost":K}`, `{"cut":[N]}`,
 `{"cut":[N,M]}`, or the same with `heal`, or `{"heal":[]}` of all links. A line that is refused is an object of `line`, `fault`
@@ -13,14 +12,13 @@ from command import Fault
 VIEWER = os.path.dirname(os.path.realpath(__file__))
 KINDS = {  # the member that tells the kind of a line, and what else such a line needs
     "act": ["outcome"], "kind": ["parcel", "from", "to"], "phase": ["node", "mine", "knows"],
-    "stuck": [], "lost": [], "cut": [], "heal": [], "clause": ["verdict", "index"],
-    "extra": ["verdict", "index", "reason", "missing"], "verdict": [], "fault": ["line", "message"],
+    "stuck": [], "lost": [], "cut": [], "heal": [], "clause": ["verdict", "index"], "verdict": [], "fault": ["line", "message"],
     "line": [], "nodes": [],
 }
 TEXTS = """act node register from to outcome cause kind of phase fact verdict clause reason event parcel index number
-    value writes count upto stamp top grant last hop mine records gapless lost line fault message letter""".split()
-LISTS = {"knows": ["fact", "values"], "values": [], "stuck": ["node", "for"], "missing": ["from", "to", "letter"]}  # of objects, and what each needs
-TYPES = {**dict.fromkeys(TEXTS, str), **dict.fromkeys(["ranges", "numbers", "cut", "heal", "for", "nodes", "extra", *LISTS], list),
+    value writes count upto stamp top grant last hop mine records gapless lost line fault message""".split()
+LISTS = {"knows": ["fact", "values"], "values": [], "stuck": ["node", "for"]}  # of objects, and what each needs
+TYPES = {**dict.fromkeys(TEXTS, str), **dict.fromkeys(["ranges", "numbers", "cut", "heal", "for", "nodes", *LISTS], list),
          "registers": dict}
 
 encoded = json.JSONEncoder(separators=(",", ":")).encode
@@ -50,7 +48,7 @@ def has_form(key, value):
     """Whether the items of a list of numbers, of names, of one or two names, or of pairs of numbers, are such."""
     if key == "ranges":
         return all(type(item) is list and len(item) == 2 and has_form("numbers", item) for item in value)
-    isnt = key not in ("numbers", "for", "nodes", "cut", "heal", "extra")
+    isnt = key not in ("numbers", "for", "nodes", "cut", "heal")
     return isnt or all(type(item) is str for item in value) and (key not in ("cut", "heal") or (key == "cut") <= len(value) < 3)
 
 
@@ -62,8 +60,7 @@ def read(line, counts):
     """What the page shows of a line, after so many of each kind."""
     is_run = type(line) is dict and "algorithm" not in line  # which a plan has
     kind = next((key for key in KINDS if is_run and key in line), "verdict")
-    verdicts = counts["clause"] + counts["verdict"]
-    if counts["extra"] or verdicts > 1 or verdicts and kind not in ("extra", "verdict"):
+    if counts["clause"] or counts["verdict"]:
         raise Fault("it follows the verdict")
     if counts["fault"] and kind not in ("phase", "stuck", "verdict"):
         raise Fault("it follows a line that is refused")
@@ -84,17 +81,15 @@ def check(kind, line, counts):
     """Refuses a line that names what is not there."""
     if kind == "nodes" and any(counts.values()):
         raise Fault("it follows another line")
-    if kind == "verdict" and line["verdict"] != ("conforms" if counts["clause"] + counts["verdict"] else "sound"):
+    if kind == "verdict" and line["verdict"] != "sound":
         raise Fault("clause is missing")
-    if kind == "extra" and not all(is_below(number, counts["kind"]) for number in line["extra"]):
-        raise Fault("its parcel is missing")
     if kind == "act" and not {"node", "parcel"} & set(line):
         raise Fault("node is missing")
     if kind == "lost" and not is_below(line["lost"], counts["kind"]):
         raise Fault("its parcel is missing")
     if kind in ("fault", "line") and (not is_below(line["line"], 1 << 64) or int(line["line"]) < max(counts["line"], 1)):
         raise Fault("line is wrong")
-    if kind == "kind" and not counts["act"] or kind in ("clause", "extra") and not is_below(line["index"], counts["act"]):
+    if kind == "kind" and not counts["act"] or kind == "clause" and not is_below(line["index"], counts["act"]):
         raise Fault("its event is missing")
 
 
@@ -109,7 +104,7 @@ def lines_of(source):
         raise Fault(f"line {at}: {fault}")
     except (ValueError, RecursionError):
         raise Fault(f"line {at}: not JSON, as `mx replay --json` and `mx judge --json` print it")
-    if not (counts["verdict"] or counts["clause"] or counts["extra"]):
+    if not counts["verdict"] and not counts["clause"]:
         raise Fault(f"line {at + 1}: the verdict is missing; if mx has printed a message, look at that first")
 
 

@@ -1,4 +1,4 @@
-"""Turns what `mx replay --json`, `mx judge --json` or `mx conform --json` prints into a page of HTML, which shows the run step by step
+"""Turns what `mx replay --json` or `mx judge --json` prints into a page of HTML, which shows the run step by step
 (docs/PICTURES.md). The page is one file that needs no other; its parts are in the folder viewer.
 
 Usage: mx replay PLAN EVENTS --json [--state] | ./page > run.html    or    mx judge PLAN TRACE --json | ./page > run.html

@@ -32,7 +32,6 @@ function readRun(lines, isDriven) {
     else if (!line.verdict) number = line.line;
   }
   run.steps.forEach(({ event }, at) => run.parcels[+event?.parcel]?.deliveries.push(at));
-  run.verdict.extra?.forEach(number => run.parcels[+number].isExtra = true);
   run.brokenAt = run.steps.findIndex(({ place }) => place === run.verdict.index);
   return { ...run, names: namesOf(run), ...shapeOf(run) };
 }
@@ -107,9 +106,8 @@ function cutAfter({ links, names }, at) {
   return [...found].map(pair => pair.split(","));
 }
 
-/** The nodes that a verdict concerns: that of its event and, if it is broken, those that were inside before it. */
+/** The nodes that a broken verdict concerns: that of its event, and those that were inside before it. */
 function concerned({ steps, verdict, brokenAt }, nodesAfter) {
-  if (verdict.extra) return unique([steps[brokenAt].node]);
   if (!verdict.clause) return [];
   const inside = [...nodesAfter(brokenAt - 1)].filter(([, node]) => node.phase === "inside");
   return unique([steps[brokenAt].node, ...inside.map(([name]) => name)]);
@@ -129,7 +127,7 @@ const fullText = parcel => `#${parcel.parcel} ${parcel.from}>${parcel.to} ${parc
 const labelText = parcel => `#${parcel.parcel} ${parcelText(parcel)}`;
 const valueText = ({ node, number, stamp, of }) => of ? `${stamp}.${of}` : unique([node, number]).join("/");
 const factText = ({ fact, values }) => [fact, ...values.map(valueText)].join(" ");
-const kindOf = (parcel, at) => parcel.isExtra ? "extra" : isLost(parcel, at) ? "lost" : parcel.kind === "request" ? parcel.kind
+const kindOf = (parcel, at) => isLost(parcel, at) ? "lost" : parcel.kind === "request" ? parcel.kind
   : GRANTS.includes(parcel.kind) ? "grant" : "other";
 
 function eventText({ event, ...rest }) {

@@ -44,23 +44,16 @@ function knownAt(at) {
   return outcomeAt(at) === "refused" && facts.length ? `${name}: ${facts.map(([, text]) => text).join(", ")}. ` : "";
 }
 
-/** What is wrong with the event that breaks a rule, or departs from the rules. */
-function breakText({ clause, reason, extra, missing }) {
-  const why = reason ? `: ${reason}` : "";
-  if (!extra) return `This breaks the run: ${clause}, ${broken.join(" and ")}${why}. `;
-  const sent = extra.map(number => `Not by the rules: ${fullText(run.parcels[+number])}. `);
-  return [`This departs from the rules${why}. `, ...sent, ...missing.map(it => `Not sent: ${it.from}>${it.to} ${it.letter}. `)].join("");
-}
-
 function drawNow() {
-  const { at, note } = view, { event, sent } = run.steps[at] ?? {};
+  const { at, note } = view, { event, sent } = run.steps[at] ?? {}, { clause, reason } = run.verdict;
   const { fault, message } = run.fault ?? {}, isEnd = fault && at === last && !isDriven;
   const ends = isEnd ? html("span", { class: "broken" }, faultText(run.fault, fault + message)) : "";
   if (at < 0) return fill("now", html("b", {}, "Start"), ` before the first of ${counted(run.count, "event")}. ${note}`, ends);
   if (!event) return fill("now", html("b", {}, textAt(at)), ` ${note}`, ends);
   const sends = sent.length > 2 ? [` sends ${sent.length} parcels`] : sent.flatMap((it, i) => [i ? ", " : " sends ", parcelButton(it)]);
   const more = parcelAt(at) ? [parcelButton(parcelAt(at)), ...sends] : sends, known = knownAt(at);
-  const breaks = at === run.brokenAt ? breakText(run.verdict) : "";
+  const why = reason ? `: ${reason}` : "", rule = `${clause}, ${broken.join(" and ")}`;
+  const breaks = at === run.brokenAt ? `This breaks the run: ${rule}${why}. ` : "";
   return fill("now", html("b", { class: event.outcome }, textAt(at)), " ", ...more, ` ${known}${breaks}${note}`, ends);
 }
 
@@ -156,20 +149,18 @@ function knownIn({ parcels, told, steps, isOpen }) {
 
 /** What only the run changes. */
 function drawRun() {
-  const { verdict, index, clause, extra } = run.verdict, { algorithm, tree, names, isOpen } = run;
+  const { verdict, index, clause } = run.verdict, { algorithm, tree, names, isOpen } = run;
   const size = `${counted(run.count, "event")}, ${counted(names.length, "node")}`, known = knownIn(run);
   for (const id of ["waits", "lost", "old"]) byId(id).parentElement.hidden = !known[id];
   byId("way").hidden = !known.way;
   byId("title").textContent = document.title = algorithm ? `${algorithm}: ${size}` : `A run of ${size}`;
   byId("slider").max = last;
-  const found = clause ? `${verdict} at ${index}: ${clause}` : `${verdict} at ${index}`;
-  const link = html("a", { href: `#${index}`, class: "broken" }, `${found} \u2717`);
-  fill("verdict", "Verdict: ", clause || extra ? link : `${verdict} \u2713`);
+  const link = html("a", { href: `#${index}`, class: "broken" }, `broken at ${index}: ${clause} \u2717`);
+  fill("verdict", "Verdict: ", clause ? link : `${verdict} \u2713`);
   const gone = isOpen ? "lost" : "never delivered";
   byId("lost").nextSibling.textContent = ` also those ${gone}`;
   const letters = ["request", "grant", "other"].map(kind => sample(kind, kind, "arrives"));
-  const unruly = extra?.length ? [sample("not by the rules", "extra", "arrives")] : [];
-  const fates = [...unruly, sample("delivered again", "other again", "arrives"), sample(gone, "lost", "lost")];
+  const fates = [sample("delivered again", "other again", "arrives"), sample(gone, "lost", "lost")];
   fill("legend", ...(ring.isMany ? Object.keys(OUTLINES).map(sign) : []), ...(known.way ? letters : []),
     ...(known.waits ? [sample("waits for", "waits", "waits")] : []),
     ...(tree.length ? [sample("tree"), sample("towards the privilege", "towards", "towards")] : []),

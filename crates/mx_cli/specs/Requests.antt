@@ -49,7 +49,6 @@ pub data Task : Type 0 where
   count : Bool → Task
   count_script : Bool → Task
   judge : Bool → Task
-  conform : Bool → Task
   explain : Bool → Task
 
 -- what the words ask for: a command with its files, or options that do not go together
@@ -87,7 +86,6 @@ task_of (given_task.PictureTrace part) = picture_trace (part_of part)
 task_of (given_task.Count is_json) = count is_json
 task_of (given_task.CountScript is_json) = count_script is_json
 task_of (given_task.Judge is_json) = judge is_json
-task_of (given_task.Conform is_json) = conform is_json
 task_of (given_task.Explain is_script) = explain is_script
 
 abbrev pub request_of : Given → Request
@@ -277,12 +275,6 @@ judge_in rows =
     option_map (λ names. task (of_trace names) (judge (is_given (codes "json") rows)))
     (names_in (codes "TRACE") rows)
 
--- `conform`
-abbrev pub conform_in : List Row → Option Request
-conform_in rows =
-    option_map (λ names. task (both names true) (conform (is_given (codes "json") rows)))
-    (names_in (codes "TRACE") rows)
-
 -- `explain`
 abbrev pub explain_in : List Row → Option Request
 explain_in rows =
@@ -306,7 +298,6 @@ request_in (Some p) =
     else if bytes_eq p.0 (codes "picture") then picture_in p.1
     else if bytes_eq p.0 (codes "count") then count_in p.1
     else if bytes_eq p.0 (codes "judge") then judge_in p.1
-    else if bytes_eq p.0 (codes "conform") then conform_in p.1
     else if bytes_eq p.0 (codes "explain") then explain_in p.1
     else None
 

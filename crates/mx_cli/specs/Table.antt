@@ -149,12 +149,6 @@ judge_app =
     app_with (codes "judge")
     (plan_rule ∷ file_rule (codes "TRACE") ∷ flag_rule (codes "json") ∷ [])
 
--- `conform PLAN TRACE`, and perhaps `--json`
-abbrev pub conform_app : App
-conform_app =
-    app_with (codes "conform")
-    (plan_rule ∷ file_rule (codes "TRACE") ∷ flag_rule (codes "json") ∷ [])
-
 -- `explain PLAN`, and perhaps `EVENTS` and `--script`
 abbrev pub explain_app : App
 explain_app =
@@ -172,7 +166,6 @@ command_app id.Play = play_app
 command_app id.Picture = picture_app
 command_app id.Count = count_app
 command_app id.Judge = judge_app
-command_app id.Conform = conform_app
 command_app id.Explain = explain_app
 
 -- ---- command lines
@@ -200,4 +193,4 @@ unfoldable pub mx_app : App
 mx_app =
     with_commands mx_start
     (id.Check ∷ id.Replay ∷ id.Explore ∷ id.Live ∷ id.Draw ∷ id.Script ∷ id.Play ∷ id.Picture
-    ∷ id.Count ∷ id.Judge ∷ id.Conform ∷ id.Explain ∷ [])
+    ∷ id.Count ∷ id.Judge ∷ id.Explain ∷ [])

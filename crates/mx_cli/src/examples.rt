@@ -168,35 +168,6 @@ The last line says where that event is and what was expected. With --json each e
 of JSON, and so is the verdict. The status is 0 if the trace is sound, and 4 if it is broken.
 docs/FORMATS.md has all formats.";
 
-pub(crate) const CONFORM: &str = "Example: node b enters before a has replied.
-
-  plan.json    {\"algorithm\":\"ricart\",\"nodes\":[\"a\",\"b\"],\"registers\":[\"count\"],\"sections\":10}
-  trace.json   {\"act\":\"ask\",\"node\":\"b\",\"outcome\":\"asked\",\"number\":1}
-               {\"parcel\":0,\"from\":\"b\",\"to\":\"a\",\"kind\":\"request\",\"stamp\":1,\"of\":\"b\"}
-               {\"act\":\"enter\",\"node\":\"b\",\"outcome\":\"entered\",\"number\":1}
-
-  mx conform plan.json trace.json
-
-prints
-
-  events 2, sections 1
-  departs at 1: enter b
-  line 3: entered 1, the rules: refused not granted
-    b: waiting
-      clock 1, request 1.b, missing a
-
-A trace is what `mx judge` reads, with the messages that each event sends. Its events are done one
-after another by the algorithm of the plan. An event conforms if it has the outcome that the rules
-give, and sends the letters that they send, in any order. What the trace leaves out of a message is
-not compared: only parcel, from, to and kind are needed. The first event that departs is named, with
-its letters that no rule sends, those that are missing, and what its node knew before it.
-
-Reads, writes, wants, settling and gossip are passed over, and so are the causes of refusals. If
-the trace has no message of a node to itself, such letters are delivered at once; and so are those
-that acknowledge a privilege, if it has none. A release that answers a late letter may be missing.
-With --json come the objects of `mx judge --json`, and then one with what was found. The status is
-0 if the trace conforms, and 4 if it departs. docs/FORMATS.md has all formats.";
-
 pub(crate) const EXPLAIN: &str = "Example: a key of a plan and a name in an event, both misspelt.
 
   plan.json    {\"algorithm\":\"ricart\",\"nodes\":[\"ann\",\"bob\"],\"registers\":[\"n\"],\"sections\":9,\"orgin\":7}

@@ -66,7 +66,6 @@ fn request_in<'a>(name: &str, matches: &ArgMatches<'a>) -> Option<Request<'a>>
         "picture" => picture_in(matches),
         "count" => count_in(matches),
         "judge" => judge_in(matches),
-        "conform" => conform_in(matches),
         "explain" => explain_in(matches),
         _ => None,
     }
@@ -299,14 +298,6 @@ fn judge_in<'a>(matches: &ArgMatches<'a>) -> Option<Request<'a>>
     let names = names_in(matches, "TRACE")?;
     let is_json = is_given(matches, "json");
     Some(Request::Task(Files::of_trace(&names), Task::Judge { is_json }))
-}
-
-fn conform_in<'a>(matches: &ArgMatches<'a>) -> Option<Request<'a>>
-    ensures { option_map spec.request_of result ≡ spec.conform_in (rows_of (found_of matches.now)) }
-{
-    let names = names_in(matches, "TRACE")?;
-    let is_json = is_given(matches, "json");
-    Some(Request::Task(Files::both(&names, true), Task::Conform { is_json }))
 }
 
 fn explain_in<'a>(matches: &ArgMatches<'a>) -> Option<Request<'a>>

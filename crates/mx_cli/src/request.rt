@@ -171,9 +171,6 @@ pub enum Task<'a> {
     Judge {
         is_json: bool,
     },
-    Conform {
-        is_json: bool,
-    },
     Explain {
         is_script: bool,
     },

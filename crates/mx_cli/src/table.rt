@@ -22,7 +22,6 @@ pub(crate) enum CommandId {
     Picture,
     Count,
     Judge,
-    Conform,
     Explain,
 }
 
@@ -35,7 +34,7 @@ pub(crate) struct CommandRow {
 }
 
 /// All commands, in the order of the help.
-pub(crate) const COMMANDS: [CommandId; 12] = [
+pub(crate) const COMMANDS: [CommandId; 11] = [
     CommandId::Check,
     CommandId::Replay,
     CommandId::Explore,
@@ -46,7 +45,6 @@ pub(crate) const COMMANDS: [CommandId; 12] = [
     CommandId::Picture,
     CommandId::Count,
     CommandId::Judge,
-    CommandId::Conform,
     CommandId::Explain,
 ];
 
@@ -131,13 +129,6 @@ static JUDGE: CommandRow = CommandRow {
     example: examples::JUDGE,
 };
 
-static CONFORM: CommandRow = CommandRow {
-    name: "conform",
-    about: "Follows the trace of any program by the rules of the plan's algorithm",
-    arguments: &[PLAN, TRACE, JSON],
-    example: examples::CONFORM,
-};
-
 static EXPLAIN: CommandRow = CommandRow {
     name: "explain",
     about: "Explains what is wrong in a plan, its events or a script, and where",
@@ -159,7 +150,6 @@ pub(crate) fn row_of(id: CommandId) -> &'static CommandRow
         CommandId::Picture => &PICTURE,
         CommandId::Count => &COUNT,
         CommandId::Judge => &JUDGE,
-        CommandId::Conform => &CONFORM,
         CommandId::Explain => &EXPLAIN,
     }
 }

@@ -5,10 +5,9 @@ use Rattle.mx_io.specs.Stored.{Stored, Stores}
 use Rattle.mx_io.specs.Told.{Asks, Telling}
 use Rattle.mx_cli.specs.Frames.{AsksFiles, Files, Runs}
 use Rattle.mx_cli.specs.Reports.{Declines, ReportsUsage, Seen}
-use Rattle.mx_cli.specs.Requests.{Request, Task, check, conform, count, count_script, draw, explain, explore, judge, live, misfit, picture, picture_script, picture_trace, play, replay, replay_script, script, task}
+use Rattle.mx_cli.specs.Requests.{Request, Task, check, count, count_script, draw, explain, explore, judge, live, misfit, picture, picture_script, picture_trace, play, replay, replay_script, script, task}
 use Rattle.mx_driver.specs.Commands.{IsCheck}
 use Rattle.mx_driver.specs.Viewed.{IsReplayed}
-use Rattle.mx_conform.specs.Printed.{IsConformance}
 use Rattle.mx_count.specs.Printed.{IsCount}
 use Rattle.mx_explain.specs.Explained.{Explains}
 use Rattle.mx_draw.specs.Drawn.{IsDraw}
@@ -40,7 +39,6 @@ DoesTask told files (picture_trace part) = Runs (IsTracePictured part) told file
 DoesTask told files (count is_json) = Runs (IsCount is_json) told files
 DoesTask told files (count_script is_json) = Runs (IsOnScript (IsCount is_json)) told files
 DoesTask told files (judge is_json) = Runs (IsJudgement is_json) told files
-DoesTask told files (conform is_json) = Runs IsConformance told files
 DoesTask told files (explain is_script) = Explains told files.plan files.text is_script
 -- these need more than files
 DoesTask told files (live options) = λ t u old new status. Declines old new status

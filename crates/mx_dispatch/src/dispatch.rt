@@ -9,7 +9,6 @@ ghost use Rattle.mx_cli.specs.Reports.{Declines, HelpsOrRefuses, seen};
 ghost use Rattle.mx_dispatch.specs.Program.{AsksOnce, AsksTask, Does, DoesTask, DoesWith, HasReason};
 
 use mx_cli::{Files, Request, Task, front, parse, refuse, report_misfit};
-use mx_conform::Conform;
 use mx_count::Count;
 use mx_draw::{Draw, Explore};
 use mx_driver::{Check, Replay};
@@ -196,7 +195,6 @@ fn do_task<S: Source, O: Output, E: Output>(
             )
         }
         Task::Judge { is_json } => front(alloc, &Judge { is_json }, files, source, out, err),
-        Task::Conform { is_json } => front(alloc, &Conform { is_json }, files, source, out, err),
         Task::Explain { is_script } => {
             explain(alloc, files.plan, files.text, is_script, source, out, err)
         }

@@ -26,7 +26,7 @@ pub use facts::add_facts_line;
 pub use files::{add_file, file_of};
 pub use letters::Letter;
 pub use node_json::add_node_json;
-pub use nodes::{PhaseText, add_member_line};
+pub use nodes::add_member_line;
 pub use parcels::{add_parcel, add_parcel_json, add_parcel_line};
 pub use parts::{LetterParts, Numbers, Style, Subject};
 pub use peers::add_asks;

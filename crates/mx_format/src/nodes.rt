@@ -32,9 +32,9 @@ pub fn add_member_line<C: Exclusion>(
     text.push_str("\n")
 }
 
-/// The text of a node's phase: `idle`, `waiting`, or `inside` and a section's number.
+/// The phase of a node, as a text.
 #[derive(Clone, Copy)]
-pub struct PhaseText(pub Phase);
+struct PhaseText(Phase);
 
 impl fmt::Display for PhaseText {
     ghost output = { λ p. Some (phase_text p.0) };

@@ -121,12 +121,7 @@ impl Judged<'_> {
     }
 }
 
-/// Appends the line of how many events a trace has, and how many sections were entered.
-///
-/// # Errors
-///
-/// Returns `AllocError` if memory runs out.
-pub fn add_counts(entries: &[Entry], text: &mut String) -> Result<(), AllocError>
+fn add_counts(entries: &[Entry], text: &mut String) -> Result<(), AllocError>
     ensures { OnOk result (string_bytes text.new
         ≡ string_bytes text.old ++ spec.counts_line entries.now) }
 {
@@ -148,12 +143,7 @@ fn start_verdict(verdict: Verdict, text: &mut String) -> Result<(), AllocError>
     }
 }
 
-/// Appends the same as members of an object.
-///
-/// # Errors
-///
-/// Returns `AllocError` if memory runs out.
-pub fn add_counts_members(entries: &[Entry], text: &mut String) -> Result<(), AllocError>
+fn add_counts_members(entries: &[Entry], text: &mut String) -> Result<(), AllocError>
     ensures { OnOk result (string_bytes text.new
         ≡ string_bytes text.old ++ spec.counts_members entries.now) }
 {

@@ -17,7 +17,7 @@ mod trace_reader;
 mod wrong_member;
 
 pub use judge_command::Judge;
-pub use judgement::{add_counts, add_counts_members, judgement_of};
+pub use judgement::judgement_of;
 pub use message::{Message, MessageParts};
 pub use reasons::reason_for;
 pub use trace::Trace;

@@ -38,9 +38,6 @@ returns-in-CountScript g c = rw c.in-CountScript.is (record { does = c.front-in-
 pub returns-in-Judge : goal.returns-in-Judge
 returns-in-Judge g c = rw c.in-Judge.is (record { does = c.front-in-Judge.ensures.runs; asks = inr c.front-in-Judge.ensures.asks })
 
-pub returns-in-Conform : goal.returns-in-Conform
-returns-in-Conform g c = rw c.in-Conform.is (record { does = c.front-in-Conform.ensures.runs; asks = inr c.front-in-Conform.ensures.asks })
-
 pub returns-in-Explain : goal.returns-in-Explain
 returns-in-Explain g c = rw c.in-Explain.is (record { does = c.explain.ensures.explains; asks = inr tt })
 

@@ -1,2 +1,0 @@
-mod FollowLemmas
-mod ReportLemmas
