@@ -48,7 +48,7 @@ pub data Task : Type 0 where
   picture_trace : Part → Task
   count : Bool → Task
   count_script : Bool → Task
-  judge : Bool → Task
+  judge : Bool → Bool → Task
   conform : Bool → Task
   explain : Bool → Task
 
@@ -86,7 +86,7 @@ task_of (given_task.PictureScript part only_letters) = picture_script (part_of p
 task_of (given_task.PictureTrace part) = picture_trace (part_of part)
 task_of (given_task.Count is_json) = count is_json
 task_of (given_task.CountScript is_json) = count_script is_json
-task_of (given_task.Judge is_json) = judge is_json
+task_of (given_task.Judge is_ordered is_json) = judge is_ordered is_json
 task_of (given_task.Conform is_json) = conform is_json
 task_of (given_task.Explain is_script) = explain is_script
 
@@ -274,7 +274,9 @@ count_in rows =
 -- `judge`
 abbrev pub judge_in : List Row → Option Request
 judge_in rows =
-    option_map (λ names. task (of_trace names) (judge (is_given (codes "json") rows)))
+    option_map
+    (λ names. task (of_trace names)
+    (judge (is_given (codes "ordered") rows) (is_given (codes "json") rows)))
     (names_in (codes "TRACE") rows)
 
 -- `conform`

@@ -143,11 +143,12 @@ count_app =
     app_with (codes "count")
     (plan_rule ∷ events_rule ∷ flag_rule (codes "json") ∷ flag_rule (codes "script") ∷ [])
 
--- `judge PLAN TRACE`, and perhaps `--json`
+-- `judge PLAN TRACE`, and perhaps `--ordered` and `--json`
 abbrev pub judge_app : App
 judge_app =
     app_with (codes "judge")
-    (plan_rule ∷ file_rule (codes "TRACE") ∷ flag_rule (codes "json") ∷ [])
+    (plan_rule ∷ file_rule (codes "TRACE") ∷ flag_rule (codes "ordered") ∷ flag_rule (codes "json")
+    ∷ [])
 
 -- `conform PLAN TRACE`, and perhaps `--json`
 abbrev pub conform_app : App

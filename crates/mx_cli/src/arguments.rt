@@ -106,6 +106,13 @@ pub(crate) const JSON: Argument = Argument {
     help: "Prints an object of JSON in place of each line",
 };
 
+pub(crate) const ORDERED: Argument = Argument {
+    name: "ordered",
+    kind: ArgumentKind::Flag,
+    is_required: false,
+    help: "Tells too whether messages order the sections",
+};
+
 pub(crate) const LETTERS: Argument = Argument {
     name: "letters",
     kind: ArgumentKind::Flag,

@@ -142,6 +142,7 @@ prints
   events 2, sections 2
   verdict broken at 1: overlap
   line 2: enter b, while a is inside section 1
+  inside at the end: a since line 1, b since line 2
 
 A trace has an object of JSON on each line, as `mx replay --json` prints them, or is an array of
 them. Any program may write it, whatever its algorithm; of the plan only the names are used. An
@@ -159,13 +160,18 @@ After an event come the messages that it sends, and a later event delivers one b
   {\"parcel\":NUMBER,\"from\":NODE,\"to\":NODE,\"kind\":TEXT}
   {\"act\":\"deliver\",\"parcel\":NUMBER,\"outcome\":\"delivered\"}
 
-They do not change the verdict; --json prints them, and `mx picture --trace` draws them.
+They do not change the verdict; --json prints them, and `mx picture --trace` draws them. With
+--ordered a line below the verdict says `ordered` if each node that enters knows, by itself or
+through messages, that each other node left the last section that it entered before. Otherwise it
+says `could overlap at`, and the line after it names the entry: with slower messages two nodes
+could be inside together.
 
 A trace is broken at the first event, counted from 0, at which two nodes are inside together or a
 node leaves what it did not enter (overlap), the n-th section entered does not have the number n
 (number), or a value was read that the writes before it, in order of entry, do not leave (read).
-The last line says where that event is and what was expected. With --json each event is an object
-of JSON, and so is the verdict. The status is 0 if the trace is sound, and 4 if it is broken.
+The line below says where that event is and what was expected. The last lines name the nodes that
+wait or are inside at the end. With --json each event is an object of JSON, and so is the verdict.
+The status is 0 if the trace is sound, and 4 if it is broken or its sections could overlap.
 docs/FORMATS.md has all formats.";
 
 pub(crate) const CONFORM: &str = "Example: node b enters before a has replied.
@@ -184,6 +190,7 @@ prints
   line 3: entered 1, the rules: refused not granted
     b: waiting
       clock 1, request 1.b, missing a
+  inside at the end: b since line 3
 
 A trace is what `mx judge` reads, with the messages that each event sends. Its events are done one
 after another by the algorithm of the plan, whose rules are proved. An event conforms if it has the

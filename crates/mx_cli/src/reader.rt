@@ -297,8 +297,11 @@ fn judge_in<'a>(matches: &ArgMatches<'a>) -> Option<Request<'a>>
     ensures { option_map spec.request_of result ≡ spec.judge_in (rows_of (found_of matches.now)) }
 {
     let names = names_in(matches, "TRACE")?;
-    let is_json = is_given(matches, "json");
-    Some(Request::Task(Files::of_trace(&names), Task::Judge { is_json }))
+    let judge = Task::Judge {
+        is_ordered: is_given(matches, "ordered"),
+        is_json: is_given(matches, "json"),
+    };
+    Some(Request::Task(Files::of_trace(&names), judge))
 }
 
 fn conform_in<'a>(matches: &ArgMatches<'a>) -> Option<Request<'a>>

@@ -169,6 +169,7 @@ pub enum Task<'a> {
         is_json: bool,
     },
     Judge {
+        is_ordered: bool,
         is_json: bool,
     },
     Conform {

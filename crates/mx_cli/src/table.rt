@@ -5,8 +5,8 @@ ghost use Rattle.mx_cli.specs.Table.{app_of_row, command_app};
 
 use crate::arguments::{
     ASKS, Argument, COUNT_TOO, EVENTS, EVENTS_OR_SCRIPT, FIRST_SCRIPT, FROM, IN_ORDER, IS_SCRIPT,
-    IS_TRACE, JSON, LETTERS, LINK_SEED, LOSS, NODE, PICTURE_NODE, PLAN, PROGRESS, QUIET, REPEAT,
-    SCRIPT, SECTIONS, SEED, SETTLE, STATE, STEPS, TO, TRACE, TURNS, WALK,
+    IS_TRACE, JSON, LETTERS, LINK_SEED, LOSS, NODE, ORDERED, PICTURE_NODE, PLAN, PROGRESS, QUIET,
+    REPEAT, SCRIPT, SECTIONS, SEED, SETTLE, STATE, STEPS, TO, TRACE, TURNS, WALK,
 };
 use crate::{examples, help};
 
@@ -127,7 +127,7 @@ static COUNT: CommandRow = CommandRow {
 static JUDGE: CommandRow = CommandRow {
     name: "judge",
     about: "Judges the trace of a run, whichever program wrote it",
-    arguments: &[PLAN, TRACE, JSON],
+    arguments: &[PLAN, TRACE, ORDERED, JSON],
     example: examples::JUDGE,
 };
 

@@ -13,6 +13,7 @@ use Rattle.mx_judge.specs.Judged.{IsVerdictOf, counts_line, counts_members, judg
 use Rattle.mx_judge.specs.Listed.{ReadTrace, place_of}
 use Rattle.mx_judge.specs.Messages.{SentMessage}
 use Rattle.mx_judge.specs.Traces.{place_word, trace_at}
+use Rattle.mx_judge.specs.Unfinished.{unfinished_lines, unfinished_members}
 use Rattle.mx_judge.specs.declared.faults.TraceFault.{TraceFault}
 use Rattle.mx_conform.specs.Departures.{departure_in}
 
@@ -35,13 +36,13 @@ module _ (word : Text) (t : ReadTrace) where
   place_member None = []
   place_member (Some k) = number_member word (place_of t k)
 
+module _ (p : Fields) (word : Text) (t : ReadTrace) where
   -- the object after those of `judge`. `details` are its members about the departure
   abbrev pub conform_object : Option ℕ → Text → Text
   conform_object departure details =
-      conform_start departure ++ counts_members t.entries ++ place_member departure ++ details
-      ++ codes "}\n"
+      conform_start departure ++ counts_members t.entries ++ place_member word t departure
+      ++ details ++ unfinished_members p word t ++ codes "}\n"
 
-module _ (p : Fields) (word : Text) (t : ReadTrace) where
   -- the k-th event departs. `details` say how
   abbrev pub departure_lines : ℕ → Text → Text
   departure_lines k details =
@@ -53,13 +54,14 @@ module _ (p : Fields) (word : Text) (t : ReadTrace) where
   verdict_lines (Some k) details = departure_lines k details
 
   abbrev pub conform_lines : Option ℕ → Text → Text
-  conform_lines departure details = counts_line t.entries ++ verdict_lines departure details
+  conform_lines departure details =
+      counts_line t.entries ++ verdict_lines departure details ++ unfinished_lines p word t
 
   -- the objects of `judge`, and one more
   abbrev pub IsConformJson : Option ℕ → Text → Text → Type 0
   IsConformJson departure details text =
       (verdict : Verdict) × IsVerdictOf t.entries verdict
-      × (text ≡ judgement_text true p word t verdict ++ conform_object word t departure details)
+      × (text ≡ judgement_text true p word t verdict ++ conform_object departure details)
 
   abbrev pub IsTextWith : Bool → Option ℕ → Text → Text → Type 0
   IsTextWith is_json departure details text =

@@ -10,7 +10,9 @@ use crate::departure::departure_at;
 use mx_explorer::judge;
 use mx_format::EventText;
 use mx_format::json::{add_number, start_word};
-use mx_judge::{Trace, add_counts, add_counts_members, judgement_of};
+use mx_judge::{
+    Trace, add_counts, add_counts_members, add_unfinished, add_unfinished_members, judgement_of,
+};
 use mx_plan::Plan;
 use std::alloc::{AllocError, Global};
 
@@ -67,6 +69,7 @@ impl Report<'_> {
             Some(index) => self.add_departure(index, details, &mut text)?,
             None => text.push_str("conforms\n")?,
         }
+        add_unfinished(alloc, self.plan, self.word, self.trace, &mut text)?;
         Ok(text)
     }
 
@@ -97,19 +100,20 @@ impl Report<'_> {
     {
         let verdict = judge(self.trace.entries.as_slice());
         let mut text = judgement_of(alloc, true, self.plan, self.word, self.trace, verdict)?;
-        self.add_object(details, &mut text)?;
+        self.add_object(alloc, details, &mut text)?;
         Ok(text)
     }
 
-    fn add_object(&self, details: &str, text: &mut String) -> Result<(), AllocError>
+    fn add_object(&self, alloc: Global, details: &str, text: &mut String) -> Result<(), AllocError>
         ensures { OnOk result (string_bytes text.new ≡ string_bytes text.old
-            ++ spec.conform_object self.now.word.now (listed self.now.trace.now)
+            ++ spec.conform_object self.now.plan.now self.now.word.now (listed self.now.trace.now)
             self.now.departure details.now) }
     {
         self.start_object(text)?;
         add_counts_members(self.trace.entries.as_slice(), text)?;
         self.add_place(text)?;
         text.push_str(details)?;
+        add_unfinished_members(alloc, self.plan, self.word, self.trace, text)?;
         text.push_str("}\n")
     }
 

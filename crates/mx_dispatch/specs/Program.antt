@@ -39,7 +39,8 @@ DoesTask told files (picture_script part only_letters) =
 DoesTask told files (picture_trace part) = Runs (IsTracePictured part) told files
 DoesTask told files (count is_json) = Runs (IsCount is_json) told files
 DoesTask told files (count_script is_json) = Runs (IsOnScript (IsCount is_json)) told files
-DoesTask told files (judge is_json) = Runs (IsJudgement is_json) told files
+DoesTask told files (judge is_ordered is_json) =
+    Runs (IsJudgement is_ordered is_json) told files
 DoesTask told files (conform is_json) = Runs (IsConformance is_json) told files
 DoesTask told files (explain is_script) = Explains told files.plan files.text is_script
 -- these need more than files

@@ -195,7 +195,16 @@ fn do_task<S: Source, O: Output, E: Output>(
                 err,
             )
         }
-        Task::Judge { is_json } => front(alloc, &Judge { is_json }, files, source, out, err),
+        Task::Judge {
+            is_ordered,
+            is_json,
+        } => {
+            let judge = Judge {
+                is_ordered,
+                is_json,
+            };
+            front(alloc, &judge, files, source, out, err)
+        }
         Task::Conform { is_json } => front(alloc, &Conform { is_json }, files, source, out, err),
         Task::Explain { is_script } => {
             explain(alloc, files.plan, files.text, is_script, source, out, err)

@@ -1,3 +1,4 @@
 mod ItemLemmas
 mod LineLemmas
+mod OrderLemmas
 pub mod JudgeLemmas

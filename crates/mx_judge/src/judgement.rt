@@ -5,8 +5,10 @@ ghost use Rattle.mx_judge.specs.Listed.{listed};
 ghost use Rattle.mx_judge.specs.Judged as spec;
 
 use crate::entry_json::add_entries;
+use crate::order::{Order, add_order, add_order_members};
 use crate::reasons::{entered_in, reason_for};
 use crate::trace::Trace;
+use crate::unfinished::{add_unfinished, add_unfinished_members};
 use mx_explorer::{Verdict, VerdictLine};
 use mx_format::json::{add_number, add_word, start_word};
 use mx_plan::Plan;
@@ -31,28 +33,48 @@ pub fn judgement_of(
         → IfOk result (λ text. string_bytes text
         ≡ spec.judgement_text is_json plan.now word.now (listed trace.now) verdict) }
 {
+    judgement_with(alloc, is_json, plan, word, trace, verdict, Order::NotAsked)
+}
+
+/// Returns the same, with whether messages order the sections.
+pub(crate) fn judgement_with(
+    alloc: Global,
+    is_json: bool,
+    plan: &Plan,
+    word: &str,
+    trace: &Trace,
+    verdict: Verdict,
+    order: Order,
+) -> Result<String, AllocError>
+    ensures { spec.IsVerdictOf (listed trace.now).entries verdict
+        → IfOk result (λ text. string_bytes text
+        ≡ spec.judgement_with is_json plan.now word.now (listed trace.now) verdict order) }
+{
     let reason = reason_for(alloc, plan, trace.entries.as_slice(), verdict)?;
     let judged = Judged {
         word,
         trace,
         reason: reason.as_str(),
+        order,
     };
     let mut text = String::new(alloc);
-    judged.add_text(is_json, plan, verdict, &mut text)?;
+    judged.add_text(alloc, is_json, plan, verdict, &mut text)?;
     Ok(text)
 }
 
-/// A trace, and why it is broken.
+/// A trace, why it is broken, and whether messages order its sections.
 #[derive(Clone, Copy)]
 struct Judged<'a> {
     word: &'a str,
     trace: &'a Trace,
     reason: &'a str,
+    order: Order,
 }
 
 impl Judged<'_> {
     fn add_text(
         &self,
+        alloc: Global,
         is_json: bool,
         plan: &Plan,
         verdict: Verdict,
@@ -60,24 +82,32 @@ impl Judged<'_> {
     ) -> Result<(), AllocError>
         ensures { OnOk result (string_bytes text.new ≡ string_bytes text.old
             ++ spec.judged_text self.now.word.now (listed self.now.trace.now) self.now.reason.now
-            is_json plan.now verdict) }
+            is_json plan.now verdict self.now.order) }
     {
         if is_json {
             add_entries(plan, self.trace, text)?;
-            self.add_object(verdict, text)
+            self.add_object(alloc, plan, verdict, text)
         } else {
-            self.add_lines(verdict, text)
+            self.add_lines(alloc, plan, verdict, text)
         }
     }
 
-    fn add_lines(&self, verdict: Verdict, text: &mut String) -> Result<(), AllocError>
+    fn add_lines(
+        &self,
+        alloc: Global,
+        plan: &Plan,
+        verdict: Verdict,
+        text: &mut String,
+    ) -> Result<(), AllocError>
         ensures { OnOk result (string_bytes text.new ≡ string_bytes text.old
             ++ spec.judged_lines self.now.word.now (listed self.now.trace.now)
-            self.now.reason.now verdict) }
+            self.now.reason.now plan.now verdict self.now.order) }
     {
         add_counts(self.trace.entries.as_slice(), text)?;
         text.write(VerdictLine(verdict))?;
-        self.add_reason_lines(verdict, text)
+        self.add_reason_lines(verdict, text)?;
+        add_order(plan, self.word, self.trace, self.order, text)?;
+        add_unfinished(alloc, plan, self.word, self.trace, text)
     }
 
     fn add_reason_lines(&self, verdict: Verdict, text: &mut String) -> Result<(), AllocError>
@@ -95,14 +125,22 @@ impl Judged<'_> {
     }
 
     /// Appends the object of the verdict.
-    fn add_object(&self, verdict: Verdict, text: &mut String) -> Result<(), AllocError>
+    fn add_object(
+        &self,
+        alloc: Global,
+        plan: &Plan,
+        verdict: Verdict,
+        text: &mut String,
+    ) -> Result<(), AllocError>
         ensures { OnOk result (string_bytes text.new ≡ string_bytes text.old
             ++ spec.verdict_object self.now.word.now (listed self.now.trace.now)
-            self.now.reason.now verdict) }
+            self.now.reason.now plan.now verdict self.now.order) }
     {
         start_verdict(verdict, text)?;
         add_counts_members(self.trace.entries.as_slice(), text)?;
         self.add_reason_members(verdict, text)?;
+        add_order_members(plan, self.word, self.trace, self.order, text)?;
+        add_unfinished_members(alloc, plan, self.word, self.trace, text)?;
         text.push_str("}\n")
     }
 
