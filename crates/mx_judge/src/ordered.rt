@@ -1,6 +1,6 @@
 //! Whether messages order the sections of a trace (Lamport 1978).
 
-ghost use Rattle.std.specs.Prelude.{◌≡◌, IfOk, OnOk};
+ghost use Rattle.std.specs.Prelude.{◌≡◌, IfOk, OnOk, find, option_map};
 ghost use Rattle.mx_judge.specs.Listed.{listed};
 ghost use Rattle.mx_judge.specs.Ordered as spec;
 
@@ -158,10 +158,21 @@ impl Knowledge {
 fn first_unknown(leaves: &KnownLeaves, node: NodeId, entered: &EventOfEach) -> Option<NodeEvent>
     ensures { result ≡ spec.first_unknown leaves.now node entered.now }
 {
-    match entered.iter().find(|entry| is_unknown(leaves, node, entry)) {
+    match find_unknown(leaves, node, entered) {
         Some(entry) => *entry,
         None => None,
     }
+}
+
+fn find_unknown<'a>(
+    leaves: &KnownLeaves,
+    node: NodeId,
+    entered: &'a EventOfEach,
+) -> Option<&'a Option<NodeEvent>>
+    ensures { option_map (λ entry. entry.now) result
+        ≡ find (spec.is_unknown leaves.now node) entered.now }
+{
+    entered.iter().find(|entry| is_unknown(leaves, node, entry))
 }
 
 /// Returns whether there is an entry, of another node, which has not left since as far as these
