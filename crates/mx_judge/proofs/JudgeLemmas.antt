@@ -28,15 +28,15 @@ pub reason_here : (p : Fields) (trace : List Entry) (k : ℕ) (e : Entry) (broke
 reason_here p trace k e broken here =
     sym (ap (λ (o : Option Entry). option_map_or (λ (x : Entry). reason_of p (take k trace) broken x.event x.outcome) o []) here)
 
-module _ (j : Bool) (p : Fields) (text : Text) where
+module _ (o j : Bool) (p : Fields) (text : Text) where
   -- a report on the trace that was read
-  pub judged_read : (word : Text) (t : ReadTrace) → trace_at p text ≡ Ok t → word ≡ place_word text → (r : Report) → IsJudged j p word (Ok t) r → IsJudgement j p text r
+  pub judged_read : (word : Text) (t : ReadTrace) → trace_at p text ≡ Ok t → word ≡ place_word text → (r : Report) → IsJudged o j p word (Ok t) r → IsJudgement o j p text r
   judged_read word t read same r h =
-      subst (λ (x : Result ReadTrace TraceFault). IsJudged j p (place_word text) x r) (sym read) (subst (λ (w : Text). IsJudged j p w (Ok t) r) same h)
+      subst (λ (x : Result ReadTrace TraceFault). IsJudged o j p (place_word text) x r) (sym read) (subst (λ (w : Text). IsJudged o j p w (Ok t) r) same h)
 
   -- a report on a text that lists no trace
-  pub judged_fault : (bad : TraceFault) → trace_at p text ≡ Err bad → (r : Report) → IsFaultReport bad r → IsJudgement j p text r
-  judged_fault bad read r h = subst (λ (t : Result ReadTrace TraceFault). IsJudged j p (place_word text) t r) (sym read) h
+  pub judged_fault : (bad : TraceFault) → trace_at p text ≡ Err bad → (r : Report) → IsFaultReport bad r → IsJudgement o j p text r
+  judged_fault bad read r h = subst (λ (t : Result ReadTrace TraceFault). IsJudged o j p (place_word text) t r) (sym read) h
 
 -- the line of a fault, with a message after it
 abbrev pub HasFaultLine : TraceFault → Stop → Type 0

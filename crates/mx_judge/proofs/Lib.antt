@@ -1,4 +1,5 @@
 mod ItemLemmas
 mod LineLemmas
 mod OrderLemmas
+mod UnfinishedLemmas
 pub mod JudgeLemmas

@@ -1,5 +1,5 @@
 -- What `judge` prints.
-use Rattle.std.specs.Prelude.{ℕ, ◌++◌, Bool, MatchBool, List, [], Result, Ok, Err, codes, decimal, length, if◌then◌else◌}
+use Rattle.std.specs.Prelude.{ℕ, ◌==◌, ◌++◌, Bool, MatchBool, List, [], Result, Ok, Err, codes, decimal, length, if◌then◌else◌}
 use Rattle.mx_plan.specs.Text.{Text, line_feed}
 use Rattle.mx_plan.specs.Fields.{Fields}
 use Rattle.mx_trace.specs.declared.outcome.Entry.{Entry}
@@ -13,7 +13,6 @@ use Rattle.mx_format.specs.Members.{number_member, word_member, word_start}
 use Rattle.mx_judge.specs.EntryJson.{sending_json}
 use Rattle.mx_judge.specs.Faults.{IsFaultReport}
 use Rattle.mx_judge.specs.Listed.{ReadTrace, place_of}
-use Rattle.mx_judge.specs.Messages.{SentMessage}
 use Rattle.mx_judge.specs.OrderTexts.{order_lines, order_members, order_of}
 use Rattle.mx_judge.specs.Reasons.{entered_in, reason_for}
 use Rattle.mx_judge.specs.Traces.{place_word, trace_at}
@@ -94,16 +93,17 @@ IsJudgedBy is_json p word t order r =
     (verdict : Verdict) × IsVerdictOf t.entries verdict
     × IsWhole (judgement_with is_json p word t verdict order) (judgement_status verdict order) r
 
--- a fault, if the order is asked of a trace without messages
-abbrev pub IsOrderJudged : Bool → Fields → Text → ReadTrace → List SentMessage → Report → Type 0
-IsOrderJudged is_json p word t [] r =
-    IsReport (ends (has_line (codes "mx: trace: no messages\n"))) r
-IsOrderJudged is_json p word t messages r = IsJudgedBy is_json p word t (order_of t) r
+-- the same with the order; a fault, if the trace has no messages
+abbrev pub IsOrderJudged : Bool → Fields → Text → ReadTrace → Report → Type 0
+IsOrderJudged is_json p word t r =
+    MatchBool (length t.messages == 0)
+    (IsReport (ends (has_line (codes "mx: trace: no messages\n"))) r)
+    (IsJudgedBy is_json p word t (order_of t) r)
 
 -- `is_ordered` asks for the order. Or the line of the fault of a text that lists no trace
 abbrev pub IsJudged : Bool → Bool → Fields → Text → Result ReadTrace TraceFault → Report → Type 0
 IsJudged is_ordered is_json p word (Ok t) r =
-    MatchBool is_ordered (IsOrderJudged is_json p word t t.messages r)
+    MatchBool is_ordered (IsOrderJudged is_json p word t r)
     (IsJudgedBy is_json p word t NotAsked r)
 IsJudged is_ordered is_json p word (Err fault) r = IsFaultReport fault r
 

@@ -69,11 +69,15 @@ module _ (p : Fields) (word : Text) (t : ReadTrace) where
   abbrev pub other_since : NodeEvent → Text
   other_since e = codes ", " ++ since e
 
-  -- the nodes that are in this phase since these events, in a line; none, if there are none
+  -- the nodes that are in this phase since these events, in a line
+  abbrev pub nodes_line : Text → NodeEvent → List NodeEvent → Text
+  nodes_line phase e es =
+      phase ++ codes " at the end: " ++ since e ++ each_text other_since es ++ line_feed
+
+  -- none, if there are no such nodes
   abbrev pub phase_line : Text → List NodeEvent → Text
   phase_line phase [] = []
-  phase_line phase (e ∷ es) =
-      phase ++ codes " at the end: " ++ since e ++ each_text other_since es ++ line_feed
+  phase_line phase (e ∷ es) = nodes_line phase e es
 
   abbrev pub lines_of : Unfinished → Text
   lines_of u =
@@ -92,11 +96,14 @@ module _ (p : Fields) (word : Text) (t : ReadTrace) where
   abbrev pub other_object : NodeEvent → Text
   other_object e = codes "," ++ since_object e
 
-  abbrev pub phase_member : Text → List NodeEvent → Text
-  phase_member phase [] = []
-  phase_member phase (e ∷ es) =
+  abbrev pub nodes_member : Text → NodeEvent → List NodeEvent → Text
+  nodes_member phase e es =
       codes ",\"" ++ phase ++ codes "\":[" ++ since_object e ++ each_text other_object es
       ++ codes "]"
+
+  abbrev pub phase_member : Text → List NodeEvent → Text
+  phase_member phase [] = []
+  phase_member phase (e ∷ es) = nodes_member phase e es
 
   abbrev pub members_of : Unfinished → Text
   members_of u =

@@ -1,8 +1,8 @@
 //! `judge`: the verdict on a trace.
 
-ghost use Rattle.std.specs.Prelude.{◌≡◌, ◌×◌, IfOk, if◌then◌else◌};
+ghost use Rattle.std.specs.Prelude.{◌≡◌, Ok};
 ghost use Rattle.mx_cli.specs.Printing.{Prints, sight};
-ghost use Rattle.mx_judge.specs.Judged.{IsJudgedBy, IsJudgement, judgement_status};
+ghost use Rattle.mx_judge.specs.Judged.{IsJudged, IsJudgedBy, IsJudgement, IsOrderJudged, judgement_status};
 ghost use Rattle.mx_judge.specs.Listed.{listed};
 
 use crate::judgement::judgement_with;
@@ -35,35 +35,63 @@ impl Command for Judge {
         text: &[u8],
         out: &mut O,
     ) -> Result<u8, Stop> {
-        let trace = match trace_in(alloc, plan, text) {
-            Ok(trace) => trace,
-            Err(stop) => return Err(stop),
-        };
-        if !self.is_ordered {
-            return self.report(alloc, plan, place_word(text), &trace, Order::NotAsked, out);
-        }
-        if trace.messages.is_empty() {
-            return Err(stop_with(alloc, "mx: trace: no messages\n"));
-        }
-        match Order::of(alloc, &trace) {
-            Ok(order) => self.report(alloc, plan, place_word(text), &trace, order, out),
-            Err(_) => Err(Stop::Memory),
+        match trace_in(alloc, plan, text) {
+            Ok(trace) => self.judge(alloc, plan, place_word(text), &trace, out),
+            Err(stop) => Err(stop),
         }
     }
 }
 
 impl Judge {
+    fn judge<O: Output>(
+        &self,
+        alloc: Global,
+        plan: &Plan,
+        word: &str,
+        trace: &Trace,
+        out: &mut O,
+    ) -> Result<u8, Stop>
+        ensures prints { Prints (IsJudged self.now.is_ordered self.now.is_json plan.now word.now
+            (Ok (listed trace.now))) (sight O.Output out.old) (sight O.Output out.new) result }
+    {
+        if self.is_ordered {
+            return self.judge_order(alloc, plan, word, trace, out);
+        }
+        self.report(alloc, plan, word, trace, &Order::NotAsked, out)
+    }
+
+    fn judge_order<O: Output>(
+        &self,
+        alloc: Global,
+        plan: &Plan,
+        word: &str,
+        trace: &Trace,
+        out: &mut O,
+    ) -> Result<u8, Stop>
+        ensures prints { Prints
+            (IsOrderJudged self.now.is_json plan.now word.now (listed trace.now))
+            (sight O.Output out.old) (sight O.Output out.new) result }
+    {
+        if trace.messages.is_empty() {
+            return Err(stop_with(alloc, "mx: trace: no messages\n"));
+        }
+        match Order::of(alloc, trace) {
+            Ok(order) => self.report(alloc, plan, word, trace, &order, out),
+            Err(_) => Err(Stop::Memory),
+        }
+    }
+
     fn report<O: Output>(
         &self,
         alloc: Global,
         plan: &Plan,
         word: &str,
         trace: &Trace,
-        order: Order,
+        order: &Order,
         out: &mut O,
     ) -> Result<u8, Stop>
         ensures prints { Prints
-            (IsJudgedBy self.now.is_json plan.now word.now (listed trace.now) order)
+            (IsJudgedBy self.now.is_json plan.now word.now (listed trace.now) order.now)
             (sight O.Output out.old) (sight O.Output out.new) result }
     {
         let verdict = judge(trace.entries.as_slice());
@@ -74,8 +102,8 @@ impl Judge {
     }
 }
 
-fn status_of(verdict: Verdict, order: Order) -> u8
-    ensures { result ≡ judgement_status verdict order }
+fn status_of(verdict: Verdict, order: &Order) -> u8
+    ensures { result ≡ judgement_status verdict order.now }
 {
     match order {
         Order::CouldOverlap(_) => 4,

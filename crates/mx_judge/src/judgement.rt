@@ -33,7 +33,7 @@ pub fn judgement_of(
         → IfOk result (λ text. string_bytes text
         ≡ spec.judgement_text is_json plan.now word.now (listed trace.now) verdict) }
 {
-    judgement_with(alloc, is_json, plan, word, trace, verdict, Order::NotAsked)
+    judgement_with(alloc, is_json, plan, word, trace, verdict, &Order::NotAsked)
 }
 
 /// Returns the same, with whether messages order the sections.
@@ -44,11 +44,11 @@ pub(crate) fn judgement_with(
     word: &str,
     trace: &Trace,
     verdict: Verdict,
-    order: Order,
+    order: &Order,
 ) -> Result<String, AllocError>
     ensures { spec.IsVerdictOf (listed trace.now).entries verdict
         → IfOk result (λ text. string_bytes text
-        ≡ spec.judgement_with is_json plan.now word.now (listed trace.now) verdict order) }
+        ≡ spec.judgement_with is_json plan.now word.now (listed trace.now) verdict order.now) }
 {
     let reason = reason_for(alloc, plan, trace.entries.as_slice(), verdict)?;
     let judged = Judged {
@@ -68,7 +68,7 @@ struct Judged<'a> {
     word: &'a str,
     trace: &'a Trace,
     reason: &'a str,
-    order: Order,
+    order: &'a Order,
 }
 
 impl Judged<'_> {
@@ -82,7 +82,7 @@ impl Judged<'_> {
     ) -> Result<(), AllocError>
         ensures { OnOk result (string_bytes text.new ≡ string_bytes text.old
             ++ spec.judged_text self.now.word.now (listed self.now.trace.now) self.now.reason.now
-            is_json plan.now verdict self.now.order) }
+            is_json plan.now verdict self.now.order.now) }
     {
         if is_json {
             add_entries(plan, self.trace, text)?;
@@ -101,7 +101,7 @@ impl Judged<'_> {
     ) -> Result<(), AllocError>
         ensures { OnOk result (string_bytes text.new ≡ string_bytes text.old
             ++ spec.judged_lines self.now.word.now (listed self.now.trace.now)
-            self.now.reason.now plan.now verdict self.now.order) }
+            self.now.reason.now plan.now verdict self.now.order.now) }
     {
         add_counts(self.trace.entries.as_slice(), text)?;
         text.write(VerdictLine(verdict))?;
@@ -134,7 +134,7 @@ impl Judged<'_> {
     ) -> Result<(), AllocError>
         ensures { OnOk result (string_bytes text.new ≡ string_bytes text.old
             ++ spec.verdict_object self.now.word.now (listed self.now.trace.now)
-            self.now.reason.now plan.now verdict self.now.order) }
+            self.now.reason.now plan.now verdict self.now.order.now) }
     {
         start_verdict(verdict, text)?;
         add_counts_members(self.trace.entries.as_slice(), text)?;

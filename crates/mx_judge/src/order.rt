@@ -37,11 +37,11 @@ pub(crate) fn add_order(
     plan: &Plan,
     word: &str,
     trace: &Trace,
-    order: Order,
+    order: &Order,
     text: &mut String,
 ) -> Result<(), AllocError>
     ensures { OnOk result (string_bytes text.new ≡ string_bytes text.old
-        ++ spec.order_lines plan.now word.now (listed trace.now) order) }
+        ++ spec.order_lines plan.now word.now (listed trace.now) order.now) }
 {
     match order {
         Order::NotAsked => Ok(()),
@@ -49,7 +49,7 @@ pub(crate) fn add_order(
         Order::CouldOverlap(unordered) => {
             let (index, place) = (unordered.entry.index, trace.place_of(unordered.entry.index));
             write!(text, "could overlap at {index}\n{word} {place}: ")?;
-            add_unordered(plan, word, trace, &unordered, text)?;
+            add_unordered(plan, word, trace, unordered, text)?;
             text.push_str("\n")
         }
     }
@@ -60,11 +60,11 @@ pub(crate) fn add_order_members(
     plan: &Plan,
     word: &str,
     trace: &Trace,
-    order: Order,
+    order: &Order,
     text: &mut String,
 ) -> Result<(), AllocError>
     ensures { OnOk result (string_bytes text.new ≡ string_bytes text.old
-        ++ spec.order_members plan.now word.now (listed trace.now) order) }
+        ++ spec.order_members plan.now word.now (listed trace.now) order.now) }
 {
     match order {
         Order::NotAsked => Ok(()),
@@ -75,7 +75,7 @@ pub(crate) fn add_order_members(
             write!(text, ",\"unordered\":{{\"index\":{index}")?;
             add_number(word, place, text)?;
             text.push_str(",\"reason\":\"")?;
-            add_unordered(plan, word, trace, &unordered, text)?;
+            add_unordered(plan, word, trace, unordered, text)?;
             text.push_str("\"}")
         }
     }
@@ -92,10 +92,8 @@ fn add_unordered(
     ensures { OnOk result (string_bytes text.new ≡ string_bytes text.old
         ++ spec.unordered_text plan.now word.now (listed trace.now) unordered.now) }
 {
-    let (name, other) = (
-        name_of(plan, unordered.entry.node),
-        name_of(plan, unordered.other.node),
-    );
+    let name = name_of(plan, unordered.entry.node);
+    let other = name_of(plan, unordered.other.node);
     let place = trace.place_of(unordered.other.index);
     write!(
         text,

@@ -141,9 +141,23 @@ impl Places<'_> {
             ++ spec.phase_line self.now.plan.now self.now.word.now (listed self.now.trace.now)
             phase.now events.now) }
     {
-        let Some((first, rest)) = events.split_first() else {
-            return Ok(());
-        };
+        match events.split_first() {
+            Some((first, rest)) => self.add_nodes(phase, first, rest, text),
+            None => Ok(()),
+        }
+    }
+
+    fn add_nodes(
+        &self,
+        phase: &str,
+        first: &NodeEvent,
+        rest: &[NodeEvent],
+        text: &mut String,
+    ) -> Result<(), AllocError>
+        ensures { OnOk result (string_bytes text.new ≡ string_bytes text.old
+            ++ spec.nodes_line self.now.plan.now self.now.word.now (listed self.now.trace.now)
+            phase.now first.now rest.now) }
+    {
         write!(text, "{phase} at the end: ")?;
         self.add_since(first, text)?;
         self.add_others(rest, text)?;
@@ -182,9 +196,23 @@ impl Places<'_> {
             ++ spec.phase_member self.now.plan.now self.now.word.now (listed self.now.trace.now)
             phase.now events.now) }
     {
-        let Some((first, rest)) = events.split_first() else {
-            return Ok(());
-        };
+        match events.split_first() {
+            Some((first, rest)) => self.add_objects(phase, first, rest, text),
+            None => Ok(()),
+        }
+    }
+
+    fn add_objects(
+        &self,
+        phase: &str,
+        first: &NodeEvent,
+        rest: &[NodeEvent],
+        text: &mut String,
+    ) -> Result<(), AllocError>
+        ensures { OnOk result (string_bytes text.new ≡ string_bytes text.old
+            ++ spec.nodes_member self.now.plan.now self.now.word.now (listed self.now.trace.now)
+            phase.now first.now rest.now) }
+    {
         write!(text, ",\"{phase}\":[")?;
         self.add_object(first, text)?;
         self.add_other_objects(rest, text)?;
