@@ -21,7 +21,7 @@ _mx() {
             play) words="--help" ;;
             picture) words="--from --to --node --letters --script --trace --help" ;;
             count) words="--json --script --help" ;;
-            judge) words="--json --help" ;;
+            judge) words="--ordered --json --help" ;;
             conform) words="--json --help" ;;
             explain) words="--script --help" ;;
             help) words="check replay explore live draw script play picture count judge conform explain" ;;

@@ -46,13 +46,25 @@ pub(crate) fn add_order(
     match order {
         Order::NotAsked => Ok(()),
         Order::Ordered => text.push_str("ordered\n"),
-        Order::CouldOverlap(unordered) => {
-            let (index, place) = (unordered.entry.index, trace.place_of(unordered.entry.index));
-            write!(text, "could overlap at {index}\n{word} {place}: ")?;
-            add_unordered(plan, word, trace, unordered, text)?;
-            text.push_str("\n")
-        }
+        Order::CouldOverlap(unordered) => add_overlap(plan, word, trace, unordered, text),
     }
+}
+
+fn add_overlap(
+    plan: &Plan,
+    word: &str,
+    trace: &Trace,
+    unordered: &Unordered,
+    text: &mut String,
+) -> Result<(), AllocError>
+    ensures { OnOk result (string_bytes text.new ≡ string_bytes text.old
+        ++ spec.overlap_lines plan.now word.now (listed trace.now) unordered.now) }
+{
+    let index = unordered.entry.index;
+    let place = trace.place_of(index);
+    write!(text, "could overlap at {index}\n{word} {place}: ")?;
+    add_unordered(plan, word, trace, unordered, text)?;
+    text.push_str("\n")
 }
 
 /// Appends the members of an order.
@@ -69,16 +81,29 @@ pub(crate) fn add_order_members(
     match order {
         Order::NotAsked => Ok(()),
         Order::Ordered => text.push_str(",\"order\":\"ordered\""),
-        Order::CouldOverlap(unordered) => {
-            let (index, place) = (unordered.entry.index, trace.place_of(unordered.entry.index));
-            text.push_str(",\"order\":\"could overlap\"")?;
-            write!(text, ",\"unordered\":{{\"index\":{index}")?;
-            add_number(word, place, text)?;
-            text.push_str(",\"reason\":\"")?;
-            add_unordered(plan, word, trace, unordered, text)?;
-            text.push_str("\"}")
-        }
+        Order::CouldOverlap(unordered) => add_overlap_members(plan, word, trace, unordered, text),
     }
+}
+
+fn add_overlap_members(
+    plan: &Plan,
+    word: &str,
+    trace: &Trace,
+    unordered: &Unordered,
+    text: &mut String,
+) -> Result<(), AllocError>
+    ensures { OnOk result (string_bytes text.new ≡ string_bytes text.old
+        ++ spec.overlap_members plan.now word.now (listed trace.now) unordered.now) }
+{
+    let index = unordered.entry.index;
+    write!(
+        text,
+        ",\"order\":\"could overlap\",\"unordered\":{{\"index\":{index}"
+    )?;
+    add_number(word, trace.place_of(index), text)?;
+    text.push_str(",\"reason\":\"")?;
+    add_unordered(plan, word, trace, unordered, text)?;
+    text.push_str("\"}")
 }
 
 /// Appends what the node of an entry does not know.
@@ -95,8 +120,6 @@ fn add_unordered(
     let name = name_of(plan, unordered.entry.node);
     let other = name_of(plan, unordered.other.node);
     let place = trace.place_of(unordered.other.index);
-    write!(
-        text,
-        "enter {name}, which does not know that {other} left the section of {word} {place}"
-    )
+    write!(text, "enter {name}, which does not know that ")?;
+    write!(text, "{other} left the section of {word} {place}")
 }
