@@ -22,6 +22,9 @@ pub both_written : {T E : Type 0} (t t1 t2 a b : Text) (r : Result T E) → t1 �
 both_written t t1 t2 a b (Ok u) first second = second ∙ ap (λ (x : Text). x ++ b) first ∙ append_assoc t a b
 both_written t t1 t2 a b (Err e) first second = tt
 
+pub then_written : (t t1 t2 a b : Text) → t1 ≡ t ++ a → t2 ≡ t1 ++ b → t2 ≡ t ++ (a ++ b)
+then_written t t1 t2 a b first second = second ∙ ap (λ (x : Text). x ++ b) first ∙ append_assoc t a b
+
 -- the reason of an entry that is there, and of one past the end
 pub reason_here : (p : Fields) (trace : List Entry) (k : ℕ) (e : Entry) (broken : Clause) → slice_get trace k ≡ Some e
     → reason_of p (take k trace) broken e.event e.outcome ≡ reason_at p trace k broken
