@@ -1,4 +1,4 @@
-use Rattle.std.proofs.Common.{◌≡◌, ◌++◌, ℕ, OnOk, append_assoc, codes, decimal, string_bytes, subst}
+use Rattle.std.proofs.Common.{◌≡◌, ◌++◌, ℕ, OnOk, append_assoc, codes, decimal, rules, string_bytes, subst}
 use Rattle.mx_plan.specs.Text.{line_feed}
 use Rattle.mx_judge.specs.Listed.{listed, place_of}
 use Rattle.mx_judge.specs.OrderTexts.{unordered_text}
@@ -17,4 +17,5 @@ returns c =
     let text = unordered_text c.args.plan.now word t u in
     let first = subst (λ (place : ℕ). here ≡ old ++ head place) c.place_of-place.ensures (simp append_assoc c.in_ok-write.ensures.bytes) in
     let both = then_written old here told (head (place_of t u.entry.index)) text first c.in_ok-add_unordered.ensures in
-    both_written old told (string_bytes c.push_str.new.self) (head (place_of t u.entry.index) ++ text) line_feed c.push_str.result both c.push_str.ensures.bytes
+    let last : OnOk c.push_str.result (string_bytes c.push_str.new.self ≡ told ++ line_feed) = search rules in
+    both_written old told (string_bytes c.push_str.new.self) (head (place_of t u.entry.index) ++ text) line_feed c.push_str.result both last
